@@ -1,0 +1,41 @@
+//! How the program ends.
+
+ghost use Rattle.std.specs.Prelude.{◌≡◌};
+ghost use Rattle.sparc8.specs.Ends.{status_of, line_of};
+
+/// How the program ends.
+#[derive(Debug, Drop, Clone, Copy, PartialEq, Eq)]
+pub enum End {
+    /// The script ended, or `quit` was read.
+    Done,
+    /// The help was asked for.
+    Help,
+    /// The words of the command line are wrong.
+    Usage,
+    /// A read of the script failed.
+    ReadFault,
+    /// A write of an answer failed.
+    WriteFault,
+    /// The script has too many lines or bytes.
+    TooMany,
+    /// The script could not be opened.
+    NoScript,
+    /// Memory could not be had.
+    Memory,
+}
+
+/// The exit status of an end, and the line that goes to standard error, empty if there is none.
+pub fn ending(end: End) -> (u8, &'static str)
+    ensures status { result.0 ≡ status_of end }
+    ensures line { result.1.now ≡ line_of end }
+{
+    match end {
+        End::Done | End::Help => (0, ""),
+        End::Usage => (2, ""),
+        End::ReadFault => (3, "sparc8: read fault"),
+        End::WriteFault => (3, "sparc8: write fault"),
+        End::TooMany => (3, "sparc8: too many commands"),
+        End::NoScript => (3, "sparc8: cannot open script"),
+        End::Memory => (3, "sparc8: out of memory"),
+    }
+}

@@ -1,0 +1,27 @@
+-- The refusals.
+use Rattle.std.specs.Prelude.{ℕ, List, Option, option_map}
+use Rattle.sv8_source.specs.declared.fault.SourceFault.{SourceFault}
+use Rattle.sv8_source.specs.declared.fault.SourceFault.TheVariants as source
+use Rattle.sv8_source.specs.Text.{edit_fault}
+use Rattle.sv8_bench.specs.declared.fault.BenchFault.{BenchFault}
+use Rattle.sv8_bench.specs.declared.fault.BenchFault.TheVariants.{OutOfMemory, NoSuchLine, TooManyLines, LineTooLong, NotAscii, Syntax, UnknownName, DuplicateLabel, OutOfRange, BadAlignment, OrgBackwards, ImageTooLarge}
+use Rattle.sv8_bench.specs.Kept.{Kept}
+
+-- the refusal of the source, as the workbench's own
+abbrev pub of_source : SourceFault → BenchFault
+of_source source.OutOfMemory = OutOfMemory
+of_source source.NoSuchLine = NoSuchLine
+of_source source.TooManyLines = TooManyLines
+of_source (source.LineTooLong line) = LineTooLong line
+of_source (source.NotAscii line) = NotAscii line
+of_source (source.Syntax line) = Syntax line
+of_source (source.UnknownName line) = UnknownName line
+of_source (source.DuplicateLabel line) = DuplicateLabel line
+of_source (source.OutOfRange line) = OutOfRange line
+of_source (source.BadAlignment line) = BadAlignment line
+of_source (source.OrgBackwards line) = OrgBackwards line
+of_source (source.ImageTooLarge line) = ImageTooLarge line
+
+-- why the lines first to last cannot be replaced by these, or none
+abbrev pub edit_refusal : ℕ → ℕ → List (List ℕ) → Kept → Option BenchFault
+edit_refusal first last lines k = option_map of_source (edit_fault first last lines k.source)

@@ -1,0 +1,17 @@
+-- What a workbench keeps, and what an edit makes of it.
+use Rattle.std.specs.Prelude.{ℕ, ◌*◌, List, []}
+use Rattle.sv8_source.specs.Text.{Text, replaced}
+
+pub record Kept : Type 0 where
+  -- the machine's register windows and pages of RAM, which no edit changes
+  pub windows : ℕ
+  pub pages : ℕ
+  pub source : Text
+
+-- a new workbench over a machine with so many windows and pages
+abbrev pub empty : ℕ → ℕ → Kept
+empty windows pages = record { windows = windows; pages = pages; source = record { limit = 4096 * pages; lines = [] } }
+
+-- lines first to last are replaced by these
+abbrev pub edited : ℕ → ℕ → List (List ℕ) → Kept → Kept
+edited first last lines k = record k { source = replaced first last lines k.source }

@@ -1,0 +1,37 @@
+-- What is shown of a state.
+use Rattle.std.specs.Prelude.{ℕ, List, length, map}
+use Rattle.std.specs.List.{range_with_len}
+use Rattle.sv8_regs.specs.Ring.{Registers, read}
+use Rattle.sv8_regs.specs.Control.{packed_psr}
+use Rattle.sv8_cpu.specs.Word.{levels_word}
+use Rattle.sv8_cpu.specs.State.{State}
+use Rattle.sv8_cpu.specs.Step.{state_at}
+use Rattle.sv8_bench.specs.Kept.{Kept}
+use Rattle.sv8_bench.specs.declared.shown.Shown.{Shown}
+
+-- r[0] to r[31] of the current window
+unfoldable pub shown_registers : ℕ → Registers → List ℕ
+shown_registers windows r = map (read windows r) (range_with_len 0 32)
+
+unfoldable pub shown_state : ℕ → State → Shown
+shown_state windows s =
+    let p = s.inner.processor in
+    record {
+      running = p.running;
+      pc = p.pc;
+      npc = p.npc;
+      annul = p.annul;
+      psr = packed_psr p.registers.psr p.registers.cwp;
+      wim = p.registers.wim;
+      tbr = p.registers.tbr;
+      y = p.registers.y;
+      registers = shown_registers windows p.registers;
+      mmu = s.inner.mmu;
+      timer = s.inner.timer;
+      pending = levels_word s.outside.pending;
+      waiting = length s.outside.waiting;
+    }
+
+-- what is shown of a workbench's machine at a step
+abbrev pub shown_at : Kept → ℕ → Shown
+shown_at k n = shown_state k.windows (state_at k.windows k.pages k.source n)

@@ -1,0 +1,121 @@
+//! The workbench.
+
+ghost use Rattle.std.specs.Prelude.{◌≡◌, ℕ, ◌+◌, ◌*◌, ◌<◌, ◌≤◌, ◌⊎◌, [], length, None, Some, IfOk, IfErr, OnOk, OnErr, option_map};
+ghost use Rattle.sv8_source.specs.Text.{texts};
+ghost use Rattle.sv8_source.specs.Listing.{listing, numbered};
+ghost use Rattle.sv8_source.specs.View.{shown_of};
+ghost use Rattle.sv8_cpu.specs.State.{reset_state};
+ghost use Rattle.sv8_cpu.specs.Step.{steps, state_at};
+ghost use Rattle.sv8_bench.specs.Faults.{edit_refusal};
+ghost use Rattle.sv8_bench.specs.Kept.{empty, edited};
+ghost use Rattle.sv8_bench.specs.Shown.{shown_at};
+
+use crate::fault::BenchFault;
+use crate::shown::Shown;
+use std::alloc::{AllocError, Global};
+use std::marker::Model;
+use sv8_cpu::Machine;
+use sv8_source::{Listed, Source};
+
+/// The last step that is shown.
+pub const LAST_STEP: u32 = 1_000_000;
+
+/// A workbench over a machine with `NW` register windows (2 to 32), `PAGES` pages of 4,096 bytes of RAM
+/// (1 to 65,536), and a checkpoint every `K` steps (1 to 1,000,000).
+///
+/// It keeps the source alone, and each query replays the machine from reset.
+#[derive(Drop)]
+pub struct Bench<const NW: usize, const PAGES: usize, const K: u32> {
+    alloc: Global,
+    source: Source,
+}
+
+impl<const NW: usize, const PAGES: usize, const K: u32> Model for Bench<NW, PAGES, K> {
+    ghost use Rattle.std.specs.Prelude.{◌≡◌, ◌≤◌, ◌*◌};
+    ghost use Rattle.sv8_bench.specs.Kept.{Kept};
+
+    ghost Value = { Kept };
+
+    ghost view = { λ b. record { windows = NW; pages = PAGES; source = b.source } };
+
+    ghost invariant = { λ b. (2 ≤ NW) × (NW ≤ 32) × (PAGES ≤ 65536) × (b.source.limit ≡ 4096 * PAGES) };
+}
+
+impl<const NW: usize, const PAGES: usize, const K: u32> Bench<NW, PAGES, K> {
+    /// A workbench with an empty source.
+    ///
+    /// # Errors
+    ///
+    /// Where memory for it cannot be had.
+    pub fn new(alloc: Global) -> Result<Self, AllocError>
+        requires some_windows { 2 ≤ NW }
+        requires few_windows { NW ≤ 32 }
+        requires few_pages { PAGES ≤ 65536 }
+        ensures { IfOk result (λ b. b ≡ empty NW PAGES) }
+    {
+        let source = Source::new(alloc, 4096 * PAGES as u32);
+        Ok(Bench { alloc, source })
+    }
+
+    /// Replaces lines `first` to `last`, counted from 1, by these lines; `last` = `first` - 1 inserts them before `first`.
+    ///
+    /// # Errors
+    ///
+    /// The refusal of the edited source, or of the range of lines, or `OutOfMemory`; the workbench is as it was.
+    pub fn replace_lines(&mut self, first: u32, last: u32, lines: &[Vec<u8>]) -> Result<(), BenchFault>
+        ensures accepted { OnOk result (edit_refusal first last (texts lines.now) self.old ≡ None) }
+        ensures edited { OnOk result (self.new ≡ edited first last (texts lines.now) self.old) }
+        ensures refused { IfErr result (λ e. (e ≡ BenchFault.OutOfMemory) ⊎ (edit_refusal first last (texts lines.now) self.old ≡ Some e)) }
+        ensures unchanged { OnErr result (self.new ≡ self.old) }
+    {
+        let plan = self.source.plan(self.alloc, first, last, lines)?;
+        self.source.commit(plan);
+        Ok(())
+    }
+
+    /// The number of lines of the source.
+    pub fn line_count(&self) -> usize
+        ensures count { result ≡ length self.now.source.lines }
+        ensures listed { result ≡ length (listing self.now.source) }
+        ensures few { result ≤ 65536 }
+    {
+        self.source.line_count()
+    }
+
+    /// A line of the listing by its number, from 1 on.
+    pub fn listing(&self, number: usize) -> Option<Listed<'_>>
+        ensures { option_map shown_of result ≡ numbered (listing self.now.source) number }
+    {
+        self.source.line(number)
+    }
+
+    /// The machine at a step, which is the machine after so many steps from reset.
+    ///
+    /// # Errors
+    ///
+    /// `StepTooLarge` for a step above 1,000,000, else `OutOfMemory`.
+    pub fn regs_at(&self, step: u32) -> Result<Shown, BenchFault>
+        ensures shown { IfOk result (λ s. s ≡ shown_at self.now step) }
+        ensures within { OnOk result (step ≤ 1000000) }
+        ensures refused { IfErr result (λ e. ((e ≡ BenchFault.StepTooLarge) × (1000000 < step)) ⊎ ((e ≡ BenchFault.OutOfMemory) × (step ≤ 1000000))) }
+    {
+        if LAST_STEP < step {
+            return Err(BenchFault::StepTooLarge);
+        }
+        let _source = &self.source;
+        let machine = self.machine_at(step)?;
+        Ok(Shown::of(&machine))
+    }
+
+    /// The machine at a step.
+    #[tactic(auto, unfolding(sv8_cpu::specs::Step::steps))]
+    fn machine_at(&self, step: u32) -> Result<Machine<NW, PAGES>, AllocError>
+        ensures { IfOk result (λ m. m ≡ state_at NW PAGES self.now.source step) }
+    {
+        let mut machine = Machine::reset(self.alloc, &self.source)?;
+        for _ in 0..step {
+            machine = machine.step()?;
+        }
+        Ok(machine)
+    }
+}

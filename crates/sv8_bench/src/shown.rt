@@ -1,0 +1,69 @@
+//! The state of the machine as it is shown.
+
+ghost use Rattle.std.specs.Prelude.{◌≡◌, ◌<◌, ◌≤◌, ℕ, List};
+ghost use Rattle.sv8_regs.specs.Ring.{read};
+ghost use Rattle.sv8_bench.specs.Shown.{shown_registers, shown_state};
+
+use sv8_cpu::{Machine, MmuRegisters, Timer};
+use sv8_regs::Regs;
+
+/// The machine at a step, as a query shows it: each register of chapter 4 as a word, and the devices.
+#[derive(Drop, Clone, Copy)]
+pub struct Shown {
+    /// Whether the machine runs, and is not in error mode.
+    pub running: bool,
+    pub pc: u32,
+    pub npc: u32,
+    /// Whether the instruction at PC is left out.
+    pub annul: bool,
+    pub psr: u32,
+    pub wim: u32,
+    pub tbr: u32,
+    pub y: u32,
+    /// r[0] to r[31] of the current window.
+    pub registers: [u32; 32],
+    pub mmu: MmuRegisters,
+    pub timer: Timer,
+    /// The pending interrupt levels, bit l for level l.
+    pub pending: u32,
+    /// How many bytes wait at the console.
+    pub waiting: u32,
+}
+
+/// The registers of the current window.
+fn window_of<const NW: usize>(registers: &Regs<NW>) -> [u32; 32]
+    requires { NW ≤ 32 }
+    ensures { result ≡ shown_registers NW registers.now }
+{
+    let mut shown = [0; 32];
+    for number in 0..32u32 {
+        shown[number as usize] = registers.get(number);
+    }
+    shown
+}
+
+impl Shown {
+    /// What is shown of a machine.
+    #[tactic(auto, unfolding(crate::specs::Shown::shown_state))]
+    pub(crate) fn of<const NW: usize, const PAGES: usize>(machine: &Machine<NW, PAGES>) -> Shown
+        requires { NW ≤ 32 }
+        ensures { result ≡ shown_state NW machine.now }
+    {
+        let registers = machine.registers();
+        Shown {
+            running: machine.is_running(),
+            pc: machine.pc(),
+            npc: machine.npc(),
+            annul: machine.annul(),
+            psr: registers.psr_word(),
+            wim: registers.wim(),
+            tbr: registers.tbr(),
+            y: registers.y(),
+            registers: window_of(registers),
+            mmu: machine.mmu(),
+            timer: machine.timer(),
+            pending: machine.pending(),
+            waiting: machine.waiting_count(),
+        }
+    }
+}

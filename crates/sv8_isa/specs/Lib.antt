@@ -1,0 +1,7 @@
+pub mod Field
+pub mod Operands
+pub mod Registers
+pub mod Table
+pub mod Encoding
+pub mod Unencodable
+pub mod Laws

@@ -1,0 +1,284 @@
+//! From words to instructions, and back.
+
+ghost use Rattle.std.specs.Prelude.{◌≡◌, IfSome};
+ghost use Rattle.sv8_isa.specs.Encoding.{encoding};
+ghost use Rattle.sv8_isa.specs.Registers.{HasRegisters};
+ghost use Rattle.sv8_isa.specs.Table.{meaning};
+
+use crate::instr::{ArithOp, Instr, MemoryOp, ShiftOp, StateRegister, TaggedOp};
+use crate::word::{
+    alternate_source, bits, branch_field, condition, condition_code, count, format_2, format_3,
+    format_call, natural_source, operand, register, sign_extend, signed_bits, source_bits,
+    trap_number, unsigned_bits,
+};
+
+/// The opcodes of every instruction, from Appendix F of the manual: `decode` and `encode` both
+/// expand from this list.
+///
+/// The entries of a group have the same fields, and a number behind a name is its op2 or op3. An
+/// instruction with the fields of a group that is here needs one entry more in that group.
+macro_rules! opcodes {
+    ($then:ident!($($with:tt)*)) => {
+        $then! {
+            [$($with)*]
+
+            // Op 1 is CALL alone: the other bits are its displacement (B.24).
+            call 1
+
+            // Op 0, with op2: each has fields of its own (B.31, B.21, B.9).
+            format_2 { Unimp 0, Bicc 2, Sethi 4 }
+            // FBfcc and CBccc, whose word is kept whole (B.22, B.23).
+            format_2_whole { Fp 6, Cp 7 }
+
+            // Op 2, with op3: rd, rs1 and operand. The second number is op3 of the form that also
+            // sets the condition codes (B.11, B.13, B.15, B.18, B.19).
+            arith {
+                Add 0x00 0x10, And 0x01 0x11, Or 0x02 0x12, Xor 0x03 0x13,
+                Sub 0x04 0x14, Andn 0x05 0x15, Orn 0x06 0x16, Xnor 0x07 0x17,
+                Addx 0x08 0x18, Umul 0x0a 0x1a, Smul 0x0b 0x1b, Subx 0x0c 0x1c,
+                Udiv 0x0e 0x1e, Sdiv 0x0f 0x1f
+            }
+            // rd, rs1 and operand (B.14, B.16; B.17, B.25, B.20).
+            tagged { TaddCc 0x20, TsubCc 0x21, TaddCcTv 0x22, TsubCcTv 0x23 }
+            three_fields { Mulscc 0x24, Jmpl 0x38, Save 0x3c, Restore 0x3d }
+            // rs1 and operand; rd is reserved (B.26, B.32).
+            two_fields { Rett 0x39, Flush 0x3b }
+            // rd, rs1 and a count below 32 (B.12).
+            shift { Sll 0x25, Srl 0x26, Sra 0x27 }
+            // cond, rs1 and a trap number below 128 (B.27).
+            trap { Ticc 0x3a }
+            // RDY names rd, and STBAR nothing. They share op3, and rs1, the second number, tells
+            // them apart; any other rs1 is illegal (B.28, B.30).
+            read_y { ReadState 0x28 0, Stbar 0x28 15 }
+            // rd; the rest is reserved (B.28).
+            read { Psr 0x29, Wim 0x2a, Tbr 0x2b }
+            // WRY names rs1 and operand. Any rd but the second number is illegal (B.29).
+            write_y { WriteState 0x30 0 }
+            // rs1 and operand; rd is reserved (B.29).
+            write { Psr 0x31, Wim 0x32, Tbr 0x33 }
+            // FPop and CPop, whose word is kept whole (B.33, B.34).
+            whole { Fp 0x34, Fp 0x35, Cp 0x36, Cp 0x37 }
+
+            // Op 3, with op3: rd, rs1 and operand. The second number is op3 of the alternate space
+            // form, with rd, rs1, rs2 and asi, and i = 0 (B.1, B.4, B.7, B.8).
+            memory {
+                Ld 0x00 0x10, Ldub 0x01 0x11, Lduh 0x02 0x12, Ldd 0x03 0x13,
+                St 0x04 0x14, Stb 0x05 0x15, Sth 0x06 0x16, Std 0x07 0x17,
+                Ldsb 0x09 0x19, Ldsh 0x0a 0x1a, Ldstub 0x0d 0x1d, Swap 0x0f 0x1f
+            }
+            // Loads and stores of the other units, whose word is kept whole (B.2, B.3, B.5, B.6).
+            memory_whole {
+                Fp 0x20, Fp 0x21, Fp 0x23, Fp 0x24, Fp 0x25, Fp 0x26, Fp 0x27,
+                Cp 0x30, Cp 0x31, Cp 0x33, Cp 0x34, Cp 0x35, Cp 0x36, Cp 0x37
+            }
+        }
+    };
+}
+
+/// A `match` on a word, from the list.
+macro_rules! decode_rows {
+    (
+        [$word:ident]
+        call $call:literal
+        format_2 { Unimp $unimp:literal, Bicc $bicc:literal, Sethi $sethi:literal }
+        format_2_whole { $($near:ident $near_code:literal),* }
+        arith { $($arith:ident $plain:literal $cc:literal),* }
+        tagged { $($tagged:ident $tagged_code:literal),* }
+        three_fields { $($three:ident $three_code:literal),* }
+        two_fields { $($two:ident $two_code:literal),* }
+        shift { $($shift:ident $shift_code:literal),* }
+        trap { Ticc $ticc:literal }
+        read_y { ReadState $rdy:literal $rdy_rs1:literal, Stbar $stbar:literal $stbar_rs1:literal }
+        read { $($from:ident $read_code:literal),* }
+        write_y { WriteState $wry:literal $wry_rd:literal }
+        write { $($to:ident $write_code:literal),* }
+        whole { $($whole:ident $whole_code:literal),* }
+        memory { $($memory:ident $normal:literal $alternate:literal),* }
+        memory_whole { $($far:ident $far_code:literal),* }
+    ) => {{
+        let rd = register($word, 25);
+        let rs1 = register($word, 14);
+        let operand = operand($word);
+        let immediate = bits($word, 13, 13);
+        match bits($word, 31, 30) {
+            0 => match bits($word, 24, 22) {
+                $unimp => Instr::Unimp(bits($word, 21, 0)),
+                $bicc => Instr::Bicc {
+                    cond: condition($word),
+                    annul: bits($word, 29, 29) == 1,
+                    disp22: sign_extend(bits($word, 21, 0), 22),
+                },
+                $sethi => Instr::Sethi { imm22: bits($word, 21, 0), rd },
+                $($near_code => Instr::$near($word),)*
+                _ => Instr::Illegal,
+            },
+            $call => Instr::Call { disp30: sign_extend(bits($word, 29, 0), 30) },
+            2 => match bits($word, 24, 19) {
+                $(
+                    $plain => Instr::Arith { op: ArithOp::$arith, cc: false, rd, rs1, operand },
+                    $cc => Instr::Arith { op: ArithOp::$arith, cc: true, rd, rs1, operand },
+                )*
+                $($tagged_code => Instr::Tagged { op: TaggedOp::$tagged, rd, rs1, operand },)*
+                $($three_code => Instr::$three { rd, rs1, operand },)*
+                $($two_code => Instr::$two { rs1, operand },)*
+                $($shift_code => Instr::Shift { op: ShiftOp::$shift, rd, rs1, count: count($word) },)*
+                $ticc => Instr::Ticc { cond: condition($word), rs1, operand: trap_number($word) },
+                $rdy => match (rs1, rd) {
+                    ($rdy_rs1, _) => Instr::ReadState { register: StateRegister::Y, rd },
+                    ($stbar_rs1, 0) => Instr::Stbar,
+                    _ => Instr::Illegal,
+                },
+                $($read_code => Instr::ReadState { register: StateRegister::$from, rd },)*
+                $wry if rd == $wry_rd => {
+                    Instr::WriteState { register: StateRegister::Y, rs1, operand }
+                }
+                $wry => Instr::Illegal,
+                $(
+                    $write_code => {
+                        Instr::WriteState { register: StateRegister::$to, rs1, operand }
+                    }
+                )*
+                $($whole_code => Instr::$whole($word),)*
+                _ => Instr::Illegal,
+            },
+            _ => match bits($word, 24, 19) {
+                $(
+                    $normal => Instr::Memory { op: MemoryOp::$memory, rd, rs1, operand },
+                    $alternate if immediate == 0 => Instr::Alternate {
+                        op: MemoryOp::$memory,
+                        rd,
+                        rs1,
+                        rs2: register($word, 0),
+                        asi: bits($word, 12, 5) as u8,
+                    },
+                    $alternate => Instr::AltImm,
+                )*
+                $($far_code => Instr::$far($word),)*
+                _ => Instr::Illegal,
+            },
+        }
+    }};
+}
+
+/// The instruction that a word stands for (Appendices B and F). Each word has one, `Illegal` where
+/// the manual gives it no meaning.
+///
+/// Reserved bits are ignored: words that differ in them alone give the same instruction.
+#[tactic(auto, unfolding(crate::specs::Table::meaning))]
+pub fn decode(word: u32) -> Instr
+    ensures value { result ≡ meaning word }
+    ensures registers { HasRegisters result }
+{
+    opcodes!(decode_rows!(word))
+}
+
+/// A `match` on an instruction, from the list.
+macro_rules! encode_rows {
+    (
+        [$instr:ident]
+        call $call:literal
+        format_2 { Unimp $unimp:literal, Bicc $bicc:literal, Sethi $sethi:literal }
+        format_2_whole { $($near:ident $near_code:literal),* }
+        arith { $($arith:ident $plain:literal $cc:literal),* }
+        tagged { $($tagged:ident $tagged_code:literal),* }
+        three_fields { $($three:ident $three_code:literal),* }
+        two_fields { $($two:ident $two_code:literal),* }
+        shift { $($shift:ident $shift_code:literal),* }
+        trap { Ticc $ticc:literal }
+        read_y { ReadState $rdy:literal $rdy_rs1:literal, Stbar $stbar:literal $stbar_rs1:literal }
+        read { $($from:ident $read_code:literal),* }
+        write_y { WriteState $wry:literal $wry_rd:literal }
+        write { $($to:ident $write_code:literal),* }
+        whole { $($whole:ident $whole_code:literal),* }
+        memory { $($memory:ident $normal:literal $alternate:literal),* }
+        memory_whole { $($far:ident $far_code:literal),* }
+    ) => {
+        match *$instr {
+            Instr::Unimp(imm22) => format_2(0, $unimp, unsigned_bits(imm22, 22)),
+            Instr::Bicc { cond, annul, disp22 } => {
+                format_2(branch_field(annul, cond), $bicc, signed_bits(disp22, 22))
+            }
+            Instr::Sethi { imm22, rd } => format_2(rd, $sethi, unsigned_bits(imm22, 22)),
+            Instr::Call { disp30 } => format_call($call, signed_bits(disp30, 30)),
+            $(
+                Instr::Arith { op: ArithOp::$arith, cc: false, rd, rs1, operand } => {
+                    format_3(2, rd, $plain, rs1, source_bits(operand))
+                }
+                Instr::Arith { op: ArithOp::$arith, cc: true, rd, rs1, operand } => {
+                    format_3(2, rd, $cc, rs1, source_bits(operand))
+                }
+            )*
+            $(
+                Instr::Tagged { op: TaggedOp::$tagged, rd, rs1, operand } => {
+                    format_3(2, rd, $tagged_code, rs1, source_bits(operand))
+                }
+            )*
+            $(
+                Instr::$three { rd, rs1, operand } => {
+                    format_3(2, rd, $three_code, rs1, source_bits(operand))
+                }
+            )*
+            $(
+                Instr::$two { rs1, operand } => {
+                    format_3(2, 0, $two_code, rs1, source_bits(operand))
+                }
+            )*
+            $(
+                Instr::Shift { op: ShiftOp::$shift, rd, rs1, count } => {
+                    format_3(2, rd, $shift_code, rs1, natural_source(5, count))
+                }
+            )*
+            Instr::Ticc { cond, rs1, operand } => {
+                format_3(2, condition_code(cond), $ticc, rs1, natural_source(7, operand))
+            }
+            Instr::ReadState { register: StateRegister::Y, rd } => {
+                format_3(2, rd, $rdy, $rdy_rs1, Some(0))
+            }
+            Instr::Stbar => format_3(2, 0, $stbar, $stbar_rs1, Some(0)),
+            $(
+                Instr::ReadState { register: StateRegister::$from, rd } => {
+                    format_3(2, rd, $read_code, 0, Some(0))
+                }
+            )*
+            Instr::WriteState { register: StateRegister::Y, rs1, operand } => {
+                format_3(2, $wry_rd, $wry, rs1, source_bits(operand))
+            }
+            $(
+                Instr::WriteState { register: StateRegister::$to, rs1, operand } => {
+                    format_3(2, 0, $write_code, rs1, source_bits(operand))
+                }
+            )*
+            $(
+                Instr::Memory { op: MemoryOp::$memory, rd, rs1, operand } => {
+                    format_3(3, rd, $normal, rs1, source_bits(operand))
+                }
+                Instr::Alternate { op: MemoryOp::$memory, rd, rs1, rs2, asi } => {
+                    format_3(3, rd, $alternate, rs1, alternate_source(asi, rs2))
+                }
+            )*
+            Instr::Fp(word) => match decode(word) {
+                Instr::Fp(decoded) if decoded == word => Some(word),
+                _ => None,
+            },
+            Instr::Cp(word) => match decode(word) {
+                Instr::Cp(decoded) if decoded == word => Some(word),
+                _ => None,
+            },
+            Instr::AltImm | Instr::Illegal => None,
+        }
+    };
+}
+
+/// The word of an instruction, with its reserved bits 0.
+///
+/// # Errors
+///
+/// `None` where a field is out of range, where the word of an `Fp` or `Cp` is no such
+/// instruction, and for `AltImm` and `Illegal`.
+#[tactic(auto, using(crate::proofs::Forth::decoded), unfolding(crate::specs::Encoding::encoding))]
+pub fn encode(instr: &Instr) -> Option<u32>
+    ensures value { result ≡ encoding instr.now }
+    ensures decodes { IfSome result (λ w. meaning w ≡ instr.now) }
+{
+    opcodes!(encode_rows!(instr))
+}

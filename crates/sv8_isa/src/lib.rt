@@ -1,0 +1,13 @@
+//! Instructions of SPARC V8 (The SPARC Architecture Manual, Version 8, Appendices B and F): what a
+//! word stands for, and the word of an instruction.
+#![tactic(auto)]
+
+mod codec;
+mod instr;
+pub mod laws;
+#[cfg(test)]
+mod tests;
+mod word;
+
+pub use codec::{decode, encode};
+pub use instr::{ArithOp, Cond, Instr, MemoryOp, Operand, ShiftOp, StateRegister, TaggedOp};

@@ -1,0 +1,4 @@
+pub mod Outside
+pub mod Action
+pub mod Does
+pub mod Laws

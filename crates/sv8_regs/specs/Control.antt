@@ -1,0 +1,53 @@
+-- The control and status registers: chapter 4, section 4.2.
+use Rattle.std.specs.Prelude.{ℕ, Bool, ◌+◌, ◌*◌, ◌-◌, ◌%◌, ◌/◌, ◌^◌, ◌==◌, if◌then◌else◌}
+use Rattle.sv8_regs.specs.declared.Psr.{Psr}
+
+-- a condition as one bit
+abbrev pub bit : Bool → ℕ
+bit b = if b then 1 else 0
+
+-- bit k of a word
+abbrev pub bit_at : ℕ → ℕ → Bool
+bit_at word k = word / 2 ^ k % 2 == 1
+
+-- PSR: N 23, Z 22, V 21, C 20, PIL 11:8, S 7, PS 6, ET 5, CWP 4:0; every other bit reads 0
+abbrev pub packed_psr : Psr → ℕ → ℕ
+packed_psr p cwp =
+    bit p.n * 2 ^ 23 + bit p.z * 2 ^ 22 + bit p.v * 2 ^ 21 + bit p.c * 2 ^ 20 + p.pil * 2 ^ 8 + bit p.s * 2 ^ 7 + bit p.ps * 2 ^ 6 + bit p.et * 2 ^ 5 + cwp
+
+-- the fields of a PSR word, but for CWP
+abbrev pub unpacked_psr : ℕ → Psr
+unpacked_psr word = record {
+  n = bit_at word 23;
+  z = bit_at word 22;
+  v = bit_at word 21;
+  c = bit_at word 20;
+  pil = word / 2 ^ 8 % 2 ^ 4;
+  s = bit_at word 7;
+  ps = bit_at word 6;
+  et = bit_at word 5;
+}
+
+-- CWP, bits 4:0 of a PSR word
+abbrev pub window_field : ℕ → ℕ
+window_field word = word % 2 ^ 5
+
+-- what WIM keeps of a word: a bit for each window
+abbrev pub kept_mask : ℕ → ℕ → ℕ
+kept_mask windows word = word % 2 ^ windows
+
+-- TBR with TBA, bits 31:12, taken from a word; the trap type stays
+abbrev pub with_base : ℕ → ℕ → ℕ
+with_base tbr word = word / 2 ^ 12 * 2 ^ 12 + tbr % 2 ^ 12
+
+-- TBR with another trap type in bits 11:4; TBA stays and bits 3:0 are zeros
+abbrev pub with_trap_type : ℕ → ℕ → ℕ
+with_trap_type tbr trap_type = tbr / 2 ^ 12 * 2 ^ 12 + trap_type * 2 ^ 4
+
+-- the window that SAVE and a trap go to
+abbrev pub below : ℕ → ℕ → ℕ
+below windows cwp = (cwp + windows - 1) % windows
+
+-- the window that RESTORE and RETT go to
+abbrev pub above : ℕ → ℕ → ℕ
+above windows cwp = (cwp + 1) % windows

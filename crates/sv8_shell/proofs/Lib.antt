@@ -1,0 +1,11 @@
+pub mod PutLemmas
+pub mod ParseLemmas
+pub mod SessionLemmas
+pub mod AnswerLemmas
+pub mod KeepLemmas
+pub mod GatherLemmas
+pub mod ScriptLemmas
+pub mod ProgressLemmas
+pub mod RunLemmas
+pub mod LawLemmas
+pub mod NumberedLemmas

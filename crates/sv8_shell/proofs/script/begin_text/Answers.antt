@@ -1,0 +1,5 @@
+use Rattle.sv8_shell.proofs.SessionLemmas.{Answered-none}
+use Rattle.sv8_shell.proofs.script.begin_text.Goals as goal
+
+pub returns-in-None : goal.returns-in-None
+returns-in-None g c = rw c.in-None.ensures (record { answered = Answered-none _ _; at_stage = tt })

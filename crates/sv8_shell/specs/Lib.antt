@@ -1,0 +1,9 @@
+pub mod Put
+pub mod Refusal
+pub mod Text
+pub mod Parse
+pub mod Script
+pub mod Session
+pub mod Gathers
+pub mod Progress
+pub mod Run

@@ -1,0 +1,17 @@
+//! The shell: reads a script of commands, and writes the answer to each.
+#![tactic(auto)]
+
+mod answers;
+mod bytes;
+mod command;
+mod driver;
+mod gathering;
+mod line;
+mod place;
+mod put;
+mod refusal;
+mod script;
+mod texts;
+
+pub use command::{BadCommand, Command, parse_command};
+pub use driver::{RunFault, run};

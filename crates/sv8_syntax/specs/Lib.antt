@@ -1,0 +1,10 @@
+pub mod Table
+pub mod Percents
+pub mod Mnemonics
+pub mod Token
+pub mod Spelling
+pub mod Grammar
+pub mod Registers
+pub mod Lexing
+pub mod Reading
+pub mod Outcome

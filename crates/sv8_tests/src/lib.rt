@@ -1,0 +1,10 @@
+//! Tests of the whole workbench: scripts and their answers, and readers and writers that fail.
+#![tactic(auto)]
+
+pub mod ends;
+#[cfg(test)]
+mod faults;
+#[cfg(test)]
+mod refusals;
+#[cfg(test)]
+mod scripts;
