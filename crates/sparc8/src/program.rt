@@ -8,7 +8,7 @@ use clap::error::ErrorKind;
 use std::alloc::Global;
 use std::env;
 use std::fs::File;
-use std::io::{BufWriter, Read, Write};
+use std::io::{self, BufWriter, Read, Write};
 use sv8_bench::Bench;
 use sv8_shell::{RunFault, run};
 
@@ -82,10 +82,12 @@ fn refuse(rt: &HostRuntime, error: &clap::Error) -> End {
     }
 }
 
-/// The whole run.
+/// The whole run. Words that are no text are wrong words.
 pub fn program(rt: &HostRuntime) -> End {
-    let Ok(all) = env::args(rt) else {
-        return End::Usage;
+    let all = match env::args(rt) {
+        Ok(all) => all,
+        Err(error) if error.kind() == io::ErrorKind::OutOfMemory => return End::Memory,
+        Err(_) => return End::Usage,
     };
     let Ok(owned) = all.skip(1).collect::<Vec<String>>(rt.alloc()) else {
         return End::Memory;
