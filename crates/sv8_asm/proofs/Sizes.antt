@@ -1,5 +1,5 @@
 -- The bytes of a statement fit its size.
-use Rattle.std.proofs.Common.{◌≡◌, ◌∙◌, ℕ, ℤ, ◌+◌, ◌*◌, ◌%◌, ◌≤◌, ◌==◌, List, [], ◌∷◌, ◌++◌, length, length-append, Option, Some, None, Result, Ok, Err, IsOk, Bool, true, false, cond, arith, ap, refl, sym}
+use Rattle.std.proofs.Common.{◌≡◌, ◌∙◌, ℕ, ◌+◌, ◌*◌, ◌%◌, ◌≤◌, ◌==◌, List, [], ◌∷◌, ◌++◌, length, length-append, Option, Some, None, Result, Ok, Err, IsOk, Bool, true, false, cond, arith, ap, refl}
 use Rattle.std.specs.Int.{w32, to_be_bytes}
 use Rattle.std.specs.Result.{result_unwrap_or}
 use Rattle.sv8_isa.specs.Encoding.{encoding}
@@ -12,8 +12,8 @@ use Rattle.sv8_syntax.specs.declared.statement.Statement.TheVariants as statemen
 use Rattle.sv8_syntax.specs.declared.statement.Stmt.{Stmt}
 use Rattle.sv8_asm.specs.Names.{Names}
 use Rattle.sv8_asm.specs.Value.{word_of}
-use Rattle.sv8_asm.specs.Size.{aligned, statement_size, size_of_statement, size}
-use Rattle.sv8_asm.specs.Code.{encoded, code, before, words, instruction_of, statement_bytes, bytes_of_statement, bytes}
+use Rattle.sv8_asm.specs.Size.{aligned, size_of_statement, size}
+use Rattle.sv8_asm.specs.Code.{encoded, code, before, words, instruction_of, bytes_of_statement, bytes}
 
 encoded_length : (w : Option ℕ) (b : List ℕ) → encoded w ≡ Ok b → length b ≡ 4
 encoded_length None b h = absurd (cc)

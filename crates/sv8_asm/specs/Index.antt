@@ -1,4 +1,4 @@
--- The names as the code keeps them.
+-- The names as the code keeps them: a list, and a tree by which they are found.
 use Rattle.std.specs.Prelude.{◌≡◌, ℕ, ℤ, List, Vec}
 use Rattle.std.specs.Cmp.Lexicographic.{slice_cmp}
 use Rattle.std.specs.Ordering.{nat_cmp}
@@ -7,6 +7,7 @@ use Rattle.std.specs.BTreeMap.{BTreeMap}
 use Rattle.sv8_asm.specs.declared.symbols.Symbol.{Symbol}
 use Rattle.sv8_asm.specs.Names.{Names, get}
 
+-- an entry of the list
 abbrev pub pair_of : Symbol → List ℕ × ℤ
 pair_of s = (s.name.items, s.value)
 

@@ -10,13 +10,14 @@ use Rattle.sv8_syntax.specs.declared.statement.Stmt.{Stmt}
 abbrev pub aligned : ℕ → ℕ → Result ℕ LineFault
 aligned at bytes = if at % 4 == 0 then Ok bytes else Err BadAlignment
 
--- instructions and words stand at multiples of 4
+-- an instruction is one word, .word one for each expression; they stand at multiples of 4
 abbrev pub statement_size : Statement → ℕ → Result ℕ LineFault
 statement_size (statement.Arith op cc rs1 operand rd) at = aligned at 4
 statement_size (statement.Branch cond annul target) at = aligned at 4
 statement_size (statement.Sethi value rd) at = aligned at 4
 statement_size (statement.Word values) at = aligned at (4 * length values)
 
+-- no statement takes no bytes and may stand anywhere
 abbrev pub size_of_statement : Option Statement → ℕ → Result ℕ LineFault
 size_of_statement None at = Ok 0
 size_of_statement (Some s) at = statement_size s at

@@ -1,5 +1,5 @@
 -- Values of expressions, and the ranges that they are to lie in.
-use Rattle.std.specs.Prelude.{ℕ, ℤ, pos, negsuc, ◌-◌, ◌%◌, ◌/◌, ◌^◌, ◌+ℤ◌, ◌-ℤ◌, neg_ℤ, Bool, not, ◌&&◌, ◌||◌, ◌==◌, Option, Some, None, Result, Ok, Err, if◌then◌else◌, int_div}
+use Rattle.std.specs.Prelude.{ℕ, ℤ, pos, negsuc, ◌-◌, ◌%◌, ◌^◌, ◌+ℤ◌, ◌-ℤ◌, neg_ℤ, Bool, ◌||◌, ◌==◌, Option, Some, None, Result, Ok, Err, if◌then◌else◌, int_div}
 use Rattle.std.specs.Int.Signed.{lt_z}
 use Rattle.sv8_syntax.specs.declared.fault.LineFault.{LineFault}
 use Rattle.sv8_syntax.specs.declared.fault.LineFault.TheVariants.{UnknownName, OutOfRange, BadAlignment}
@@ -7,7 +7,7 @@ use Rattle.sv8_syntax.specs.declared.statement.Expr.{Expr}
 use Rattle.sv8_syntax.specs.declared.statement.Expr.TheVariants as expr
 use Rattle.sv8_asm.specs.Names.{Names, get}
 
--- a name's value and a number that is added to it
+-- a value and a number that is added to it
 abbrev pub moved_by : ℤ → Option ℤ → Option ℤ
 moved_by n None = None
 moved_by n (Some v) = Some (v +ℤ n)
@@ -29,7 +29,7 @@ abbrev pub within : ℤ → ℤ → Option ℤ → Result ℤ LineFault
 within least most None = Err UnknownName
 within least most (Some v) = if is_outside least most v then Err OutOfRange else Ok v
 
--- the word that stands for a number in two's complement
+-- the word that stands for a number in two's complement; negsuc n is -(n + 1)
 abbrev pub word_of_number : ℤ → ℕ
 word_of_number (pos n) = n % 2 ^ 32
 word_of_number (negsuc n) = 2 ^ 32 - 1 - n % 2 ^ 32
@@ -43,13 +43,13 @@ as_word (Err e) = Err e
 abbrev pub word_of : Names → Expr → Result ℕ LineFault
 word_of names e = as_word (within (neg_ℤ (pos (2 ^ 31))) (pos (2 ^ 32 - 1)) (value_of names e))
 
--- how many words a branch goes, from its bytes: from -2^21 to 2^21 - 1 words, and whole ones
+-- the field disp22 of a branch over so many bytes (Appendix B.21): whole words, from -2^21 to 2^21 - 1
 abbrev pub whole_words : ℤ → Result ℤ LineFault
 whole_words d =
     if is_outside (neg_ℤ (pos (2 ^ 23))) (pos (2 ^ 23 - 4)) d then Err OutOfRange
     else (if word_of_number d % 4 == 0 then Ok (int_div d (pos 4)) else Err BadAlignment)
 
--- the displacement from a location to a target
+-- the field disp22 of a branch from its own address to a target
 abbrev pub displacement : ℕ → Option ℤ → Result ℤ LineFault
 displacement at None = Err UnknownName
 displacement at (Some target) = whole_words (target -ℤ pos at)

@@ -73,7 +73,7 @@ fn encoded(alloc: Global, instr: &Instr) -> Result<Vec<u8>, LineFault>
     }
 }
 
-/// The fault that stands once another is found.
+/// The fault that stands once another is found: the first one, but that a name without a value comes before all.
 fn least(first: Option<LineFault>, found: LineFault) -> LineFault
     ensures { result ≡ least first found }
 {
@@ -101,7 +101,7 @@ fn gather(
     }
 }
 
-/// The bytes of words.
+/// The bytes of the words of these expressions. Each of them is looked at, whatever fault one before it has.
 #[tactic(auto, using(crate::proofs::Gathering::carried_start, crate::proofs::Gathering::carried_end), unfolding(crate::specs::Code::words))]
 fn words(alloc: Global, values: &[Expr], names: &Symbols) -> Result<Vec<u8>, LineFault>
     ensures { MatchResult result (λ v. words names.now values.now ≡ Ok v.items) (λ e. (e ≡ OutOfMemory) ⊎ (words names.now values.now ≡ Err e)) }
@@ -160,12 +160,16 @@ fn instruction(statement: &Statement, at: u32, names: &Symbols) -> Result<Option
     }
 }
 
-/// The bytes of a statement at the location `at`, where its size is known.
+/// The bytes that a statement places from the location `at` on; none where the line has no statement.
+///
+/// An instruction is one word, and `.word` one for each of its expressions, the most significant byte first. Encodings
+/// are those of Appendix B. The names have to be all that the source defines.
 ///
 /// # Errors
 ///
-/// `UnknownName` for a name that has no value, `OutOfRange` for a value outside its field, `BadAlignment` for a branch
-/// to no multiple of 4 from here; of several faults the first of these. `OutOfMemory` for want of memory.
+/// `UnknownName` for a name that has no value; `OutOfRange` for a value that its field does not hold, and for a branch
+/// by less than -2^23 or more than 2^23 - 4 bytes; `BadAlignment` for any other branch by no multiple of 4. Of several
+/// faults the one that stands first here. `OutOfMemory` for want of memory, whatever the statement.
 #[tactic(auto, unfolding(crate::specs::Code::bytes))]
 pub fn assemble(alloc: Global, stmt: &Stmt, at: u32, names: &Symbols) -> Result<Vec<u8>, LineFault>
     requires { IsOk (size stmt.now at) }

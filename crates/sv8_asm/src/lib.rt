@@ -1,15 +1,18 @@
-//! The bytes of one statement: names and their values, how far a statement moves the location, and what it places there.
+//! The bytes of one statement: the names of a source and their values, how far a statement moves the location, and
+//! what it places there.
 //!
-//! The encodings are those of Appendix B of The SPARC Architecture Manual, Version 8, by `sv8_isa`.
+//! `size_of` is for a first pass over a source, in which names get their values, and `assemble` for a second one, in
+//! which all of them are known. The encodings are those of The SPARC Architecture Manual, Version 8, Appendix B, by
+//! `sv8_isa`.
 #![tactic(auto)]
 
 mod code;
 pub mod laws;
 mod size;
 mod symbols;
-mod value;
 #[cfg(test)]
 mod tests;
+mod value;
 
 pub use code::assemble;
 pub use size::size_of;

@@ -16,7 +16,8 @@ fn aligned(at: u32, bytes: u32) -> Result<u32, LineFault>
     }
 }
 
-/// The number of bytes from the location `at` to the one behind the statement.
+/// The number of bytes from the location `at` to the one behind the statement: 4 for an instruction and for each word
+/// of `.word`, and 0 where the line has no statement.
 ///
 /// # Errors
 ///

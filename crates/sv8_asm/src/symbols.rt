@@ -1,4 +1,4 @@
-//! Names and their values, with an index.
+//! The names of a source and their values.
 
 ghost use Rattle.std.specs.Prelude.{◌≡◌, ℕ, ℤ, List, [], ◌∷◌, ◌++◌, map, IsSome, OnOk, OnErr, IfOk, MatchBool, None};
 ghost use Rattle.sv8_asm.specs.Names.{Names, get};
@@ -8,13 +8,16 @@ use std::alloc::{AllocError, Global};
 use std::collections::BTreeMap;
 use std::marker::Model;
 
+/// A name with its value.
 #[derive(Drop)]
 pub struct Symbol {
     name: Vec<u8>,
     value: i64,
 }
 
-/// The symbols of a source, each with one value.
+/// The names of a source, each with one value, in the order of their definitions. Case counts.
+///
+/// They are kept as a list, which is what the type stands for, and once more as an index by which they are found.
 #[derive(Drop)]
 pub struct Symbols {
     entries: Vec<Symbol>,
@@ -33,6 +36,7 @@ impl Model for Symbols {
     ghost invariant = { λ s. Answers s.index (map pair_of s.entries.items) };
 }
 
+/// Puts a name that is not there into the index.
 #[tactic(auto, using(crate::proofs::Keys::answers_push))]
 fn insert(index: &mut BTreeMap<Vec<u8>, i64>, name: Vec<u8>, value: i64) -> Result<(), AllocError>
     ensures ok { OnOk result ((xs : Names) → Answers index.old xs → get xs name.items ≡ None → Answers index.new (xs ++ (name.items, value) ∷ [])) }
@@ -43,6 +47,7 @@ fn insert(index: &mut BTreeMap<Vec<u8>, i64>, name: Vec<u8>, value: i64) -> Resu
 }
 
 impl Symbols {
+    /// No names.
     pub fn new(alloc: Global) -> Self
         ensures { result ≡ [] }
     {
@@ -52,7 +57,7 @@ impl Symbols {
         }
     }
 
-    /// The value of a name.
+    /// The value of a name, if it has one.
     pub fn get(&self, name: &[u8]) -> Option<i64>
         ensures { result ≡ get self.now name.now }
     {
@@ -60,7 +65,11 @@ impl Symbols {
         self.index.get(name).copied()
     }
 
-    /// Gives a name its value, unless it has one.
+    /// Gives a name its value, unless it has one: then it keeps that, and the answer is `false`.
+    ///
+    /// # Errors
+    ///
+    /// Want of memory; the names are then as they were.
     pub fn define(&mut self, alloc: Global, name: &[u8], value: i64) -> Result<bool, AllocError>
         ensures ok { IfOk result (λ added. MatchBool added ((get self.old name.now ≡ None) × (self.new ≡ self.old ++ (name.now, value) ∷ [])) (IsSome (get self.old name.now) × (self.new ≡ self.old))) }
         ensures err { OnErr result (self.new ≡ self.old) }
@@ -72,7 +81,10 @@ impl Symbols {
         let second = Vec::from_slice(alloc, name)?;
         self.entries.reserve(1)?;
         insert(&mut self.index, first, value)?;
-        self.entries.push(Symbol { name: second, value })?;
+        self.entries.push(Symbol {
+            name: second,
+            value,
+        })?;
         Ok(true)
     }
 }

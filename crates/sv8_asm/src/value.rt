@@ -1,4 +1,4 @@
-//! Values of expressions.
+//! Values of expressions. They are whole numbers, so a sum never wraps.
 
 ghost use Rattle.std.specs.Prelude.{◌≡◌, ℤ, pos, negsuc, neg_ℤ, ◌≤ℤ◌, ◌^◌, ◌-◌, IfOk, IfSome};
 ghost use Rattle.sv8_asm.specs.Value.{value_of, within, is_outside, word_of_number, word_of, whole_words, displacement};
@@ -62,7 +62,7 @@ pub(crate) fn word(expr: &Expr, names: &Symbols) -> Result<u32, LineFault>
     }
 }
 
-/// The words that a branch goes over so many bytes.
+/// The words that a branch goes over so many bytes, as its field disp22 holds them (Appendix B.21).
 fn whole_words(distance: i128) -> Result<i32, LineFault>
     ensures { result ≡ whole_words distance }
 {
@@ -75,7 +75,7 @@ fn whole_words(distance: i128) -> Result<i32, LineFault>
     }
 }
 
-/// The words from a location to a branch target.
+/// The words from a branch at the location `at` to its target.
 pub(crate) fn displacement(at: u32, target: &Expr, names: &Symbols) -> Result<i32, LineFault>
     ensures { result ≡ displacement at (value_of names.now target.now) }
 {

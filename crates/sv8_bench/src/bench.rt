@@ -42,11 +42,11 @@ impl<const NW: usize, const PAGES: usize, const K: u32> Model for Bench<NW, PAGE
 }
 
 impl<const NW: usize, const PAGES: usize, const K: u32> Bench<NW, PAGES, K> {
-    /// A workbench with an empty source.
+    /// A workbench with an empty source, so that RAM is all zeros.
     ///
     /// # Errors
     ///
-    /// Where memory for it cannot be had.
+    /// `AllocError` where memory for it cannot be had.
     pub fn new(alloc: Global) -> Result<Self, AllocError>
         requires some_windows { 2 ≤ NW }
         requires few_windows { NW ≤ 32 }
@@ -57,12 +57,19 @@ impl<const NW: usize, const PAGES: usize, const K: u32> Bench<NW, PAGES, K> {
         Ok(Bench { alloc, source })
     }
 
-    /// Replaces lines `first` to `last`, counted from 1, by these lines; `last` = `first` - 1 inserts them before `first`.
+    /// Replaces lines `first` to `last`, counted from 1, by these lines. With `last` = `first` - 1 it inserts them
+    /// before `first`, which may be one more than the number of lines; with no lines it takes the old ones out.
     ///
     /// # Errors
     ///
-    /// The refusal of the edited source, or of the range of lines, or `OutOfMemory`; the workbench is as it was.
-    pub fn replace_lines(&mut self, first: u32, last: u32, lines: &[Vec<u8>]) -> Result<(), BenchFault>
+    /// `NoSuchLine` for lines that are not there, `TooManyLines` above 65,536, the fault of the edited source's first
+    /// faulty line, or `OutOfMemory`. The workbench is then as it was.
+    pub fn replace_lines(
+        &mut self,
+        first: u32,
+        last: u32,
+        lines: &[Vec<u8>],
+    ) -> Result<(), BenchFault>
         ensures accepted { OnOk result (edit_refusal first last (texts lines.now) self.old ≡ None) }
         ensures edited { OnOk result (self.new ≡ edited first last (texts lines.now) self.old) }
         ensures refused { IfErr result (λ e. (e ≡ BenchFault.OutOfMemory) ⊎ (edit_refusal first last (texts lines.now) self.old ≡ Some e)) }
@@ -82,14 +89,15 @@ impl<const NW: usize, const PAGES: usize, const K: u32> Bench<NW, PAGES, K> {
         self.source.line_count()
     }
 
-    /// A line of the listing by its number, from 1 on.
+    /// A line of the listing by its number, from 1 on: its address in RAM, the bytes that it places there, and its text.
+    /// `None` where there is no line of that number.
     pub fn listing(&self, number: usize) -> Option<Listed<'_>>
         ensures { option_map shown_of result ≡ numbered (listing self.now.source) number }
     {
         self.source.line(number)
     }
 
-    /// The machine at a step, which is the machine after so many steps from reset.
+    /// The machine at a step, which is the machine after so many steps from reset. Step 0 is the machine just reset.
     ///
     /// # Errors
     ///
@@ -107,7 +115,7 @@ impl<const NW: usize, const PAGES: usize, const K: u32> Bench<NW, PAGES, K> {
         Ok(Shown::of(&machine))
     }
 
-    /// The machine at a step.
+    /// The machine after so many steps from reset.
     #[tactic(auto, unfolding(sv8_cpu::specs::Step::steps))]
     fn machine_at(&self, step: u32) -> Result<Machine<NW, PAGES>, AllocError>
         ensures { IfOk result (λ m. m ≡ state_at NW PAGES self.now.source step) }

@@ -7,43 +7,62 @@ use std::alloc::AllocError;
 use sv8_source::SourceFault;
 use thiserror::Error;
 
-/// Why an edit or a query is refused. The cases of a source carry the number of the line, from 1 on.
+/// Why an edit or a query is refused. A case with a number is a fault of the edited source, at the line of
+/// that number, from 1 on.
 #[derive(Debug, Drop, Clone, Copy, PartialEq, Eq, Error)]
 pub enum BenchFault {
+    /// Memory that was asked for could not be had.
     #[error("out of memory")]
     OutOfMemory,
+    /// The lines to be replaced are not lines of the source.
     #[error("no such line")]
     NoSuchLine,
+    /// The edited source would have more than 65,536 lines.
     #[error("too many lines")]
     TooManyLines,
+    /// The line has more than 255 bytes.
     #[error("line {0} is too long")]
     LineTooLong(u32),
+    /// The line has a byte that is neither printable ASCII nor a tab.
     #[error("line {0} is not ASCII")]
     NotAscii(u32),
+    /// The line is no line of the assembler's grammar.
     #[error("line {0} is not a line of the assembler")]
     Syntax(u32),
+    /// The line uses a name that no line defines.
     #[error("line {0} uses an unknown name")]
     UnknownName(u32),
+    /// The line defines a name that an earlier definition has.
     #[error("line {0} defines a name again")]
     DuplicateLabel(u32),
+    /// A value does not fit where the line puts it.
     #[error("line {0} has a value out of range")]
     OutOfRange(u32),
+    /// The line stands, or its branch leads, where no word may begin.
     #[error("line {0} is badly aligned")]
     BadAlignment(u32),
+    /// The line sets the location to an address below the present one.
     #[error("line {0} moves the location backwards")]
     OrgBackwards(u32),
+    /// The line's bytes end behind the last byte of RAM.
     #[error("line {0} ends behind the image")]
     ImageTooLarge(u32),
+    /// The step is above the last one that is shown.
     #[error("step too large")]
     StepTooLarge,
+    /// The address is no word of RAM.
     #[error("bad address")]
     BadAddress,
+    /// The number is no interrupt level from 1 to 15.
     #[error("bad interrupt level")]
     BadLevel,
+    /// There is no event at the place that is to be cleared.
     #[error("nothing there to clear")]
     NothingThere,
+    /// One more event of this kind would be too many.
     #[error("too many events")]
     TooManyEvents,
+    /// The input of one step would have too many bytes.
     #[error("input too long")]
     InputTooLong,
 }

@@ -1,4 +1,4 @@
-//! The workbench: a source that may be edited, and the machine that it makes at any step.
+//! The workbench: the source of a SPARC V8 program, which may be edited, and the machine that runs it at any step.
 #![tactic(auto)]
 
 mod bench;

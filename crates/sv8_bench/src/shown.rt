@@ -10,21 +10,28 @@ use sv8_regs::Regs;
 /// The machine at a step, as a query shows it: each register of chapter 4 as a word, and the devices.
 #[derive(Drop, Clone, Copy)]
 pub struct Shown {
-    /// Whether the machine runs, and is not in error mode.
+    /// Whether the machine runs; if not, it is in error mode (chapter 7).
     pub running: bool,
+    /// PC, the address of the instruction that the next step carries out (section 4.2).
     pub pc: u32,
+    /// nPC, the address of the instruction that follows the one at PC (section 4.2).
     pub npc: u32,
-    /// Whether the instruction at PC is left out.
+    /// Whether the next step leaves the instruction at PC out (section 5.1.2).
     pub annul: bool,
+    /// The Processor State Register, all of its fields in one word (section 4.2).
     pub psr: u32,
+    /// The Window Invalid Mask, bit w for window w (section 4.2).
     pub wim: u32,
+    /// The Trap Base Register (section 4.2).
     pub tbr: u32,
+    /// The Y register (section 4.2).
     pub y: u32,
-    /// r[0] to r[31] of the current window.
+    /// r[0] to r[31] of the current window (section 4.1).
     pub registers: [u32; 32],
+    /// The registers of the memory management unit (Appendix H).
     pub mmu: MmuRegisters,
     pub timer: Timer,
-    /// The pending interrupt levels, bit l for level l.
+    /// The pending interrupt levels, bit l for level l, from 1 to 15.
     pub pending: u32,
     /// How many bytes wait at the console.
     pub waiting: u32,

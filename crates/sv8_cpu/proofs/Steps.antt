@@ -1,8 +1,8 @@
 -- The parts of a step, one after another.
-use Rattle.std.proofs.Common.{◌≡◌, ℕ, Bool, true, false, cond, refl, sym, ◌∙◌, ap, Option, Some, None}
+use Rattle.std.proofs.Common.{◌≡◌, ℕ, true, false, cond, None}
 use Rattle.sv8_isa.specs.declared.instr.Instr.{Instr}
 use Rattle.sv8_model.specs.Outside.{Outside}
-use Rattle.sv8_model.specs.Action.{Action, done, ◌>>=◌}
+use Rattle.sv8_model.specs.Action.{Action, done}
 use Rattle.sv8_model.specs.Does.{Does}
 use Rattle.sv8_model.proofs.Deeds.{does_then, does_map, does_done, does_if_true, does_if_false}
 use Rattle.sv8_cpu.specs.declared.access.Request.TheVariants as request
@@ -15,12 +15,12 @@ use Rattle.sv8_cpu.specs.Step.{answered, executed, fetched, instruction, action}
 
 -- an instruction whose access was answered
 pub executed_on : (windows size : ℕ) (m : Inner) (i : Instr) (o o1 : Outside) (r : Response) (y : Inner) →
-  Does (access size (asked i)) o o1 r → y ≡ answered windows m i r → Does (executed windows size m i None) o o1 y
+    Does (access size (asked i)) o o1 r → y ≡ answered windows m i r → Does (executed windows size m i None) o o1 y
 executed_on windows size m i o o1 r y h e = does_map (access size (asked i)) (answered windows m i) o o1 r y h e
 
 -- a fetch that was answered, and what follows
 pub instruction_by : (windows size : ℕ) (m : Inner) (o o1 o2 : Outside) (r : Response) (y : Inner) →
-  Does (access size (request.Fetch m.processor.registers.psr.s m.processor.pc)) o o1 r → Does (fetched windows size m r) o1 o2 y → Does (instruction windows size m) o o2 y
+    Does (access size (request.Fetch m.processor.registers.psr.s m.processor.pc)) o o1 r → Does (fetched windows size m r) o1 o2 y → Does (instruction windows size m) o o2 y
 unfolding instruction
 instruction_by windows size m o o1 o2 r y h k =
     does_then (access size (request.Fetch m.processor.registers.psr.s m.processor.pc)) (fetched windows size m) o o1 o2 r y h k
@@ -36,7 +36,7 @@ module _ (windows size : ℕ) (m : Inner) where
 
   -- an annulled slot
   pub action_skips : (o : Outside) (y : Inner) → m.processor.running ≡ true → m.processor.annul ≡ true → y ≡ record m { processor = slot_skipped m.processor }
-    → Does (action windows size m) o o y
+      → Does (action windows size m) o o y
   unfolding action
   action_skips o y b a e =
       does_if_true m.processor.running running_action (done m) o o y b
@@ -44,7 +44,7 @@ module _ (windows size : ℕ) (m : Inner) where
 
   -- an instruction
   pub action_by : (o o1 : Outside) (y : Inner) → m.processor.running ≡ true → m.processor.annul ≡ false → Does (instruction windows size m) o o1 y
-    → Does (action windows size m) o o1 y
+      → Does (action windows size m) o o1 y
   unfolding action
   action_by o o1 y b a h =
       does_if_true m.processor.running running_action (done m) o o1 y b

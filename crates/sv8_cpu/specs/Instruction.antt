@@ -1,6 +1,6 @@
 -- Each instruction in three parts: what it raises, the access that it asks for, and what becomes of the registers once the access is answered
 -- (Appendices B and C). A row that the machine does not have yet raises illegal_instruction.
-use Rattle.std.specs.Prelude.{ℕ, ◌+◌, ◌*◌, ◌%◌, ◌^◌, Bool, true, false, List, [], ◌∷◌, Option, Some, None, nat_lt, if◌then◌else◌, bit_or}
+use Rattle.std.specs.Prelude.{ℕ, ◌*◌, ◌%◌, ◌^◌, Bool, false, List, [], ◌∷◌, Option, Some, None, nat_lt, if◌then◌else◌, bit_or}
 use Rattle.sv8_isa.specs.declared.instr.Instr.{Instr}
 use Rattle.sv8_isa.specs.declared.instr.Instr.TheVariants as row
 use Rattle.sv8_isa.specs.declared.instr.ArithOp.TheVariants as operation

@@ -1,7 +1,9 @@
 pub mod Word
 pub mod Processor
+pub mod Entry
 pub mod Instruction
 pub mod Access
 pub mod State
 pub mod Step
 pub mod View
+pub mod Examples

@@ -1,5 +1,5 @@
 -- The processor: its registers, its two program counters, the annul flag, and whether it runs (chapter 4; section 7.1 for error mode).
-use Rattle.std.specs.Prelude.{ℕ, Bool, true, false, ◌*◌, ◌%◌, ◌≡◌, ◌<◌}
+use Rattle.std.specs.Prelude.{ℕ, Bool, true, false}
 use Rattle.sv8_isa.specs.declared.instr.Operand.{Operand}
 use Rattle.sv8_isa.specs.declared.instr.Operand.TheVariants.{Register, Immediate}
 use Rattle.sv8_regs.specs.Ring.{Registers, read, write, reset}

@@ -1,36 +1,36 @@
 -- One step of the machine, and runs of steps.
-use Rattle.std.specs.Prelude.{ℕ, zero, suc, Bool, true, false, List, Option, Some, None, if◌then◌else◌}
+use Rattle.std.specs.Prelude.{ℕ, zero, suc, List, Option, Some, None, if◌then◌else◌}
 use Rattle.sv8_isa.specs.declared.instr.Instr.{Instr}
 use Rattle.sv8_isa.specs.Table.{meaning}
-use Rattle.sv8_model.specs.Outside.{Outside}
 use Rattle.sv8_model.specs.Action.{Action, Touch, done, ◌>>=◌, result_of, after, touches}
 use Rattle.sv8_source.specs.Text.{Text}
 use Rattle.sv8_cpu.specs.declared.trap.Trap.{Trap}
 use Rattle.sv8_cpu.specs.declared.access.Request.TheVariants as request
 use Rattle.sv8_cpu.specs.declared.access.Response.{Response}
 use Rattle.sv8_cpu.specs.declared.access.Response.TheVariants.{Values, Refused}
-use Rattle.sv8_cpu.specs.Processor.{Processor, slot_skipped, stopped}
+use Rattle.sv8_cpu.specs.Processor.{slot_skipped}
+use Rattle.sv8_cpu.specs.Entry.{with_trap}
 use Rattle.sv8_cpu.specs.Instruction.{raised, taken, asked, complete}
 use Rattle.sv8_cpu.specs.Access.{access}
 use Rattle.sv8_cpu.specs.State.{Inner, State, ram_size, reset_state}
 
--- no instruction of the machine sets ET yet, so a trap always finds ET = 0
-abbrev pub trapped : Inner → Trap → Inner
-trapped m t = record m { processor = stopped m.processor }
+-- a trap, which changes the processor alone
+abbrev pub trapped : ℕ → Inner → Trap → Inner
+trapped windows m t = record m { processor = with_trap windows m.processor t }
 
 -- what becomes of the processor once the instruction's access is answered
 abbrev pub answered : ℕ → Inner → Instr → Response → Inner
 answered windows m i (Values high low) = record m { processor = complete windows m.processor i high low }
-answered windows m i (Refused t) = trapped m t
+answered windows m i (Refused t) = trapped windows m t
 
 -- an instruction that raises nothing makes its access
 abbrev pub executed : ℕ → ℕ → Inner → Instr → Option Trap → Action Inner
-executed windows size m i (Some t) = done (trapped m t)
+executed windows size m i (Some t) = done (trapped windows m t)
 executed windows size m i None = access size (asked i) >>= λ response. done (answered windows m i response)
 
 -- the word that was fetched is carried out
 abbrev pub fetched : ℕ → ℕ → Inner → Response → Action Inner
-fetched windows size m (Refused t) = done (trapped m t)
+fetched windows size m (Refused t) = done (trapped windows m t)
 fetched windows size m (Values high low) = executed windows size m (meaning low) (taken (raised (meaning low)))
 
 -- one instruction is fetched and carried out

@@ -2,13 +2,15 @@
 #![tactic(auto)]
 
 mod access;
+mod laws;
 mod machine;
 mod memory;
 mod processor;
 mod state;
-mod trap;
 #[cfg(test)]
 mod tests;
+mod trap;
 
+pub use laws::{worked_steps, worked_trap};
 pub use machine::Machine;
 pub use state::{MmuRegisters, Timer};

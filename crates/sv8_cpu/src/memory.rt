@@ -100,8 +100,5 @@ fn word_at(ram: &[u8], at: usize) -> u32
     requires words { length ram.now % 4 ≡ 0 }
     ensures { result ≡ word_of ram.now (at / 4) }
 {
-    u32::from(ram[at]) * 0x100_0000
-        + u32::from(ram[at + 1]) * 0x1_0000
-        + u32::from(ram[at + 2]) * 0x100
-        + u32::from(ram[at + 3])
+    u32::from_be_bytes([ram[at], ram[at + 1], ram[at + 2], ram[at + 3]])
 }

@@ -4,6 +4,7 @@ ghost use Rattle.std.specs.Prelude.{◌≡◌, ℕ, ◌<◌, ◌≤◌, ◌%◌,
 ghost use Rattle.sv8_isa.specs.Registers.{HasRegisters, OperandHasRegister};
 ghost use Rattle.sv8_regs.specs.Ring.{read};
 ghost use Rattle.sv8_cpu.specs.Word.{plus, word_of_number};
+ghost use Rattle.sv8_cpu.specs.Entry.{entered, with_trap};
 ghost use Rattle.sv8_cpu.specs.Processor.{operand_value, advanced, with_result, slot_skipped, stopped, reset_processor};
 ghost use Rattle.sv8_cpu.specs.Instruction.{raised, taken, asked, branched, complete};
 
@@ -30,11 +31,11 @@ impl<const NW: usize> Model for Processor<NW> {
     ghost Value = { Processor };
 
     ghost view = { λ p. record {
-        registers = p.registers;
-        pc = p.pc;
-        npc = p.npc;
-        annul = p.annul;
-        running = p.running;
+      registers = p.registers;
+      pc = p.pc;
+      npc = p.npc;
+      annul = p.annul;
+      running = p.running;
     } };
 
     ghost invariant = { λ p. (p.pc % 4 ≡ 0) × (p.npc % 4 ≡ 0) };
@@ -68,7 +69,8 @@ impl<const NW: usize> Processor<NW> {
     /// The address of the instruction behind the next one.
     #[inline(always)]
     pub fn npc(&self) -> u32
-        ensures { result ≡ self.now.npc }
+        ensures value { result ≡ self.now.npc }
+        ensures aligned { result % 4 ≡ 0 }
     {
         self.npc
     }
@@ -139,11 +141,44 @@ impl<const NW: usize> Processor<NW> {
         self.advance();
     }
 
-    /// Enters error mode.
-    pub fn stop(&mut self)
+    /// Enters error mode, in which no instruction is carried out any more.
+    fn stop(&mut self)
         ensures { self.new ≡ stopped self.old }
     {
         self.running = false;
+    }
+
+    /// Enters the handler of a trap: in supervisor mode, in the window below and with traps off. Locals 1 and 2 of
+    /// that window keep PC and nPC.
+    #[tactic(auto, unfolding(crate::specs::Entry::entered, crate::specs::Entry::trap_registers))]
+    fn enter(&mut self, trap: Trap)
+        ensures { self.new ≡ entered NW self.old trap }
+    {
+        let psr = self.registers.psr();
+        self.registers.set_psr(Psr {
+            s: true,
+            ps: psr.s,
+            et: false,
+            ..psr
+        });
+        self.registers.set_cwp(self.registers.window_below());
+        self.registers.set_trap_type(trap.trap_type());
+        self.registers.set(17, self.pc);
+        self.registers.set(18, self.npc);
+        self.pc = self.registers.tbr();
+        self.npc = self.pc.wrapping_add(4);
+    }
+
+    /// Takes a trap: enters its handler where traps are enabled, and error mode where they are not (chapter 7).
+    #[tactic(auto, unfolding(crate::specs::Entry::with_trap))]
+    pub fn take(&mut self, trap: Trap)
+        ensures { self.new ≡ with_trap NW self.old trap }
+    {
+        if self.registers.psr().et {
+            self.enter(trap);
+        } else {
+            self.stop();
+        }
     }
 
     /// Takes a branch.
@@ -224,7 +259,8 @@ pub fn raised_by(instr: Instr) -> Option<Trap>
         }
         | Instr::Sethi { .. }
         | Instr::Bicc {
-            cond: Cond::Always, ..
+            cond: Cond::Always,
+            ..
         } => None,
         _ => Some(Trap::IllegalInstruction),
     }

@@ -1,7 +1,7 @@
 -- One action after another.
-use Rattle.std.proofs.Common.{◌≡◌, ◌/◌, List, ◌∷◌, ◌++◌, refl, ap}
+use Rattle.std.proofs.Common.{◌≡◌, ◌/◌, ◌∷◌, ◌++◌, refl, ap}
 use Rattle.sv8_model.specs.Outside.{Outside}
-use Rattle.sv8_model.specs.Action.{Part, ram_word, console_input, interrupt_level, Touch, reads, writes, Action, done, load_word, store_word, load_byte, store_byte, take_input, count_waiting, emit, ask_level, mark_level, ◌>>=◌, result_of, after, touches}
+use Rattle.sv8_model.specs.Action.{ram_word, console_input, interrupt_level, reads, writes, Action, done, load_word, store_word, load_byte, store_byte, take_input, count_waiting, emit, ask_level, mark_level, ◌>>=◌, result_of, after, touches}
 
 pub result_of-then : {A B : Type 0} (a : Action A) (f : A → Action B) (o : Outside) → result_of (a >>= f) o ≡ result_of (f (result_of a o)) (after a o)
 unfolding ◌>>=◌

@@ -7,7 +7,7 @@ use Rattle.sv8_model.proofs.Actions.{result_of-then, after-then}
 
 -- one deed, and then another
 pub does_then : {A B : Type 0} (a : Action A) (f : A → Action B) (o o1 o2 : Outside) (x : A) (y : B) →
-  Does a o o1 x → Does (f x) o1 o2 y → Does (a >>= f) o o2 y
+    Does a o o1 x → Does (f x) o1 o2 y → Does (a >>= f) o o2 y
 does_then a f o o1 o2 x y p q =
     let r = result_of-then a f o in
     let s = after-then a f o in
@@ -22,7 +22,7 @@ does_done x y o e = record { result = e; outside = refl }
 
 -- a deed, and a function of what it led to
 pub does_map : {A B : Type 0} (a : Action A) (f : A → B) (o o1 : Outside) (x : A) (y : B) →
-  Does a o o1 x → y ≡ f x → Does (a >>= λ z. done (f z)) o o1 y
+    Does a o o1 x → y ≡ f x → Does (a >>= λ z. done (f z)) o o1 y
 does_map a f o o1 x y p e = does_then a (λ z. done (f z)) o o1 o1 x y p (does_done (f x) y o1 e)
 
 pub does_if_true : {A : Type 0} (b : Bool) (a c : Action A) (o o1 : Outside) (x : A) → b ≡ true → Does a o o1 x → Does (cond b a c) o o1 x

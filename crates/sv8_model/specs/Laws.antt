@@ -1,7 +1,7 @@
 -- How actions compose.
 use Rattle.std.specs.Prelude.{◌≡◌, ◌++◌}
 use Rattle.sv8_model.specs.Outside.{Outside}
-use Rattle.sv8_model.specs.Action.{Action, done, ◌>>=◌, result_of, after, touches}
+use Rattle.sv8_model.specs.Action.{Action, ◌>>=◌, result_of, after, touches}
 use Rattle.sv8_model.specs.Does.{Does}
 
 -- the second action starts from what the first led to, in the outside that it left; its touches follow those of the first

@@ -11,7 +11,7 @@ pub record Outside : Type 0 where
   -- whether each interrupt level is pending; level 0 is none
   pub pending : List Bool
 
--- the word of number k: the four bytes from address 4 * k on, the most significant first (section 6.2.1, big-endian)
+-- the word of number k: the four bytes from address 4 * k on, the most significant first (SPARC is big-endian)
 unfoldable pub word_of : List ℕ → ℕ → ℕ
 word_of ram k =
     slice_index ram (4 * k) * 2 ^ 24 + slice_index ram (4 * k + 1) * 2 ^ 16 + slice_index ram (4 * k + 2) * 2 ^ 8 + slice_index ram (4 * k + 3)

@@ -9,11 +9,9 @@ ghost use Rattle.sv8_model.specs.Laws.{ActionsCompose, DeedsCompose};
 /// what both touch, in order.
 pub fn actions_compose<A, B>()
     ensures { ActionsCompose A B }
-{
-}
+{}
 
 /// Code that does one action and then another does the two in sequence.
 pub fn deeds_compose<A, B>()
     ensures { DeedsCompose A B }
-{
-}
+{}

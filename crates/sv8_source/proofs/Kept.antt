@@ -1,12 +1,11 @@
 -- What the layout pass keeps of the lines.
-use Rattle.std.proofs.Common.{◌≡◌, ◌∙◌, ℕ, ℤ, ◌+◌, ◌-◌, take, drop, List, [], ◌∷◌, ◌++◌, Ok, Err, Result, map, sym, ap, refl, append_assoc, append-nil}
+use Rattle.std.proofs.Common.{◌≡◌, ◌∙◌, ℕ, ℤ, ◌+◌, ◌-◌, take, drop, List, [], ◌∷◌, ◌++◌, Ok, Err, Result, sym, refl, append_assoc, append-nil}
 use Rattle.std.proofs.lemmas.List.{map-append, take-map, drop-map}
 use Rattle.sv8_syntax.specs.declared.fault.LineFault.{LineFault}
 use Rattle.sv8_syntax.specs.declared.statement.Stmt.{Stmt}
 use Rattle.sv8_syntax.specs.Reading.{reading}
-use Rattle.sv8_source.specs.declared.fault.SourceFault.{SourceFault}
 use Rattle.sv8_source.specs.Fault.{after_line}
-use Rattle.sv8_source.specs.Layout.{Layout, Place, with_line, with_stmt, admitted, laid, start, on_ok}
+use Rattle.sv8_source.specs.Layout.{Layout, Place, with_line, with_stmt, admitted, laid, on_ok}
 use Rattle.sv8_source.specs.Text.{place_texts, replaced_lines}
 
 pub with_stmt-texts : (limit : ℕ) (text : List ℕ) (s : Stmt) (l next : Layout) → with_stmt limit text s l ≡ Ok next → place_texts next.places ≡ place_texts l.places ++ text ∷ []

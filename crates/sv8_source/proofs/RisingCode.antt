@@ -1,11 +1,8 @@
 -- The code of places that are spaced rises.
-use Rattle.std.proofs.Common.{◌≡◌, ◌∙◌, ℕ, ℤ, ◌+◌, ◌≤◌, List, [], ◌∷◌, ◌++◌, length, Result, Ok, Err, refl, sym, arith, append_assoc, append-nil, All}
+use Rattle.std.proofs.Common.{◌≡◌, ◌∙◌, ℕ, ℤ, ◌+◌, ◌≤◌, List, [], ◌∷◌, ◌++◌, length, Result, Ok, Err, refl, sym, arith, append_assoc, append-nil}
 use Rattle.sv8_syntax.specs.declared.fault.LineFault.{LineFault}
-use Rattle.sv8_syntax.specs.declared.statement.Stmt.{Stmt}
 use Rattle.sv8_asm.specs.Code.{bytes}
-use Rattle.sv8_asm.specs.Size.{size}
 use Rattle.sv8_asm.proofs.Sizes.{bytes_fit}
-use Rattle.sv8_source.specs.declared.fault.SourceFault.{SourceFault}
 use Rattle.sv8_source.specs.Fault.{after_line}
 use Rattle.sv8_source.specs.Layout.{Place, valued}
 use Rattle.sv8_source.specs.Listing.{ListedLine, shown}
@@ -34,7 +31,8 @@ valued_tail symbols n (p ∷ ps) done code from end e s = go (λ b g. valued_tai
       rest = b ∷ t.rest;
       joined = t.joined ∙ append_assoc done (b ∷ []) t.rest;
       many = omega (arith, t.many);
-      rises = (s.0, earlier (shown ps t.rest) (p.at + length b) (next_at p.stmt p.at) t.rises (let fits = bytes_fit p.stmt p.at symbols b s.1 g in omega (arith, fits))) }
+      rises = (s.0, earlier (shown ps t.rest) (p.at + length b) (next_at p.stmt p.at) t.rises (let fits = bytes_fit p.stmt p.at symbols b s.1 g in omega (arith, fits)));
+    }
 
 pub code_rises : (symbols : List (List ℕ × ℤ)) (ps : List Place) (code : List (List ℕ)) (end : ℕ) → valued symbols 1 ps [] ≡ Ok code → Spaced 0 ps end → Rising 0 (shown ps code)
 code_rises symbols ps code end e s = let t = valued_tail symbols 1 ps [] code 0 end e s in rw t.joined t.rises

@@ -1,5 +1,5 @@
 -- The image, read in a listing whose lines rise.
-use Rattle.std.proofs.Common.{◌≡◌, ◌∙◌, ℕ, zero, suc, ◌+◌, ◌-◌, ◌≤◌, ◌<◌, List, [], ◌∷◌, ◌++◌, length, Option, Some, None, Bool, true, false, cond, refl, sym, ap, add-one, arith, get_or, nat_le, nat_lt, ◌&&◌}
+use Rattle.std.proofs.Common.{◌≡◌, ◌∙◌, ℕ, zero, suc, ◌+◌, ◌-◌, ◌≤◌, ◌<◌, List, [], ◌∷◌, length, Some, Bool, true, false, cond, refl, sym, add-one, arith}
 use Rattle.std.specs.List.{slice_get, slice_index}
 use Rattle.std.proofs.lemmas.Bool.Decides.{nat_tests}
 use Rattle.std.proofs.lemmas.List.{get_or_past}
@@ -9,7 +9,7 @@ use Rattle.sv8_source.specs.Image.{covers, byte_at, Rising}
 not_above : (l : ListedLine) (a : ℕ) → a < l.address → covers l a ≡ false
 not_above l a h = grind (arith, nat_tests)
 
-not_below : (l : ListedLine) (a : ℕ) → l.address + length l.bytes ≤ a → covers l a ≡ false
+pub not_below : (l : ListedLine) (a : ℕ) → l.address + length l.bytes ≤ a → covers l a ≡ false
 not_below l a h = grind (arith, nat_tests)
 
 -- nothing stands below the first line
@@ -27,7 +27,7 @@ behind [] from k l r e = cc
 behind (m ∷ ls) from zero l r e = let same : m ≡ l = cc in rw (← same) r.0
 behind (m ∷ ls) from (suc k) l r e = let far = behind ls (m.address + length m.bytes) k l r.1 e in let near = r.0 in omega arith
 
-own : (l : ListedLine) (ls : List ListedLine) (a : ℕ) → l.address ≤ a → byte_at ls a ≡ 0 → byte_at (l ∷ ls) a ≡ slice_index l.bytes (a - l.address)
+pub own : (l : ListedLine) (ls : List ListedLine) (a : ℕ) → l.address ≤ a → byte_at ls a ≡ 0 → byte_at (l ∷ ls) a ≡ slice_index l.bytes (a - l.address)
 own l ls a low z = go (covers l a) refl
   where
     go : (b : Bool) → covers l a ≡ b → cond b (slice_index l.bytes (a - l.address)) (byte_at ls a) ≡ slice_index l.bytes (a - l.address)

@@ -1,5 +1,5 @@
 -- One more place.
-use Rattle.std.proofs.Common.{◌≡◌, ℕ, ◌+◌, ◌≤◌, List, [], ◌∷◌, ◌++◌, arith}
+use Rattle.std.proofs.Common.{ℕ, ◌≤◌, List, [], ◌∷◌, ◌++◌}
 use Rattle.sv8_source.specs.Layout.{Place, HasSize}
 use Rattle.sv8_source.specs.Spaced.{Spaced, next_at}
 

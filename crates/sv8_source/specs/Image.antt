@@ -10,14 +10,16 @@ use Rattle.sv8_source.specs.Text.{Text}
 abbrev pub covers : ListedLine → ℕ → Bool
 covers l a = nat_le l.address a && nat_lt a (l.address + length l.bytes)
 
--- the byte that a line places at an address, else 0
+-- the byte at an address: that of the line that places one there, and 0 where no line does
 abbrev pub byte_at : List ListedLine → ℕ → ℕ
 byte_at [] a = 0
 byte_at (l ∷ ls) a = if covers l a then slice_index l.bytes (a - l.address) else byte_at ls a
 
+-- the four bytes from an address on, the first the most significant
 unfoldable pub word_at : List ListedLine → ℕ → ℕ
 word_at ls a = from_be_bytes w32 (byte_at ls a ∷ byte_at ls (a + 1) ∷ byte_at ls (a + 2) ∷ byte_at ls (a + 3) ∷ [])
 
+-- the word at an address in two listings
 abbrev pub change_at : List ListedLine → List ListedLine → ℕ → Change
 change_at old new a = record { address = a; old = word_at old a; new = word_at new a }
 
@@ -28,7 +30,7 @@ changed old new k (suc n) =
     if word_at old (4 * k) == word_at new (4 * k) then changed old new (k + 1) n
     else change_at old new (4 * k) ∷ changed old new (k + 1) n
 
--- the words of an image of this size
+-- how many words an image of this size has, the last one perhaps in part
 abbrev pub words : ℕ → ℕ
 words limit = (limit + 3) / 4
 
@@ -37,7 +39,7 @@ abbrev pub Rising : ℕ → List ListedLine → Type 0
 Rising from [] = Unit {0}
 Rising from (l ∷ ls) = (from ≤ l.address) × Rising (l.address + length l.bytes) ls
 
--- the word of a source's image
+-- the word of a source's image at an address
 unfoldable pub image_word : Text → ℕ → ℕ
 image_word s a = word_at (listing s) a
 
@@ -49,7 +51,7 @@ image_byte s a = byte_at (listing s) a
 abbrev pub image_bytes : Text → ℕ → List ℕ
 image_bytes s n = map (image_byte s) (range_with_len 0 n)
 
--- the words of an edit that differ
+-- the words in which the images of two sources differ, in rising address
 unfoldable pub changes : Text → Text → List Change
 changes from to = changed (listing from) (listing to) 0 (words from.limit)
 

@@ -1,4 +1,4 @@
--- A line of the listing, without where it lies.
+-- A line of the listing as it is handed out, and what it stands for.
 use Rattle.sv8_source.specs.declared.source.Listed.{Listed}
 use Rattle.sv8_source.specs.Listing.{ListedLine}
 

@@ -1,4 +1,7 @@
-//! The layout pass and the value pass.
+//! The two passes over the lines of a source.
+//!
+//! The layout pass reads each line, gives its names their values and finds the location of each line. The value pass
+//! then assembles each line, now that all names are known, so that a line may use a name that a later one defines.
 
 ghost use Rattle.std.specs.Prelude.{◌≡◌, ℕ, ℤ, ◌+◌, ◌-◌, ◌^◌, ◌<◌, ◌⊎◌, List, [], ◌++◌, ◌∷◌, IsOk, IfOk, OnOk, MatchResult, Ok, Err, vec_items, length, pos, map, All};
 ghost use Rattle.sv8_asm.specs.Size.{size};
@@ -9,12 +12,13 @@ ghost use Rattle.sv8_source.specs.Listing.{shown};
 ghost use Rattle.sv8_source.specs.Image.{Rising};
 ghost use Rattle.sv8_source.specs.Text.{texts, place_texts};
 
-use crate::fault::{in_line, SourceFault};
+use crate::fault::{SourceFault, in_line};
 use std::alloc::{AllocError, Global};
 use std::marker::Model;
 use sv8_asm::{Symbols, assemble, size_of};
 use sv8_syntax::{LineFault, Name, Stmt, parse_line};
 
+/// A line with what it was read as, and the location before its statement.
 #[derive(Drop)]
 pub struct Placed {
     text: Vec<u8>,
@@ -64,6 +68,7 @@ impl Model for Laid {
     ghost invariant = { λ l. All HasSize l.places.items × Spaced 0 l.places.items l.at };
 }
 
+/// Gives a name its value, where no line above defines it.
 fn define(alloc: Global, name: &Name, value: i64, symbols: &mut Symbols) -> Result<(), LineFault>
     ensures { MatchResult result (λ _. define name.now value symbols.old ≡ Ok symbols.new)
         (λ e. (e ≡ LineFault.OutOfMemory) ⊎ (define name.now value symbols.old ≡ Err e)) }
@@ -74,7 +79,13 @@ fn define(alloc: Global, name: &Name, value: i64, symbols: &mut Symbols) -> Resu
     Err(LineFault::DuplicateLabel)
 }
 
-fn define_label(alloc: Global, label: &Option<Name>, at: u32, symbols: &mut Symbols) -> Result<(), LineFault>
+/// Gives a label the location before its line's statement.
+fn define_label(
+    alloc: Global,
+    label: &Option<Name>,
+    at: u32,
+    symbols: &mut Symbols,
+) -> Result<(), LineFault>
     ensures { MatchResult result (λ _. define_label label.now at symbols.old ≡ Ok symbols.new)
         (λ e. (e ≡ LineFault.OutOfMemory) ⊎ (define_label label.now at symbols.old ≡ Err e)) }
 {
@@ -87,6 +98,7 @@ fn define_label(alloc: Global, label: &Option<Name>, at: u32, symbols: &mut Symb
     }
 }
 
+/// The location behind so many bytes.
 fn moved(limit: u32, at: u32, size: u32) -> Result<u32, LineFault>
     ensures { result ≡ moved limit at size }
 {
@@ -103,7 +115,13 @@ fn moved(limit: u32, at: u32, size: u32) -> Result<u32, LineFault>
 
 /// The names of a statement are defined, and the location after it found.
 #[tactic(auto, unfolding(crate::specs::Layout::admitted))]
-fn admit(alloc: Global, limit: u32, at: u32, stmt: &Stmt, symbols: &mut Symbols) -> Result<u32, LineFault>
+fn admit(
+    alloc: Global,
+    limit: u32,
+    at: u32,
+    stmt: &Stmt,
+    symbols: &mut Symbols,
+) -> Result<u32, LineFault>
     ensures value { MatchResult result (λ next. admitted limit at stmt.now symbols.old ≡ Ok (symbols.new, next))
         (λ e. (e ≡ LineFault.OutOfMemory) ⊎ (admitted limit at stmt.now symbols.old ≡ Err e)) }
     ensures sized { IfOk result (λ _. IsOk (size stmt.now at)) }
@@ -115,6 +133,7 @@ fn admit(alloc: Global, limit: u32, at: u32, stmt: &Stmt, symbols: &mut Symbols)
     Ok(next)
 }
 
+/// The value pass over these lines.
 fn code_of(alloc: Global, places: &[Placed], symbols: &Symbols) -> Result<Vec<Vec<u8>>, SourceFault>
     requires many { length places.now < 2 ^ 32 - 1 }
     requires sized { All HasSize places.now }
@@ -146,13 +165,25 @@ impl Laid {
 
     /// One more line, of a statement.
     #[tactic(auto, using(crate::proofs::SpacedPlaces::Spaced_push), unfolding(crate::specs::Layout::with_stmt))]
-    fn add_stmt(&mut self, alloc: Global, limit: u32, text: &[u8], stmt: Stmt) -> Result<(), LineFault>
+    fn add_stmt(
+        &mut self,
+        alloc: Global,
+        limit: u32,
+        text: &[u8],
+        stmt: Stmt,
+    ) -> Result<(), LineFault>
         ensures { MatchResult result (λ _. with_stmt limit text.now stmt self.old ≡ Ok self.new)
             (λ e. (e ≡ LineFault.OutOfMemory) ⊎ (with_stmt limit text.now stmt self.old ≡ Err e)) }
     {
         let next = admit(alloc, limit, self.at, &stmt, &mut self.symbols)?;
         let text = Vec::from_slice(alloc, text)?;
-        self.places.push(Placed { text, stmt, at: self.at }).map_err(AllocError::from)?;
+        self.places
+            .push(Placed {
+                text,
+                stmt,
+                at: self.at,
+            })
+            .map_err(AllocError::from)?;
         self.at = next;
         Ok(())
     }
@@ -169,7 +200,13 @@ impl Laid {
     }
 
     /// The layout pass over lines, the first of which has this number.
-    pub fn add_lines(&mut self, alloc: Global, limit: u32, first: u32, lines: &[Vec<u8>]) -> Result<(), SourceFault>
+    pub fn add_lines(
+        &mut self,
+        alloc: Global,
+        limit: u32,
+        first: u32,
+        lines: &[Vec<u8>],
+    ) -> Result<(), SourceFault>
         requires { first + length lines.now < 2 ^ 32 }
         ensures value { MatchResult result (λ _. laid limit first (texts lines.now) self.old ≡ Ok self.new)
             (λ e. (e ≡ SourceFault.OutOfMemory) ⊎ (laid limit first (texts lines.now) self.old ≡ Err e)) }

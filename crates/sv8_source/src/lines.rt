@@ -6,6 +6,7 @@ ghost use Rattle.sv8_source.specs.Text.{texts, place_texts};
 use crate::laid::Placed;
 use std::alloc::{AllocError, Global};
 
+/// Puts copies of lines behind others.
 fn push_lines(alloc: Global, all: &mut Vec<Vec<u8>>, lines: &[Vec<u8>]) -> Result<(), AllocError>
     ensures { OnOk result (texts all.new.items ≡ texts all.old.items ++ texts lines.now) }
 {
@@ -15,6 +16,7 @@ fn push_lines(alloc: Global, all: &mut Vec<Vec<u8>>, lines: &[Vec<u8>]) -> Resul
     Ok(())
 }
 
+/// Puts copies of the texts of placed lines behind others.
 fn push_places(alloc: Global, all: &mut Vec<Vec<u8>>, places: &[Placed]) -> Result<(), AllocError>
     ensures { OnOk result (texts all.new.items ≡ texts all.old.items ++ place_texts places.now) }
 {
@@ -24,7 +26,7 @@ fn push_places(alloc: Global, all: &mut Vec<Vec<u8>>, places: &[Placed]) -> Resu
     Ok(())
 }
 
-/// The three lists, one after the other.
+/// The lines of the three lists, one list after the other.
 pub fn joined(
     alloc: Global,
     front: &[Placed],

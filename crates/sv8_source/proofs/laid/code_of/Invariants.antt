@@ -1,4 +1,4 @@
-use Rattle.std.proofs.Common.{◌≡◌, ◌+◌, drop, map, []}
+use Rattle.std.proofs.Common.{◌≡◌, ◌+◌, drop, []}
 use Rattle.sv8_source.specs.Layout.{valued}
 use Rattle.sv8_source.specs.Text.{texts}
 use Rattle.sv8_source.proofs.laid.code_of.Given as goal
@@ -6,5 +6,5 @@ use Rattle.sv8_source.proofs.laid.code_of.Given as goal
 abbrev pub invariant-loop-place : goal.invariant-loop-place
 invariant-loop-place l = record {
   number : l.number ≡ 1 + l.place-index;
-  rest : valued l.symbols l.number (drop l.place-index l.places) (texts l.code.items) ≡ valued l.symbols 1 l.places []
+  rest : valued l.symbols l.number (drop l.place-index l.places) (texts l.code.items) ≡ valued l.symbols 1 l.places [];
 }

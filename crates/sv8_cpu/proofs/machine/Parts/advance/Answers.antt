@@ -1,4 +1,4 @@
-use Rattle.std.proofs.Common.{◌≡◌, ap, sym, ◌∙◌, refl}
+use Rattle.std.proofs.Common.{ap, sym, refl}
 use Rattle.sv8_cpu.specs.Processor.{Processor}
 use Rattle.sv8_cpu.proofs.Steps.{action_none, action_skips, action_by}
 use Rattle.sv8_cpu.proofs.machine.Parts.advance.Goals as goal

@@ -1,6 +1,5 @@
-use Rattle.std.proofs.Common.{rules, ◌≡◌, ◌∙◌, sym, [], Ok, drop}
+use Rattle.std.proofs.Common.{sym}
 use Rattle.sv8_source.specs.Text.{texts}
-use Rattle.sv8_source.specs.Layout.{laid}
 use Rattle.sv8_source.proofs.Kept.{laid-texts}
 use Rattle.std.proofs.Math.ListN.{drop_of_length-le}
 use Rattle.sv8_source.proofs.laid.Laid.add_lines.Goals as goal
