@@ -1,3 +1,4 @@
 pub mod Keys
 pub mod Gathering
 pub mod Sizes
+pub mod Decodes

@@ -2,11 +2,16 @@
 
 ghost use Rattle.std.specs.Prelude.{◌≡◌, Ok, Err, codes, pos, [], ◌∷◌};
 ghost use Rattle.sv8_syntax.specs.declared.fault.LineFault.TheVariants.{UnknownName, OutOfRange, BadAlignment};
-ghost use Rattle.sv8_asm.specs.Laws.{BytesFitSize, line_bytes};
+ghost use Rattle.sv8_asm.specs.Laws.{BytesFitSize, InstructionsDecode, line_bytes};
 
 /// What a statement places does not reach beyond the location behind it.
 pub fn bytes_fit_size()
     ensures { BytesFitSize }
+{}
+
+/// The word that is placed for an instruction stands for that instruction.
+pub fn instructions_decode()
+    ensures { InstructionsDecode }
 {}
 
 /// Lines that are worked out, with their words as another assembler gives them: the first instructions of a program,
