@@ -1,4 +1,4 @@
--- The processor: its registers, its two program counters, the annul flag, and whether it runs (chapter 4; section 7.1 for error mode).
+-- The processor: its registers, its two program counters, the annul flag, and whether it runs (chapter 4; chapter 7 for error mode).
 use Rattle.std.specs.Prelude.{ℕ, Bool, true, false}
 use Rattle.sv8_isa.specs.declared.instr.Operand.{Operand}
 use Rattle.sv8_isa.specs.declared.instr.Operand.TheVariants.{Register, Immediate}
@@ -36,6 +36,6 @@ with_result windows p rd value = advanced (record p { registers = write windows 
 unfoldable pub slot_skipped : Processor → Processor
 slot_skipped p = advanced (record p { annul = false })
 
--- a trap with ET = 0: the processor enters error mode (section 7.1)
+-- a trap with ET = 0: the processor enters error mode (chapter 7)
 abbrev pub stopped : Processor → Processor
 stopped p = record p { running = false }
