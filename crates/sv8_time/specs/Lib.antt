@@ -1,0 +1,5 @@
+pub mod Order
+pub mod Schedule
+pub mod Marks
+pub mod Inputs
+pub mod Timeline

@@ -1,0 +1,17 @@
+//! The timeline of the outside events of a machine: pokes, input bytes and interrupt requests by step.
+#![tactic(auto)]
+
+mod fault;
+mod inputs;
+mod marks;
+mod order;
+mod pokes;
+mod requests;
+#[cfg(test)]
+mod tests;
+mod timeline;
+
+pub use fault::TimeFault;
+pub use pokes::Poke;
+pub use requests::Request;
+pub use timeline::{Events, LAST_STEP, MOST_BYTES, MOST_EVENTS, Timeline};
