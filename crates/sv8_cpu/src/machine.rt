@@ -3,7 +3,7 @@
 ghost use Rattle.std.specs.Prelude.{◌≡◌, ℕ, ◌<◌, ◌≤◌, ◌%◌, ◌/◌, length, IfOk};
 ghost use Rattle.sv8_cpu.specs.Word.{levels_word};
 ghost use Rattle.sv8_isa.specs.Registers.{HasRegisters};
-ghost use Rattle.sv8_model.specs.Does.{Does};
+ghost use Rattle.sv8_model.specs.Does.{DoesUnnoted};
 ghost use Rattle.sv8_model.specs.Outside.{word_of};
 ghost use Rattle.sv8_cpu.specs.State.{ram_size, reset_state};
 ghost use Rattle.sv8_cpu.specs.Instruction.{raised, taken};
@@ -54,7 +54,7 @@ impl<const NW: usize, const PAGES: usize> Parts<NW, PAGES> {
     #[inline(always)]
     fn execute(&mut self, instr: Instr)
         requires { HasRegisters instr }
-        ensures { Does (executed NW (ram_size PAGES) (inner_of self.old) instr (taken (raised instr))) self.old.memory self.new.memory (inner_of self.new) }
+        ensures { DoesUnnoted (executed NW (ram_size PAGES) (inner_of self.old) instr (taken (raised instr))) self.old.memory self.new.memory (inner_of self.new) }
     {
         match raised_by(instr) {
             Some(trap) => self.processor.take(trap),
@@ -68,7 +68,7 @@ impl<const NW: usize, const PAGES: usize> Parts<NW, PAGES> {
     /// Fetches the instruction at PC and carries it out.
     #[inline(always)]
     fn run_instruction(&mut self)
-        ensures { Does (instruction NW (ram_size PAGES) (inner_of self.old)) self.old.memory self.new.memory (inner_of self.new) }
+        ensures { DoesUnnoted (instruction NW (ram_size PAGES) (inner_of self.old)) self.old.memory self.new.memory (inner_of self.new) }
     {
         let request = Request::Fetch {
             supervisor: self.processor.registers().psr().s,
@@ -83,7 +83,7 @@ impl<const NW: usize, const PAGES: usize> Parts<NW, PAGES> {
     /// Makes one step: nothing in error mode, the annulled slot passed over, or one instruction.
     #[inline(always)]
     fn advance(&mut self)
-        ensures { Does (action NW (ram_size PAGES) (inner_of self.old)) self.old.memory self.new.memory (inner_of self.new) }
+        ensures { DoesUnnoted (action NW (ram_size PAGES) (inner_of self.old)) self.old.memory self.new.memory (inner_of self.new) }
     {
         if !self.processor.is_running() {
             return;

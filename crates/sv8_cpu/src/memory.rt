@@ -2,7 +2,7 @@
 
 ghost use Rattle.std.specs.Prelude.{◌≡◌, ℕ, ◌+◌, ◌*◌, ◌%◌, ◌/◌, ◌≤◌, ◌<◌, ◌^◌, length, IfOk};
 ghost use Rattle.sv8_model.specs.Outside.{word_of};
-ghost use Rattle.sv8_model.specs.Does.{Does};
+ghost use Rattle.sv8_model.specs.Does.{DoesUnnoted};
 ghost use Rattle.sv8_cpu.specs.Word.{levels_word};
 ghost use Rattle.sv8_cpu.specs.Access.{access, IsAligned};
 ghost use Rattle.sv8_cpu.specs.State.{ram_size, empty_outside, loaded_ram};
@@ -46,7 +46,7 @@ impl<const PAGES: usize> Memory<PAGES> {
     #[tactic(auto, unfolding(crate::specs::Access::access))]
     pub fn access(&self, request: Request) -> Response
         requires { IsAligned request }
-        ensures { Does (access (ram_size PAGES) request) self.now self.now result }
+        ensures { DoesUnnoted (access (ram_size PAGES) request) self.now self.now result }
     {
         match request {
             Request::Nothing => Response::Values { high: 0, low: 0 },

@@ -6,7 +6,7 @@ use Rattle.sv8_cpu.proofs.machine.Parts.execute.Goals as goal
 
 pub returns-in-Some : goal.returns-in-Some
 returns-in-Some g c =
-    rw (← c.in-Some.ensures) (does_done _ _ _ (ap (λ (p : Processor). record { processor = p; mmu = c.args.self.now.mmu; timer = c.args.self.now.timer }) c.take.ensures))
+    rw (← c.in-Some.ensures) (does_done _ _ _ _ _ (ap (λ (p : Processor). record { processor = p; mmu = c.args.self.now.mmu; timer = c.args.self.now.timer }) c.take.ensures))
 
 pub returns-in-Refused : goal.returns-in-Refused
 returns-in-Refused g c =
