@@ -1,0 +1,120 @@
+-- Deeds in RAM and at devices, put together.
+use Rattle.std.proofs.Common.{arith, ◌≡◌, ◌<◌, ◌≤◌, ℕ, ◌+◌, ◌*◌, ◌/◌, ◌%◌, ◌^◌, Bool, true, false, not, cond, nat_lt, List, [], ◌∷◌, ◌++◌, Result, Ok, Err, ◌==◌, ◌≢◌, inl, inr, ◌-◌, refl, sym, ap, ◌∙◌}
+use Rattle.std.proofs.lemmas.Bool.{lt-ltb, le-ltb}
+use Rattle.std.proofs.lemmas.Bool.Decides.{eqb_tells}
+use Rattle.sv8_model.specs.Outside.{Outside}
+use Rattle.sv8_model.specs.Action.{Action, Touch, done, mark_level, ◌>>=◌, result_of, after, touches}
+use Rattle.sv8_model.specs.Does.{Does, kept}
+use Rattle.sv8_model.proofs.Deeds.{does_then, does_map, does_done, does_if_true, does_if_false}
+use Rattle.sv8_phys.specs.declared.size.Size.{Size}
+use Rattle.sv8_phys.specs.declared.size.Size.TheVariants.{Byte, Half, Word, Double}
+use Rattle.sv8_phys.specs.declared.timer.Timer.{Timer}
+use Rattle.sv8_phys.specs.declared.fault.BusError.{BusError}
+use Rattle.sv8_phys.specs.Memory.{bytes_in, value_at, with_value}
+use Rattle.sv8_phys.specs.Devices.{ram_load, ram_store, load, store, answered, outside_load, outside_store, device_load, device_store, no_answer, output_address, count_address, reload_address, pending_address, Stored, stored_with, tick}
+use Rattle.sv8_phys.specs.Levels.{asked, cleared}
+use Rattle.sv8_phys.specs.Pending.{without_levels}
+use Rattle.sv8_phys.proofs.LevelActions.{does-cleared}
+use Rattle.sv8_phys.specs.Notes.{level_reads, load_touches, store_touches}
+
+-- ---- RAM
+
+-- a load of what stands in RAM, with its notes
+pub ram_loads : (keeps : Bool) (size : Size) (a : ℕ) (o : Outside) (v : ℕ) (ts ts1 : List Touch)
+    → v ≡ value_at size a o.ram → ts1 ≡ ts ++ kept keeps (load_touches size a) → Does keeps (ram_load size a) o o v ts ts1
+unfolding value_at
+ram_loads keeps Byte a o v ts ts1 e n = record { result = e; outside = refl; noted = n }
+ram_loads keeps Half a o v ts ts1 e n = record { result = e; outside = refl; noted = n }
+ram_loads keeps Word a o v ts ts1 e n = record { result = e; outside = refl; noted = n }
+ram_loads keeps Double a o v ts ts1 e n = record { result = e; outside = refl; noted = n }
+
+-- a store that leaves in RAM what it should, with its notes
+pub ram_stores : {R : Type 0} (keeps : Bool) (size : Size) (a v : ℕ) (x : R) (o o1 : Outside) (ts ts1 : List Touch)
+    → o1 ≡ record o { ram = with_value size a v o.ram } → ts1 ≡ ts ++ kept keeps (store_touches size a) → Does keeps (ram_store size a v x) o o1 x ts ts1
+unfolding with_value
+ram_stores keeps Byte a v x o o1 ts ts1 e n = record { result = refl; outside = e; noted = n }
+ram_stores keeps Half a v x o o1 ts ts1 e n = record { result = refl; outside = e; noted = n }
+ram_stores keeps Word a v x o o1 ts ts1 e n = record { result = refl; outside = e; noted = n }
+ram_stores keeps Double a v x o o1 ts ts1 e n = record { result = refl; outside = e; noted = n }
+
+-- ---- the whole
+
+module _ (keeps : Bool) (limit : ℕ) (timer : Timer) (size : Size) (a : ℕ) (ts ts1 : List Touch) where
+  pub load_in_ram : (o : Outside) (v : ℕ) → a < limit → Does keeps (ram_load size a) o o v ts ts1 → Does keeps (load limit timer size a) o o (Ok v) ts ts1
+  load_in_ram o v below h =
+      does_if_true keeps (nat_lt a limit) (ram_load size a >>= answered) (outside_load timer size a) o o (Ok v) ts ts1 (lt-ltb a limit below)
+      (does_map keeps (ram_load size a) (λ w. Ok w) o o v (Ok v) ts ts1 h refl)
+
+  pub load_outside : (o : Outside) (r : Result ℕ BusError) → limit ≤ a → Does keeps (outside_load timer size a) o o r ts ts1 → Does keeps (load limit timer size a) o o r ts ts1
+  load_outside o r above h = does_if_false keeps (nat_lt a limit) (ram_load size a >>= answered) (outside_load timer size a) o o r ts ts1 (le-ltb a limit above) h
+
+  pub store_in_ram : (v : ℕ) (o o1 : Outside) (x : Stored) → a < limit → Does keeps (ram_store size a v (stored_with timer)) o o1 x ts ts1 → Does keeps (store limit timer size a v) o o1 x ts ts1
+  store_in_ram v o o1 x below h =
+      does_if_true keeps (nat_lt a limit) (ram_store size a v (stored_with timer)) (outside_store timer size a v) o o1 x ts ts1 (lt-ltb a limit below) h
+
+  pub store_outside : (v : ℕ) (o o1 : Outside) (x : Stored) → limit ≤ a → Does keeps (outside_store timer size a v) o o1 x ts ts1 → Does keeps (store limit timer size a v) o o1 x ts ts1
+  store_outside v o o1 x above h =
+      does_if_false keeps (nat_lt a limit) (ram_store size a v (stored_with timer)) (outside_store timer size a v) o o1 x ts ts1 (le-ltb a limit above) h
+
+-- ---- devices
+
+-- two numbers that differ
+pub not_eqb : (a b : ℕ) → a ≢ b → (a == b) ≡ false
+not_eqb a b apart = elim (eqb_tells a b) [
+  | inl same ↦ absurd (apart same.1)
+  | inr other ↦ other.0
+]
+
+module _ (keeps : Bool) (timer : Timer) (o : Outside) (ts : List Touch) where
+  pub output_load : Does keeps (device_load timer output_address) o o (Ok 0) ts ts
+  unfolding device_load
+  output_load = does_done keeps (Ok 0) (Ok 0) o ts refl
+
+  pub count_load : (v : ℕ) → v ≡ timer.count → Does keeps (device_load timer count_address) o o (Ok v) ts ts
+  unfolding device_load
+  count_load v e = does_done keeps (Ok timer.count) (Ok v) o ts (ap (λ w. Ok w) e)
+
+  pub reload_load : (v : ℕ) → v ≡ timer.reload → Does keeps (device_load timer reload_address) o o (Ok v) ts ts
+  unfolding device_load
+  reload_load v e = does_done keeps (Ok timer.reload) (Ok v) o ts (ap (λ w. Ok w) e)
+
+  pub pending_load : (w v : ℕ) (ts1 : List Touch) → v ≡ w → Does keeps (asked 0xfffe) o o w ts ts1 → Does keeps (device_load timer pending_address) o o (Ok v) ts ts1
+  unfolding device_load
+  pending_load w v ts1 e h = does_map keeps (asked 0xfffe) (λ x. Ok x) o o w (Ok v) ts ts1 h (ap (λ x. Ok x) e)
+
+  pub no_load : (a : ℕ) → a ≢ output_address → a ≢ count_address → a ≢ reload_address → a ≢ pending_address → Does keeps (device_load timer a) o o (Err no_answer) ts ts
+  unfolding device_load
+  no_load a e1 e2 e3 e4 =
+      rw (not_eqb a output_address e1, not_eqb a count_address e2, not_eqb a reload_address e3, not_eqb a pending_address e4) (does_done keeps (Err no_answer) (Err no_answer) o ts refl)
+
+module _ (keeps : Bool) (timer : Timer) (v : ℕ) (o o1 : Outside) (ts ts1 : List Touch) where
+  pub pending_store : (w : ℕ) (t : Timer) → w ≡ v % 2 ^ 32 → t ≡ timer → Does keeps (cleared w (done (stored_with timer))) o o1 (stored_with timer) ts ts1
+      → Does keeps (device_store timer pending_address v) o o1 (stored_with t) ts ts1
+  unfolding device_store
+  pending_store w t low e h = rw (e, ← low) h
+
+-- levels that are no longer pending, in an outside that is otherwise as it was
+pub clears : {R : Type 0} (keeps : Bool) (word : ℕ) (x : R) (ps : List Bool) (o o1 : Outside) (ts ts1 : List Touch)
+    → ps ≡ without_levels word o.pending → o1 ≡ record o { pending = ps } → ts1 ≡ ts ++ kept keeps (level_reads 15 0xfffe) → Does keeps (cleared word (done x)) o o1 x ts ts1
+clears keeps word x ps o o1 ts ts1 h same n = rw same (does-cleared keeps word x ps o ts ts1 h n)
+
+-- ---- the timer
+
+module _ (keeps : Bool) (timer : Timer) (o : Outside) (ts : List Touch) where
+  pub tick_none : timer.count ≡ 0 → Does keeps (tick timer) o o timer ts ts
+  unfolding tick
+  tick_none e = does_if_true keeps (timer.count == 0) (done timer) _ o o timer ts ts (rw e refl) (does_done keeps timer timer o ts refl)
+
+  pub tick_last : (o1 : Outside) (t : Timer) (ts1 : List Touch) → timer.count ≡ 1
+      → Does keeps (mark_level 10 (done (record timer { count = timer.reload }))) o o1 t ts ts1 → Does keeps (tick timer) o o1 t ts ts1
+  unfolding tick
+  tick_last o1 t ts1 e h =
+      does_if_false keeps (timer.count == 0) (done timer) _ o o1 t ts ts1 (rw e refl)
+      (does_if_true keeps (timer.count == 1) (mark_level 10 (done (record timer { count = timer.reload }))) _ o o1 t ts ts1 (rw e refl) h)
+
+  pub tick_down : (o1 : Outside) (t : Timer) → 1 < timer.count → t ≡ record timer { count = timer.count - 1 } → o1 ≡ o → Does keeps (tick timer) o o1 t ts ts
+  unfolding tick
+  tick_down o1 t above e same =
+      rw same (does_if_false keeps (timer.count == 0) (done timer) _ o o t ts ts (not_eqb timer.count 0 (omega arith))
+      (does_if_false keeps (timer.count == 1) (mark_level 10 (done (record timer { count = timer.reload }))) _ o o t ts ts (not_eqb timer.count 1 (omega arith))
+      (does_done keeps (record timer { count = timer.count - 1 }) t o ts e)))

@@ -1,0 +1,17 @@
+use Rattle.std.proofs.Common.{ap, ◌∙◌, ◌*◌, ◌^◌, ◌%◌, true, set, bit_or, arith}
+use Rattle.sv8_phys.specs.Levels.{bit}
+use Rattle.sv8_phys.specs.Pending.{levels_of_word}
+use Rattle.sv8_phys.proofs.PendingLevels.{are_levels, shifted_one, requested, requested_zero}
+use Rattle.sv8_phys.proofs.levels.Pending.request.Goals as goal
+
+pub invariant_of-self : goal.invariant_of-self
+invariant_of-self c =
+    ap (λ n. bit (bit_or c.self.inside.levels n) 0) (shifted_one c.args.level c.requires.high) ∙ requested_zero c.self.inside.levels c.args.level c.requires.low c.self.invariant
+
+pub returns-clause-value : goal.returns-clause-value
+returns-clause-value c =
+    ap (λ n. levels_of_word (bit_or c.self.inside.levels n)) (shifted_one c.args.level c.requires.high) ∙ requested c.self.inside.levels c.args.level (omega arith)
+    ∙ ap (λ ps. set ps c.args.level true) c.self.view_is
+
+pub returns-clause-shape : goal.returns-clause-shape
+returns-clause-shape c = are_levels (bit_or c.self.inside.levels (1 * 2 ^ c.args.level % 65536)) (invariant_of-self c)

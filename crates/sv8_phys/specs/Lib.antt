@@ -1,0 +1,9 @@
+pub mod Memory
+pub mod Pages
+pub mod Chunks
+pub mod Levels
+pub mod Pending
+pub mod Contents
+pub mod Devices
+pub mod Notes
+pub mod Laws

@@ -1,0 +1,80 @@
+//! The pending interrupt levels.
+
+ghost use Rattle.std.specs.Prelude.{◌≡◌, ℕ, ◌≤◌, true, false, replicate, slice_set};
+ghost use Rattle.sv8_model.specs.Outside.{Outside};
+ghost use Rattle.sv8_model.specs.Action.{done, result_of, after};
+ghost use Rattle.sv8_phys.specs.Levels.{levels_word, asked, cleared};
+ghost use Rattle.sv8_phys.specs.Pending.{AreLevels, without_levels};
+
+use std::marker::Model;
+
+/// Which interrupt levels from 1 to 15 are pending: a word with bit l for level l, in which bit 0 is never set.
+#[derive(Drop)]
+pub(crate) struct Pending {
+    levels: u16,
+}
+
+impl Model for Pending {
+    ghost use Rattle.std.specs.Prelude.{◌≡◌, List, Bool, false};
+    ghost use Rattle.sv8_phys.specs.Levels.{bit};
+    ghost use Rattle.sv8_phys.specs.Pending.{levels_of_word};
+
+    ghost Value = { List Bool };
+
+    ghost view = { λ p. levels_of_word p.levels };
+
+    ghost invariant = { λ p. bit p.levels 0 ≡ false };
+}
+
+impl Pending {
+    /// No level is pending.
+    pub(crate) fn new() -> Self
+        ensures value { result ≡ replicate 16 false }
+        ensures shape { AreLevels result }
+    {
+        Pending { levels: 0 }
+    }
+
+    /// The same levels.
+    pub(crate) fn snapshot(&self) -> Self
+        ensures value { result ≡ self.now }
+        ensures shape { AreLevels self.now }
+    {
+        Pending {
+            levels: self.levels,
+        }
+    }
+
+    /// The word with bit l set where level l is pending.
+    pub(crate) fn word(&self) -> u32
+        ensures { result ≡ levels_word self.now }
+    {
+        u32::from(self.levels)
+    }
+
+    /// Makes a level pending.
+    pub(crate) fn request(&mut self, level: u32)
+        requires low { 1 ≤ level }
+        requires high { level ≤ 15 }
+        ensures value { self.new ≡ slice_set self.old level true }
+        ensures shape { AreLevels self.new }
+    {
+        self.levels |= 1 << level;
+    }
+
+    /// Those levels of a word, bit l for level l, that are pending. Bit 0 is ignored.
+    pub(crate) fn asked(&self, levels: u16) -> u32
+        ensures { (o : Outside) → o.pending ≡ self.now → result ≡ result_of (asked levels) o }
+    {
+        u32::from(self.levels & levels)
+    }
+
+    /// The levels of a word, bit l for level l, are no longer pending. Other bits than those of levels 1 to 15 are ignored.
+    pub(crate) fn clear(&mut self, levels: u32)
+        ensures value { self.new ≡ without_levels levels self.old }
+        ensures action { (o : Outside) (x : ℕ) → o.pending ≡ self.old → after (cleared levels (done x)) o ≡ record o { pending = self.new } }
+        ensures shape { AreLevels self.new }
+    {
+        self.levels = (u32::from(self.levels) & !levels) as u16;
+    }
+}

@@ -1,0 +1,26 @@
+//! Physical memory: RAM in pages that snapshots share, the console, the timer and the pending interrupt levels.
+#![tactic(auto)]
+
+mod chunk;
+mod fault;
+mod group;
+pub mod laws;
+mod levels;
+mod output;
+mod page;
+mod phys;
+mod ram;
+mod size;
+mod step_touches;
+#[cfg(test)]
+mod tests;
+mod timer;
+mod touch;
+
+pub use fault::BusError;
+pub use page::Page;
+pub use phys::{INPUT, OUTPUT, PENDING, Phys, TIMER_COUNT, TIMER_RELOAD, WAITING};
+pub use size::Size;
+pub use step_touches::StepTouches;
+pub use timer::Timer;
+pub use touch::{NoTouches, Touch, Touches};

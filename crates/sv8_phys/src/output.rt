@@ -1,0 +1,214 @@
+//! The bytes that the console has put out.
+
+ghost use Rattle.std.specs.Prelude.{◌≡◌, ℕ, ◌+◌, ◌<◌, ◌≤◌, List, [], ◌∷◌, ◌++◌, IfOk, OnOk, OnErr};
+ghost use Rattle.sv8_phys.specs.Chunks.{chunk_bytes, tail_bytes, output_bytes};
+
+use crate::chunk::{CHUNK_BYTES, Chunk, write};
+use std::alloc::{AllocError, Global};
+use std::marker::Model;
+use std::rc::Rc;
+
+/// The chunk that is being filled, and how many of its bytes were put out.
+#[derive(Drop)]
+struct Tail {
+    chunk: Rc<Chunk>,
+    count: usize,
+}
+
+/// The bytes put out so far.
+///
+/// Each snapshot of a machine has them, so snapshots share them: full chunks never change, their list is copied only
+/// where a chunk is added while a snapshot has the list too, and the tail only where a byte is put into it while a
+/// snapshot has it too. A snapshot takes two handles, whatever was put out, and a machine that puts nothing out has no
+/// chunk at all.
+#[derive(Drop)]
+pub(crate) struct Output {
+    alloc: Global,
+    full: Rc<Vec<Rc<Chunk>>>,
+    tail: Option<Tail>,
+}
+
+impl Model for Output {
+    ghost use Rattle.std.specs.Prelude.{List, ℕ};
+    ghost use Rattle.sv8_phys.specs.Chunks.{output_bytes, IsWithin};
+
+    ghost Value = { List ℕ };
+
+    ghost view = { λ o. output_bytes o.full.value.items o.tail };
+
+    ghost invariant = { λ o. IsWithin o.tail };
+}
+
+/// A tail of one byte.
+#[tactic(auto, using(crate::proofs::ChunkLemmas::first_byte))]
+fn tail_of(alloc: Global, byte: u8) -> Result<Tail, AllocError>
+    ensures value { IfOk result (λ tail. tail_bytes tail ≡ byte ∷ []) }
+    ensures count { IfOk result (λ tail. tail.count ≤ 4096) }
+{
+    let chunk = Chunk::starting_with(alloc, byte)?;
+    Ok(Tail { chunk, count: 1 })
+}
+
+/// Puts a byte into a tail that has room for it.
+fn put(tail: &mut Tail, byte: u8) -> Result<(), AllocError>
+    requires { tail.old.count < 4096 }
+    ensures ok { OnOk result (tail_bytes tail.new ≡ tail_bytes tail.old ++ byte ∷ []) }
+    ensures err { OnErr result (tail_bytes tail.new ≡ tail_bytes tail.old) }
+    ensures count { tail.new.count ≤ 4096 }
+{
+    write(&mut tail.chunk, tail.count, byte)?;
+    tail.count += 1;
+    Ok(())
+}
+
+/// Adds a full chunk.
+fn add(full: &mut Rc<Vec<Rc<Chunk>>>, chunk: Rc<Chunk>) -> Result<(), AllocError>
+    ensures ok { OnOk result (chunk_bytes full.new.value.items ≡ chunk_bytes full.old.value.items ++ chunk.value.bytes) }
+    ensures err { OnErr result (chunk_bytes full.new.value.items ≡ chunk_bytes full.old.value.items) }
+{
+    let chunks = Rc::make_mut(full)?;
+    chunks.push(chunk)?;
+    Ok(())
+}
+
+/// Adds the chunk of a full tail, and puts a byte into a tail of its own.
+fn put_in_next(
+    full: &mut Rc<Vec<Rc<Chunk>>>,
+    tail: &mut Tail,
+    alloc: Global,
+    byte: u8,
+) -> Result<(), AllocError>
+    requires { tail.old.count ≡ 4096 }
+    ensures ok { OnOk result (chunk_bytes full.new.value.items ++ tail_bytes tail.new ≡ chunk_bytes full.old.value.items ++ tail_bytes tail.old ++ byte ∷ []) }
+    ensures err { OnErr result (chunk_bytes full.new.value.items ++ tail_bytes tail.new ≡ chunk_bytes full.old.value.items ++ tail_bytes tail.old) }
+    ensures count { tail.new.count ≤ 4096 }
+{
+    let next = tail_of(alloc, byte)?;
+    add(full, tail.chunk.clone()?)?;
+    *tail = next;
+    Ok(())
+}
+
+/// Puts a byte behind those of full chunks and of a tail.
+fn put_behind(
+    full: &mut Rc<Vec<Rc<Chunk>>>,
+    tail: &mut Tail,
+    alloc: Global,
+    byte: u8,
+) -> Result<(), AllocError>
+    requires { tail.old.count ≤ 4096 }
+    ensures ok { OnOk result (chunk_bytes full.new.value.items ++ tail_bytes tail.new ≡ chunk_bytes full.old.value.items ++ tail_bytes tail.old ++ byte ∷ []) }
+    ensures err { OnErr result (chunk_bytes full.new.value.items ++ tail_bytes tail.new ≡ chunk_bytes full.old.value.items ++ tail_bytes tail.old) }
+    ensures count { tail.new.count ≤ 4096 }
+{
+    if tail.count < CHUNK_BYTES {
+        put(tail, byte)?;
+        return Ok(());
+    }
+    put_in_next(full, tail, alloc, byte)?;
+    Ok(())
+}
+
+/// The same tail, whose chunk is shared.
+fn share(tail: &Tail) -> Result<Tail, AllocError>
+    ensures value { IfOk result (λ copy. tail_bytes copy ≡ tail_bytes tail.now) }
+    ensures count { IfOk result (λ copy. copy.count ≡ tail.now.count) }
+{
+    let chunk = tail.chunk.clone()?;
+    Ok(Tail {
+        chunk,
+        count: tail.count,
+    })
+}
+
+/// Copies the bytes of full chunks behind some bytes.
+fn copy_full(full: &[Rc<Chunk>], bytes: &mut Vec<u8>) -> Result<(), AllocError>
+    ensures { OnOk result (bytes.new.items ≡ bytes.old.items ++ chunk_bytes full.now) }
+{
+    for chunk in full {
+        bytes.extend_from_slice(&chunk.bytes)?;
+    }
+    Ok(())
+}
+
+/// Copies the bytes of a tail behind some bytes.
+fn copy_tail(tail: &Tail, bytes: &mut Vec<u8>) -> Result<(), AllocError>
+    requires { tail.now.count ≤ 4096 }
+    ensures { OnOk result (bytes.new.items ≡ bytes.old.items ++ tail_bytes tail.now) }
+{
+    let (filled, _) = tail.chunk.bytes.split_at(tail.count);
+    bytes.extend_from_slice(filled)?;
+    Ok(())
+}
+
+impl Output {
+    /// Nothing is put out yet.
+    ///
+    /// # Errors
+    ///
+    /// `AllocError` where memory for the empty list of chunks cannot be had.
+    pub(crate) fn new(alloc: Global) -> Result<Self, AllocError>
+        ensures { IfOk result (λ output. output ≡ []) }
+    {
+        let full = Rc::new(alloc, Vec::new(alloc))?;
+        Ok(Output {
+            alloc,
+            full,
+            tail: None,
+        })
+    }
+
+    /// Puts a byte out.
+    ///
+    /// # Errors
+    ///
+    /// `AllocError` where a chunk, or a copy of one that is shared, cannot be had. The output is then as it was.
+    pub(crate) fn push(&mut self, byte: u8) -> Result<(), AllocError>
+        ensures ok { OnOk result (self.new ≡ self.old ++ byte ∷ []) }
+        ensures err { OnErr result (self.new ≡ self.old) }
+    {
+        match &mut self.tail {
+            Some(tail) => put_behind(&mut self.full, tail, self.alloc, byte),
+            None => {
+                self.tail = Some(tail_of(self.alloc, byte)?);
+                Ok(())
+            }
+        }
+    }
+
+    /// The same output, which shares all its bytes.
+    ///
+    /// # Errors
+    ///
+    /// `AllocError` where a handle has as many copies as can be counted.
+    pub(crate) fn snapshot(&self) -> Result<Self, AllocError>
+        ensures { IfOk result (λ output. output ≡ self.now) }
+    {
+        let full = self.full.clone()?;
+        let tail = match &self.tail {
+            Some(tail) => Some(share(tail)?),
+            None => None,
+        };
+        Ok(Output {
+            alloc: self.alloc,
+            full,
+            tail,
+        })
+    }
+
+    /// A copy of all bytes, in their order.
+    ///
+    /// # Errors
+    ///
+    /// `AllocError` where memory for the copy cannot be had.
+    pub(crate) fn bytes(&self, alloc: Global) -> Result<Vec<u8>, AllocError>
+        ensures { IfOk result (λ bytes. bytes.items ≡ self.now) }
+    {
+        let mut bytes = Vec::new(alloc);
+        copy_full(&self.full, &mut bytes)?;
+        if let Some(tail) = &self.tail {
+            copy_tail(tail, &mut bytes)?;
+        }
+        Ok(bytes)
+    }
+}

@@ -1,0 +1,178 @@
+//! The notes of one step, kept until its end.
+
+ghost use Rattle.std.specs.Prelude.{◌≡◌, List, [], ◌∷◌, ◌++◌, OnOk, OnErr, true, filter};
+ghost use Rattle.std.specs.List.{list_any};
+ghost use Rattle.sv8_model.specs.Does.{kept};
+ghost use Rattle.sv8_phys.specs.Notes.{touches_of, touches_of_all, is_read_of, is_covered, is_levels, is_told, levels_of, levels_in, levels_note, told};
+
+use crate::touch::{Touch, Touches};
+use std::alloc::{AllocError, Global};
+use std::marker::Model;
+
+/// The notes of one step, in their order.
+///
+/// The room that they took stays for the next step, so that a step takes memory only where it has more notes than
+/// any step before it.
+#[derive(Drop)]
+pub struct StepTouches {
+    notes: Vec<Touch>,
+}
+
+impl Model for StepTouches {
+    ghost use Rattle.std.specs.Prelude.{List};
+    ghost use Rattle.sv8_phys.specs.declared.touch.Touch.{Touch};
+
+    ghost Value = { List Touch };
+
+    ghost view = { λ s. s.notes.items };
+}
+
+impl Touches for StepTouches {
+    ghost use Rattle.std.specs.Prelude.{Bool, true};
+    ghost use Rattle.sv8_phys.specs.Notes.{touches_of_all};
+
+    const KEEPS: bool = true;
+
+    ghost KEEPS = { true };
+
+    ghost noted = { touches_of_all };
+
+    fn note(&mut self, touch: Touch) -> Result<(), AllocError> {
+        self.notes.push(touch)?;
+        Ok(())
+    }
+}
+
+/// Whether some note is a read of the word at an address.
+fn is_read(notes: &[Touch], address: u32) -> bool
+    ensures { result ≡ list_any (is_read_of address) notes.now }
+{
+    notes.iter().any(|note| matches!(*note, Touch::Read(other) if other == address))
+}
+
+/// Whether a note is told as it stands.
+fn stands(notes: &[Touch], note: Touch) -> bool
+    ensures { result ≡ is_told notes.now note }
+{
+    match note {
+        Touch::Write(address) => !is_read(notes, address),
+        Touch::Levels(_) => false,
+        _ => true,
+    }
+}
+
+/// The levels that a note asks.
+fn levels_of_note(note: Touch) -> u16
+    ensures { result ≡ levels_of note }
+{
+    match note {
+        Touch::Levels(levels) => levels,
+        _ => 0,
+    }
+}
+
+/// All levels that some note asks.
+#[tactic(auto, using(crate::proofs::Telling::levels_more, crate::proofs::Telling::levels_all))]
+fn all_levels(notes: &[Touch]) -> u16
+    ensures { result ≡ levels_in notes.now }
+{
+    let mut levels = 0;
+    for note in notes {
+        levels |= levels_of_note(*note);
+    }
+    levels
+}
+
+/// Hands on a note, if it is told as it stands.
+fn tell_note<T: Touches>(from: &[Touch], note: Touch, notes: &mut T) -> Result<(), AllocError>
+    ensures ok { OnOk result (T.noted notes.new ≡ T.noted notes.old ++ kept T.KEEPS (touches_of_all (filter (is_told from.now) (note ∷ [])))) }
+    ensures err { OnErr result (T.KEEPS ≡ true) }
+{
+    if !stands(from, note) {
+        return Ok(());
+    }
+    match notes.note(note) {
+        Ok(()) => Ok(()),
+        Err(fault) => Err(fault),
+    }
+}
+
+/// Hands on the notes that are told as they stand.
+#[tactic(auto, using(crate::proofs::Telling::handed_more))]
+fn tell_standing<T: Touches>(from: &[Touch], notes: &mut T) -> Result<(), AllocError>
+    ensures ok { OnOk result (T.noted notes.new ≡ T.noted notes.old ++ kept T.KEEPS (touches_of_all (filter (is_told from.now) from.now))) }
+    ensures err { OnErr result (T.KEEPS ≡ true) }
+{
+    for note in from {
+        match tell_note(from, *note, notes) {
+            Ok(()) => {}
+            Err(fault) => return Err(fault),
+        }
+    }
+    Ok(())
+}
+
+/// Hands on a note of levels, if there are any.
+fn tell_levels<T: Touches>(levels: u16, notes: &mut T) -> Result<(), AllocError>
+    ensures ok { OnOk result (T.noted notes.new ≡ T.noted notes.old ++ kept T.KEEPS (touches_of_all (levels_note levels))) }
+    ensures err { OnErr result (T.KEEPS ≡ true) }
+{
+    if levels == 0 {
+        return Ok(());
+    }
+    match notes.note(Touch::Levels(levels)) {
+        Ok(()) => Ok(()),
+        Err(fault) => Err(fault),
+    }
+}
+
+/// Hands on what is told of some notes.
+#[tactic(auto, using(crate::proofs::Telling::kept_touches), unfolding(crate::specs::Notes::told))]
+fn tell_all<T: Touches>(from: &[Touch], notes: &mut T) -> Result<(), AllocError>
+    ensures ok { OnOk result (T.noted notes.new ≡ T.noted notes.old ++ kept T.KEEPS (touches_of_all (told from.now))) }
+    ensures err { OnErr result (T.KEEPS ≡ true) }
+{
+    match tell_standing(from, notes) {
+        Ok(()) => tell_levels(all_levels(from), notes),
+        Err(fault) => Err(fault),
+    }
+}
+
+impl StepTouches {
+    /// No notes. It takes no memory.
+    pub fn new(alloc: Global) -> Self
+        ensures { result ≡ [] }
+    {
+        StepTouches {
+            notes: Vec::new(alloc),
+        }
+    }
+
+    /// Hands on what the notes of a step tell, and forgets them.
+    ///
+    /// # Errors
+    ///
+    /// `AllocError` where those that take the notes cannot have memory for them. Some may have been handed on then, and
+    /// none is forgotten.
+    pub fn tell<T: Touches>(&mut self, notes: &mut T) -> Result<(), AllocError>
+        ensures ok { OnOk result (T.noted notes.new ≡ T.noted notes.old ++ kept T.KEEPS (touches_of_all (told self.old))) }
+        ensures empty { OnOk result (self.new ≡ []) }
+        ensures err { OnErr result (T.KEEPS ≡ true) }
+        ensures stays { OnErr result (self.new ≡ self.old) }
+    {
+        match tell_all(&self.notes, notes) {
+            Ok(()) => {
+                self.notes.clear();
+                Ok(())
+            }
+            Err(fault) => Err(fault),
+        }
+    }
+
+    /// Forgets the notes, as those of a step that was given up.
+    pub fn clear(&mut self)
+        ensures { self.new ≡ [] }
+    {
+        self.notes.clear();
+    }
+}
