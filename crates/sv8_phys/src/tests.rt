@@ -245,6 +245,21 @@ fn new_memory_is_zero(rt: HostRuntime) -> Result<(), Fail> {
     Ok(())
 }
 
+// The word as it is at the steps 2, 3, 5 and 6, where it is poked at the steps 2 and 5.
+#[test]
+fn a_word_that_is_poked_twice(rt: HostRuntime) -> Result<(), Fail> {
+    let deeds = [
+        (Load(0x100, Word), Some(0)),
+        (Store(0x100, Word, 7), Some(0)),
+        (Load(0x100, Word), Some(7)),
+        (Load(0x100, Word), Some(7)),
+        (Store(0x100, Word, 1), Some(0)),
+        (Load(0x100, Word), Some(1)),
+    ];
+    assert!(rt; answers(rt.alloc(), &deeds)?);
+    Ok(())
+}
+
 #[test]
 fn a_byte_in_a_poked_word(rt: HostRuntime) -> Result<(), Fail> {
     let deeds = [

@@ -1,8 +1,6 @@
 //! Tests of the whole workbench: scripts and their answers, and readers and writers that fail.
 #![tactic(auto)]
 
-#[cfg(test)]
-mod commands;
 pub mod ends;
 #[cfg(test)]
 mod faults;
