@@ -1,25 +1,38 @@
 //! Readers and writers that fail, at each of their calls.
 
 use crate::ends::{Endless, Giver, Taker};
+use crate::scripts::{FIRST, FIRST_ANSWERS};
 use std::test::Fail;
 use sv8_bench::Bench;
 use sv8_shell::{RunFault, run};
 
 type Small = Bench<8, 1, 256>;
 
-const SCRIPT: &[u8] =
-    b"edit 1 0 2\nnop\r\n.word 7\n \t\nlist\nfrob\nedit 9 9 0\nregs 1000001\nregs 2\nquit\nlist\n";
+/// Each command of the first run: where its last line ends in the script, and where its answer ends in the answers.
+const COMMANDS: [(usize, usize); 4] = [(58, 3), (63, 137), (70, 619), (75, 622)];
 
-const ANSWERS: &[u8] =
-    b"ok\n1 00000000 01000000 |nop\n2 00000004 00000007 |.word 7\nok\nrefused 18 BadCommand\nrefused 2 NoSuchLine\nrefused 13 StepTooLarge\nstep 2 error\npc 00000004 npc 00000008 annul 0\npsr 00000080 wim 00000000 tbr 00000000 y 00000000\ng 00000000 00000000 00000000 00000000 00000000 00000000 00000000 00000000\no 00000000 00000000 00000000 00000000 00000000 00000000 00000000 00000000\nl 00000000 00000000 00000000 00000000 00000000 00000000 00000000 00000000\ni 00000000 00000000 00000000 00000000 00000000 00000000 00000000 00000000\nmmu 00000000 00000000 00000000 00000000 00000000\ndev 00000000 00000000 00000000 00000000\nok\nok\n";
+/// How many bytes of the answers are due once `given` bytes of the script have been read.
+fn due(given: usize) -> usize {
+    let mut answered = 0;
+    for (script_end, answer_end) in COMMANDS {
+        if script_end <= given {
+            answered = answer_end;
+        }
+    }
+    answered
+}
+
+/// Whether bytes are the first part of the answers, of this length.
+fn is_first_part(written: &[u8], length: usize) -> bool {
+    written.len() == length && FIRST_ANSWERS.starts_with(written)
+}
 
 #[test]
-fn each_read_fails(rt: HostRuntime) -> Result<(), Fail> {
-    // `quit` and its line feed end at byte 73 of the script.
-    for calls in 0..73 {
+fn each_read_of_the_first_run_fails(rt: HostRuntime) -> Result<(), Fail> {
+    for calls in 0..=FIRST.len() {
         let mut bench = Small::new(rt.alloc())?;
         let mut reader = Giver {
-            rest: SCRIPT,
+            rest: FIRST,
             most: 1,
             calls,
         };
@@ -29,30 +42,53 @@ fn each_read_fails(rt: HostRuntime) -> Result<(), Fail> {
             calls: 10_000,
         };
         let ended = run(rt.alloc(), &mut bench, &mut reader, &mut writer);
-        assert!(rt; ended == Err(RunFault::Read));
-        assert!(rt; ANSWERS.starts_with(writer.bytes.as_slice()));
+        let whole = calls == FIRST.len();
+        assert!(rt; ended == if whole { Ok(()) } else { Err(RunFault::Read) });
+        assert!(rt; is_first_part(writer.bytes.as_slice(), due(calls)));
     }
     Ok(())
 }
 
+/// How many bytes are written by so many calls that take one byte each, or flush behind an answer.
+fn taken_by(calls: usize) -> usize {
+    let mut left = calls;
+    let mut taken = 0;
+    for (_, answer_end) in COMMANDS {
+        let bytes = answer_end.saturating_sub(taken);
+        if left <= bytes {
+            return taken.saturating_add(left);
+        }
+        left -= bytes + 1;
+        taken = answer_end;
+    }
+    taken
+}
+
 #[test]
-fn each_write_fails(rt: HostRuntime) -> Result<(), Fail> {
-    for calls in 0..200 {
+fn each_write_of_the_first_run_fails(rt: HostRuntime) -> Result<(), Fail> {
+    let all = FIRST_ANSWERS.len().saturating_add(COMMANDS.len());
+    for calls in 0..=all {
         let mut bench = Small::new(rt.alloc())?;
         let mut reader = Giver {
-            rest: SCRIPT,
+            rest: FIRST,
             most: 7,
             calls: 1_000,
         };
         let mut writer = Taker {
             bytes: Vec::new(rt.alloc()),
-            most: 99,
+            most: 1,
             calls,
         };
         let ended = run(rt.alloc(), &mut bench, &mut reader, &mut writer);
-        let whole = writer.bytes.as_slice() == ANSWERS;
-        assert!(rt; ended == Err(RunFault::Write) || (ended.is_ok() && whole));
-        assert!(rt; ANSWERS.starts_with(writer.bytes.as_slice()));
+        assert!(rt;
+            ended
+                == if calls == all {
+                    Ok(())
+                } else {
+                    Err(RunFault::Write)
+                }
+        );
+        assert!(rt; is_first_part(writer.bytes.as_slice(), taken_by(calls)));
     }
     Ok(())
 }
@@ -90,7 +126,7 @@ fn write_fault_after_ten_bytes(rt: HostRuntime) -> Result<(), Fail> {
 #[test]
 fn write_that_takes_no_byte(rt: HostRuntime) -> Result<(), Fail> {
     let mut bench = Small::new(rt.alloc())?;
-    let mut script = SCRIPT;
+    let mut script = FIRST;
     let mut writer = Taker {
         bytes: Vec::new(rt.alloc()),
         most: 0,

@@ -18,10 +18,11 @@ fn answers(alloc: Global, script: &[u8], wanted: &[u8]) -> Result<bool, Fail> {
     Ok(ended.is_ok() && written.as_slice() == wanted)
 }
 
-const FIRST: &[u8] =
+/// The first run: four lines, their listing, and the machine at step 3.
+pub const FIRST: &[u8] =
     b"edit 1 0 4\nstart: mov 5, %g1\nadd %g1, 1, %g2\nba start\nnop\nlist\nregs 3\nquit\n";
 
-const FIRST_ANSWERS: &[u8] =
+pub const FIRST_ANSWERS: &[u8] =
     b"ok\n1 00000000 82102005 |start: mov 5, %g1\n2 00000004 84006001 |add %g1, 1, %g2\n3 00000008 10BFFFFE |ba start\n4 0000000C 01000000 |nop\nok\nstep 3 run\npc 0000000C npc 00000000 annul 0\npsr 00000080 wim 00000000 tbr 00000000 y 00000000\ng 00000000 00000005 00000006 00000000 00000000 00000000 00000000 00000000\no 00000000 00000000 00000000 00000000 00000000 00000000 00000000 00000000\nl 00000000 00000000 00000000 00000000 00000000 00000000 00000000 00000000\ni 00000000 00000000 00000000 00000000 00000000 00000000 00000000 00000000\nmmu 00000000 00000000 00000000 00000000 00000000\ndev 00000000 00000000 00000000 00000000\nok\nok\n";
 
 #[test]
