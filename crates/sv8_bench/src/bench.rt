@@ -16,6 +16,7 @@ use std::alloc::{AllocError, Global};
 use std::marker::Model;
 use sv8_cpu::Machine;
 use sv8_source::{Listed, Source};
+use sv8_time::Timeline;
 
 /// The last step that is shown.
 pub const LAST_STEP: u32 = 1_000_000;
@@ -23,11 +24,13 @@ pub const LAST_STEP: u32 = 1_000_000;
 /// A workbench over a machine with `NW` register windows (2 to 32), `PAGES` pages of 4,096 bytes of RAM
 /// (1 to 65,536), and a checkpoint every `K` steps (1 to 1,000,000).
 ///
-/// It keeps the source alone, and each query replays the machine from reset.
+/// It keeps the source and the timeline of outside events alone, and each query replays the machine from reset.
+/// No edit puts an event into the timeline yet.
 #[derive(Drop)]
 pub struct Bench<const NW: usize, const PAGES: usize, const K: u32> {
     alloc: Global,
     source: Source,
+    timeline: Timeline,
 }
 
 impl<const NW: usize, const PAGES: usize, const K: u32> Model for Bench<NW, PAGES, K> {
@@ -36,13 +39,13 @@ impl<const NW: usize, const PAGES: usize, const K: u32> Model for Bench<NW, PAGE
 
     ghost Value = { Kept };
 
-    ghost view = { λ b. record { windows = NW; pages = PAGES; source = b.source } };
+    ghost view = { λ b. record { windows = NW; pages = PAGES; source = b.source; timeline = b.timeline } };
 
-    ghost invariant = { λ b. (2 ≤ NW) × (NW ≤ 32) × (PAGES ≤ 65536) × (b.source.limit ≡ 4096 * PAGES) };
+    ghost invariant = { λ b. (2 ≤ NW) × (NW ≤ 32) × (PAGES ≤ 65536) × (b.source.limit ≡ 4096 * PAGES) × (b.timeline.limit ≡ 4096 * PAGES) };
 }
 
 impl<const NW: usize, const PAGES: usize, const K: u32> Bench<NW, PAGES, K> {
-    /// A workbench with an empty source, so that RAM is all zeros.
+    /// A workbench with an empty source, so that RAM is all zeros, and an empty timeline.
     ///
     /// # Errors
     ///
@@ -53,8 +56,12 @@ impl<const NW: usize, const PAGES: usize, const K: u32> Bench<NW, PAGES, K> {
         requires few_pages { PAGES ≤ 65536 }
         ensures { IfOk result (λ b. b ≡ empty NW PAGES) }
     {
-        let source = Source::new(alloc, 4096 * PAGES as u32);
-        Ok(Bench { alloc, source })
+        let ram_size = 4096 * PAGES as u32;
+        Ok(Bench {
+            alloc,
+            source: Source::new(alloc, ram_size),
+            timeline: Timeline::new(alloc, ram_size),
+        })
     }
 
     /// Replaces lines `first` to `last`, counted from 1, by these lines. With `last` = `first` - 1 it inserts them

@@ -1,16 +1,16 @@
 -- Deeds in RAM and at devices, put together.
-use Rattle.std.proofs.Common.{arith, ◌≡◌, ◌<◌, ◌≤◌, ℕ, ◌+◌, ◌*◌, ◌/◌, ◌%◌, ◌^◌, Bool, true, false, not, cond, nat_lt, List, [], ◌∷◌, ◌++◌, Result, Ok, Err, ◌==◌, ◌≢◌, inl, inr, ◌-◌, refl, sym, ap, ◌∙◌}
+use Rattle.std.proofs.Common.{arith, ◌≡◌, ◌<◌, ◌≤◌, ℕ, ◌%◌, ◌^◌, Bool, false, nat_lt, List, ◌++◌, Result, Ok, Err, ◌==◌, ◌≢◌, inl, inr, ◌-◌, refl, ap}
 use Rattle.std.proofs.lemmas.Bool.{lt-ltb, le-ltb}
 use Rattle.std.proofs.lemmas.Bool.Decides.{eqb_tells}
 use Rattle.sv8_model.specs.Outside.{Outside}
-use Rattle.sv8_model.specs.Action.{Action, Touch, done, mark_level, ◌>>=◌, result_of, after, touches}
+use Rattle.sv8_model.specs.Action.{Touch, done, mark_level, ◌>>=◌}
 use Rattle.sv8_model.specs.Does.{Does, kept}
-use Rattle.sv8_model.proofs.Deeds.{does_then, does_map, does_done, does_if_true, does_if_false}
+use Rattle.sv8_model.proofs.Deeds.{does_map, does_done, does_if_true, does_if_false}
 use Rattle.sv8_phys.specs.declared.size.Size.{Size}
 use Rattle.sv8_phys.specs.declared.size.Size.TheVariants.{Byte, Half, Word, Double}
 use Rattle.sv8_phys.specs.declared.timer.Timer.{Timer}
 use Rattle.sv8_phys.specs.declared.fault.BusError.{BusError}
-use Rattle.sv8_phys.specs.Memory.{bytes_in, value_at, with_value}
+use Rattle.sv8_phys.specs.Memory.{value_at, with_value}
 use Rattle.sv8_phys.specs.Devices.{ram_load, ram_store, load, store, answered, outside_load, outside_store, device_load, device_store, no_answer, output_address, count_address, reload_address, pending_address, Stored, stored_with, tick}
 use Rattle.sv8_phys.specs.Levels.{asked, cleared}
 use Rattle.sv8_phys.specs.Pending.{without_levels}

@@ -1,7 +1,7 @@
 -- What physical memory holds, and how it lies outside the processor.
 use Rattle.std.specs.Prelude.{ℕ, Bool, false, List, [], nat_lt, drop, filter, replicate}
 use Rattle.sv8_model.specs.Outside.{Outside}
-use Rattle.sv8_time.specs.Schedule.{Schedule, Input, input_bytes}
+use Rattle.sv8_time.specs.Schedule.{Schedule, input_bytes}
 use Rattle.sv8_phys.specs.declared.timer.Timer.{Timer}
 use Rattle.sv8_phys.specs.Memory.{ram_size}
 

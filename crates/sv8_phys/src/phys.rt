@@ -8,6 +8,7 @@ ghost use Rattle.sv8_time.specs.Schedule.{bytes_below};
 ghost use Rattle.sv8_phys.specs.Memory.{bytes_in, ram_size, page_of, with_page};
 ghost use Rattle.sv8_phys.specs.Contents.{empty_contents, arrived, outside_of};
 ghost use Rattle.sv8_phys.specs.Levels.{levels_word, asked, cleared};
+ghost use Rattle.sv8_phys.specs.Pending.{AreLevels};
 ghost use Rattle.sv8_phys.specs.Devices.{load, store, tick, ram_load, ram_store, outside_load, outside_store, device_load, device_store, stored_with};
 ghost use Rattle.sv8_phys.specs.Notes.{touches_of, load_touches, store_touches};
 
@@ -58,12 +59,13 @@ pub struct Phys<const PAGES: usize> {
 impl<const PAGES: usize> Model for Phys<PAGES> {
     ghost use Rattle.std.specs.Prelude.{◌≤◌};
     ghost use Rattle.sv8_phys.specs.Contents.{Contents};
+    ghost use Rattle.sv8_phys.specs.Pending.{AreLevels};
 
     ghost Value = { Contents };
 
     ghost view = { λ m. record { ram = m.ram; taken = m.taken; output = m.output; pending = m.pending; timer = m.timer } };
 
-    ghost invariant = { λ m. PAGES ≤ 65536 };
+    ghost invariant = { λ m. (PAGES ≤ 65536) × AreLevels m.pending };
 }
 
 impl<const PAGES: usize> Phys<PAGES> {
@@ -240,7 +242,8 @@ impl<const PAGES: usize> Phys<PAGES> {
 
     /// The pending interrupt levels, bit l for level l, from 1 to 15.
     pub fn pending(&self) -> u32
-        ensures { result ≡ levels_word self.now.pending }
+        ensures word { result ≡ levels_word self.now.pending }
+        ensures levels { AreLevels self.now.pending }
     {
         self.pending.word()
     }

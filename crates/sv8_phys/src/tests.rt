@@ -2,6 +2,7 @@
 
 mod parts;
 mod ram;
+mod sides;
 
 use super::*;
 use std::alloc::{AllocError, Global};

@@ -1,4 +1,4 @@
-use Rattle.std.proofs.Common.{rules, sym, ap, ◌∙◌}
+use Rattle.std.proofs.Common.{rules, ap, ◌∙◌}
 use Rattle.sv8_model.specs.Outside.{Outside}
 use Rattle.sv8_phys.specs.Contents.{Contents, outside_of}
 use Rattle.sv8_phys.specs.Devices.{stored_with}

@@ -1,5 +1,5 @@
-use Rattle.std.proofs.Common.{rules, arith, refl, sym, ap, ◌∙◌, List, ℕ}
-use Rattle.sv8_phys.proofs.Access.{load_in_ram, load_outside}
+use Rattle.std.proofs.Common.{rules}
+use Rattle.sv8_phys.proofs.Access.{load_in_ram}
 use Rattle.sv8_phys.proofs.phys.Phys.read.Goals as goal
 
 pub returns-in_ok-value-clause-ok : goal.returns-in_ok-value-clause-ok

@@ -1,4 +1,4 @@
-use Rattle.std.proofs.Common.{rules, arith, sym, ◌∙◌}
+use Rattle.std.proofs.Common.{rules}
 use Rattle.sv8_phys.proofs.Access.{output_load, count_load, reload_load, pending_load, no_load}
 use Rattle.sv8_phys.proofs.phys.Phys.read_device.Goals as goal
 

@@ -1,4 +1,4 @@
-use Rattle.std.proofs.Common.{rules, arith, refl, sym, ap, ◌∙◌, List, ℕ}
+use Rattle.std.proofs.Common.{rules}
 use Rattle.sv8_phys.proofs.Access.{ram_loads}
 use Rattle.sv8_phys.proofs.phys.Phys.read_ram.Goals as goal
 

@@ -1,4 +1,4 @@
-use Rattle.std.proofs.Common.{rules, arith, sym, ap, ◌∙◌, ◌+◌}
+use Rattle.std.proofs.Common.{rules, arith, ap, ◌+◌}
 use Rattle.sv8_phys.specs.Contents.{Contents}
 use Rattle.sv8_phys.proofs.Arrivals.{takes_byte, takes_none, is_there}
 use Rattle.sv8_phys.proofs.phys.Phys.take_input.Goals as goal

@@ -1,4 +1,4 @@
-use Rattle.std.proofs.Common.{rules, arith, refl, sym, ap, ◌∙◌, List, ℕ}
+use Rattle.std.proofs.Common.{rules, ap}
 use Rattle.sv8_phys.proofs.Access.{tick_none, tick_last, tick_down}
 use Rattle.sv8_phys.specs.Contents.{outside_of}
 use Rattle.sv8_phys.proofs.phys.Phys.tick.Goals as goal

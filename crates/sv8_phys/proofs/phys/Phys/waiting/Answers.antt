@@ -1,4 +1,4 @@
-use Rattle.std.proofs.Common.{rules, arith, sym, ap, ◌∙◌, ◌+◌}
+use Rattle.std.proofs.Common.{rules}
 use Rattle.sv8_phys.proofs.Arrivals.{counts_waiting}
 use Rattle.sv8_phys.proofs.phys.Phys.waiting.Goals as goal
 
