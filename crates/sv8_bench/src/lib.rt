@@ -10,5 +10,6 @@ mod tests;
 pub use bench::{Bench, LAST_STEP};
 pub use fault::BenchFault;
 pub use shown::Shown;
-pub use sv8_cpu::{MmuRegisters, Timer};
+pub use sv8_cpu::MmuRegisters;
+pub use sv8_phys::Timer;
 pub use sv8_source::Listed;

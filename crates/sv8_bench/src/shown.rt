@@ -4,7 +4,8 @@ ghost use Rattle.std.specs.Prelude.{◌≡◌, ◌<◌, ◌≤◌, ℕ, List};
 ghost use Rattle.sv8_regs.specs.Ring.{read};
 ghost use Rattle.sv8_bench.specs.Shown.{shown_registers, shown_state};
 
-use sv8_cpu::{Machine, MmuRegisters, Timer};
+use sv8_cpu::{Machine, MmuRegisters};
+use sv8_phys::Timer;
 use sv8_regs::Regs;
 
 /// The machine at a step, as a query shows it: each register of chapter 4 as a word, and the devices.

@@ -1,10 +1,11 @@
 -- The whole state of the machine.
-use Rattle.std.specs.Prelude.{ℕ, ◌*◌, false, List, [], replicate}
+use Rattle.std.specs.Prelude.{ℕ, false, List, [], replicate}
 use Rattle.sv8_model.specs.Outside.{Outside}
+use Rattle.sv8_phys.specs.declared.timer.Timer.{Timer}
+use Rattle.sv8_phys.specs.Memory.{ram_size}
 use Rattle.sv8_source.specs.Text.{Text}
 use Rattle.sv8_source.specs.Image.{image_bytes}
 use Rattle.sv8_cpu.specs.declared.state.MmuRegisters.{MmuRegisters}
-use Rattle.sv8_cpu.specs.declared.state.Timer.{Timer}
 use Rattle.sv8_cpu.specs.Processor.{Processor, reset_processor}
 
 -- what is not outside the processor
@@ -16,10 +17,6 @@ pub record Inner : Type 0 where
 pub record State : Type 0 where
   pub inner : Inner
   pub outside : Outside
-
--- the bytes of RAM in so many pages of 4,096
-abbrev pub ram_size : ℕ → ℕ
-ram_size pages = 4096 * pages
 
 -- RAM with a source's image in it, over zeros
 abbrev pub loaded_ram : ℕ → Text → List ℕ

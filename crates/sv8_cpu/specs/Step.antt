@@ -12,7 +12,8 @@ use Rattle.sv8_cpu.specs.Processor.{slot_skipped}
 use Rattle.sv8_cpu.specs.Entry.{with_trap}
 use Rattle.sv8_cpu.specs.Instruction.{raised, taken, asked, complete}
 use Rattle.sv8_cpu.specs.Access.{access}
-use Rattle.sv8_cpu.specs.State.{Inner, State, ram_size, reset_state}
+use Rattle.sv8_phys.specs.Memory.{ram_size}
+use Rattle.sv8_cpu.specs.State.{Inner, State, reset_state}
 
 -- a trap, which changes the processor alone
 abbrev pub trapped : ℕ → Inner → Trap → Inner

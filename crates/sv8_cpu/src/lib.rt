@@ -13,4 +13,4 @@ mod trap;
 
 pub use laws::{worked_steps, worked_trap};
 pub use machine::Machine;
-pub use state::{MmuRegisters, Timer};
+pub use state::MmuRegisters;

@@ -1,11 +1,12 @@
 //! The machine, one step at a time.
 
 ghost use Rattle.std.specs.Prelude.{◌≡◌, ℕ, ◌<◌, ◌≤◌, ◌%◌, ◌/◌, length, IfOk};
-ghost use Rattle.sv8_cpu.specs.Word.{levels_word};
 ghost use Rattle.sv8_isa.specs.Registers.{HasRegisters};
 ghost use Rattle.sv8_model.specs.Does.{DoesUnnoted};
 ghost use Rattle.sv8_model.specs.Outside.{word_of};
-ghost use Rattle.sv8_cpu.specs.State.{ram_size, reset_state};
+ghost use Rattle.sv8_phys.specs.Levels.{levels_word};
+ghost use Rattle.sv8_phys.specs.Memory.{ram_size};
+ghost use Rattle.sv8_cpu.specs.State.{reset_state};
 ghost use Rattle.sv8_cpu.specs.Instruction.{raised, taken};
 ghost use Rattle.sv8_cpu.specs.Step.{executed, instruction, action, step};
 ghost use Rattle.sv8_cpu.specs.View.{inner_of};
@@ -13,10 +14,11 @@ ghost use Rattle.sv8_cpu.specs.View.{inner_of};
 use crate::access::{Request, Response};
 use crate::memory::Memory;
 use crate::processor::{Processor, raised_by, request_of};
-use crate::state::{MmuRegisters, Timer};
+use crate::state::MmuRegisters;
 use std::alloc::{AllocError, Global};
 use std::marker::Model;
 use sv8_isa::{Instr, decode};
+use sv8_phys::Timer;
 use sv8_regs::Regs;
 use sv8_source::Source;
 

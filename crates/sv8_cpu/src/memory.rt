@@ -3,9 +3,10 @@
 ghost use Rattle.std.specs.Prelude.{◌≡◌, ℕ, ◌+◌, ◌*◌, ◌%◌, ◌/◌, ◌≤◌, ◌<◌, ◌^◌, length, IfOk};
 ghost use Rattle.sv8_model.specs.Outside.{word_of};
 ghost use Rattle.sv8_model.specs.Does.{DoesUnnoted};
-ghost use Rattle.sv8_cpu.specs.Word.{levels_word};
+ghost use Rattle.sv8_phys.specs.Levels.{levels_word};
+ghost use Rattle.sv8_phys.specs.Memory.{ram_size};
 ghost use Rattle.sv8_cpu.specs.Access.{access, IsAligned};
-ghost use Rattle.sv8_cpu.specs.State.{ram_size, empty_outside, loaded_ram};
+ghost use Rattle.sv8_cpu.specs.State.{empty_outside, loaded_ram};
 
 use crate::access::{Request, Response};
 use crate::trap::Trap;
@@ -22,7 +23,8 @@ pub struct Memory<const PAGES: usize> {
 impl<const PAGES: usize> Model for Memory<PAGES> {
     ghost use Rattle.std.specs.Prelude.{◌≡◌, ◌≤◌, ◌*◌, length};
     ghost use Rattle.sv8_model.specs.Outside.{Outside};
-    ghost use Rattle.sv8_cpu.specs.State.{ram_size, empty_outside};
+    ghost use Rattle.sv8_phys.specs.Memory.{ram_size};
+    ghost use Rattle.sv8_cpu.specs.State.{empty_outside};
 
     ghost Value = { Outside };
 
