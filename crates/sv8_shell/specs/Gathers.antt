@@ -39,10 +39,10 @@ idle_after (Ok _) = Ok Idle
 idle_after (Err e) = Err e
 
 -- a step was made: its orders are answered, and the code is at its stage
-pub record Stepped (gathering : Gathering) (old new : Option (List ℕ)) (source : State) (step : Step) (last : State) : Type 0 where
-  pub answered : Answered old new source step.orders last
+pub record Stepped (gathering : Gathering) (old new : Option (List ℕ)) (start : State) (step : Step) (last : State) : Type 0 where
+  pub answered : Answered old new start step.orders last
   pub at_stage : IsAt gathering step.stage
 
 abbrev pub Steps : {E : Type 0} → Result Gathering E → Option (List ℕ) → Option (List ℕ) → State → Step → State → Type 0
-Steps (Ok gathering) old new source step last = Stepped gathering old new source step last
-Steps (Err _) old new source step last = Cut old new source step.orders last
+Steps (Ok gathering) old new start step last = Stepped gathering old new start step last
+Steps (Err _) old new start step last = Cut old new start step.orders last

@@ -18,12 +18,12 @@ pub record Reached (given : List ℕ) (place : Place) (gathering : Gathering) : 
   pub stage_is : IsAt gathering (stage_from idle (ended_lines given))
 
 -- and the orders in them were answered
-pub record Progress (old now : Option (List ℕ)) (source last : State) (given : List ℕ) (place : Place) (gathering : Gathering) : Type 0 where
+pub record Progress (old now : Option (List ℕ)) (start last : State) (given : List ℕ) (place : Place) (gathering : Gathering) : Type 0 where
   pub reached : Reached given place gathering
-  pub answered : Answered old now source (orders_in (ended_lines given)) last
+  pub answered : Answered old now start (orders_in (ended_lines given)) last
 
 -- the bound is met, and a byte more was given
-pub record Stopped (old now : Option (List ℕ)) (source last : State) (given more : List ℕ) : Type 0 where
+pub record Stopped (old now : Option (List ℕ)) (start last : State) (given more : List ℕ) : Type 0 where
   pub front : List ℕ
   pub back : List ℕ
   pub is : more ≡ front ++ back
@@ -31,25 +31,25 @@ pub record Stopped (old now : Option (List ℕ)) (source last : State) (given mo
   pub few_lines : length (ended_lines (given ++ front)) ≤ 1000000
   pub few_bytes : length (given ++ front) ≤ 268435456
   pub full : (length (ended_lines (given ++ front)) ≡ 1000000) ⊎ (length (given ++ front) ≡ 268435456)
-  pub answered : Answered old now source (orders_in (ended_lines (given ++ front))) last
+  pub answered : Answered old now start (orders_in (ended_lines (given ++ front))) last
 
 -- how a run stops among more bytes
 abbrev pub Stops : RunFault → Option (List ℕ) → Option (List ℕ) → State → State → List ℕ → List ℕ → Type 0
-Stops Read old now source last given more = ⊥
-Stops Write old now source last given more = Cut old now source (orders_in (ended_lines (given ++ more))) last
-Stops TooManyCommands old now source last given more = Stopped old now source last given more
+Stops Read old now start last given more = ⊥
+Stops Write old now start last given more = Cut old now start (orders_in (ended_lines (given ++ more))) last
+Stops TooManyCommands old now start last given more = Stopped old now start last given more
 
 abbrev pub TakesByte : Result Gathering RunFault → Option (List ℕ) → Option (List ℕ) → State → State → List ℕ → ℕ → Place → Type 0
-TakesByte (Ok gathering) old now source last given b place = Progress old now source last (given ++ b ∷ []) place gathering
-TakesByte (Err fault) old now source last given b place = Stops fault old now source last given (b ∷ [])
+TakesByte (Ok gathering) old now start last given b place = Progress old now start last (given ++ b ∷ []) place gathering
+TakesByte (Err fault) old now start last given b place = Stops fault old now start last given (b ∷ [])
 
 -- all of a piece was taken, or a front of it, up to `quit`
-pub record Taken (old now : Option (List ℕ)) (source last : State) (given piece : List ℕ) (place : Place) (gathering : Gathering) : Type 0 where
+pub record Taken (old now : Option (List ℕ)) (start last : State) (given piece : List ℕ) (place : Place) (gathering : Gathering) : Type 0 where
   pub front : List ℕ
   pub first : IsPrefix front piece
-  pub progress : Progress old now source last (given ++ front) place gathering
+  pub progress : Progress old now start last (given ++ front) place gathering
   pub whole : is_over gathering ≡ false → front ≡ piece
 
 abbrev pub TakesPiece : Result Gathering RunFault → Option (List ℕ) → Option (List ℕ) → State → State → List ℕ → List ℕ → Place → Type 0
-TakesPiece (Ok gathering) old now source last given piece place = Taken old now source last given piece place gathering
-TakesPiece (Err fault) old now source last given piece place = Stops fault old now source last given piece
+TakesPiece (Ok gathering) old now start last given piece place = Taken old now start last given piece place gathering
+TakesPiece (Err fault) old now start last given piece place = Stops fault old now start last given piece

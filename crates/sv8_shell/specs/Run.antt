@@ -25,7 +25,7 @@ OnTooMany (Err Write) P = ⊤
 OnTooMany (Err TooManyCommands) P = P
 
 -- the reader has given some bytes, and the orders in the lines that ended in them were answered
-pub record AnsweredGiven (known left written now : Option (List ℕ)) (source last : State) : Type 0 where
+pub record AnsweredGiven (known left written now : Option (List ℕ)) (start last : State) : Type 0 where
   pub given : List ℕ
   pub consumed : Consumes known left given
-  pub answered : Answered written now source (orders_in (ended_lines given)) last
+  pub answered : Answered written now start (orders_in (ended_lines given)) last

@@ -42,9 +42,9 @@ fn take_byte<const NW: usize, const PAGES: usize, const K: u32, W: Write>(
     writer: &mut W,
     b: u8,
 ) -> Result<Gathering, RunFault>
-    ensures { (old : Option (List ℕ)) (source : Kept) (given : List ℕ) →
-        Progress old (W.contents writer.old) source bench.old given place.old gathering →
-        TakesByte result old (W.contents writer.new) source bench.new given b place.new }
+    ensures { (old : Option (List ℕ)) (start : Kept) (given : List ℕ) →
+        Progress old (W.contents writer.old) start bench.old given place.old gathering →
+        TakesByte result old (W.contents writer.new) start bench.new given b place.new }
 {
     if place.lines == MOST_LINES {
         return Err(RunFault::TooManyCommands);
@@ -76,9 +76,9 @@ pub fn take_piece<const NW: usize, const PAGES: usize, const K: u32, W: Write>(
     writer: &mut W,
     piece: &[u8],
 ) -> Result<Gathering, RunFault>
-    ensures { (old : Option (List ℕ)) (source : Kept) (given : List ℕ) →
-        Progress old (W.contents writer.old) source bench.old given place.old gathering →
-        TakesPiece result old (W.contents writer.new) source bench.new given piece.now place.new }
+    ensures { (old : Option (List ℕ)) (start : Kept) (given : List ℕ) →
+        Progress old (W.contents writer.old) start bench.old given place.old gathering →
+        TakesPiece result old (W.contents writer.new) start bench.new given piece.now place.new }
 {
     let mut gathering = gathering;
     for b in piece {
@@ -99,9 +99,9 @@ pub fn finish<const NW: usize, const PAGES: usize, const K: u32, W: Write>(
     bench: &mut Bench<NW, PAGES, K>,
     writer: &mut W,
 ) -> Result<(), WriteFault>
-    ensures { (old : Option (List ℕ)) (source : Kept) (given : List ℕ) →
-        Progress old (W.contents writer.old) source bench.old given place.now gathering →
-        Does result old (W.contents writer.new) source (orders_of given) bench.new }
+    ensures { (old : Option (List ℕ)) (start : Kept) (given : List ℕ) →
+        Progress old (W.contents writer.old) start bench.old given place.now gathering →
+        Does result old (W.contents writer.new) start (orders_of given) bench.new }
 {
     if place.line.is_empty() {
         return finish_edit(gathering, bench, writer);
