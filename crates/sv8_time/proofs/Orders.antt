@@ -2,8 +2,8 @@
 use Rattle.std.proofs.Common.{◌≡◌, arith, ℕ, true, false}
 use Rattle.std.specs.Cmp.{IsStrictWeakOrder}
 use Rattle.std.proofs.lemmas.Bool.Decides.{nat_tests}
-use Rattle.sv8_time.specs.Order.{place_before}
-use Rattle.sv8_time.specs.Schedule.{poke_before, request_before, input_before}
+use Rattle.sv8_time.specs.Order.{place_before, comes_before}
+use Rattle.sv8_time.specs.Schedule.{input_before}
 
 one_way : (a b c d : ℕ) → place_before a b c d ≡ true → place_before c d a b ≡ false
 one_way a b c d h = grind (arith, nat_tests)
@@ -11,11 +11,8 @@ one_way a b c d h = grind (arith, nat_tests)
 chain : (a b c d e f : ℕ) → place_before a b c d ≡ false → place_before c d e f ≡ false → place_before a b e f ≡ false
 chain a b c d e f h k = grind (arith, nat_tests)
 
-pub poke_order : IsStrictWeakOrder poke_before
-poke_order = record { one_way = λ x y h. one_way x.step x.address y.step y.address h; chain = λ x y z h k. chain x.step x.address y.step y.address z.step z.address h k }
-
-pub request_order : IsStrictWeakOrder request_before
-request_order = record { one_way = λ x y h. one_way x.step x.level y.step y.level h; chain = λ x y z h k. chain x.step x.level y.step y.level z.step z.level h k }
+pub event_order : {X : Type 0} (step part : X → ℕ) → IsStrictWeakOrder (comes_before step part)
+event_order step part = record { one_way = λ x y h. one_way (step x) (part x) (step y) (part y) h; chain = λ x y z h k. chain (step x) (part x) (step y) (part y) (step z) (part z) h k }
 
 pub input_order : IsStrictWeakOrder input_before
 input_order = record { one_way = λ x y h. grind (arith, nat_tests); chain = λ x y z h k. grind (arith, nat_tests) }

@@ -21,6 +21,22 @@ placed before x xs = filter (λ y. before y x) xs ++ x ∷ filter (λ y. before 
 abbrev pub place_before : ℕ → ℕ → ℕ → ℕ → Bool
 place_before step part other_step other_part = nat_lt step other_step || (step == other_step && nat_lt part other_part)
 
+-- the same of two events, of which step and part are known
+abbrev pub comes_before : {X : Type 0} → (X → ℕ) → (X → ℕ) → X → X → Bool
+comes_before step part x y = place_before (step x) (part x) (step y) (part y)
+
+-- an event is at a place
+abbrev pub is_at : {X : Type 0} → (X → ℕ) → (X → ℕ) → ℕ → ℕ → X → Bool
+is_at step part at_step at_part x = step x == at_step && part x == at_part
+
+-- the events without that of a place
+abbrev pub cleared_at : {X : Type 0} → (X → ℕ) → (X → ℕ) → ℕ → ℕ → List X → List X
+cleared_at step part at_step at_part xs = filter (λ x. not (is_at step part at_step at_part x)) xs
+
+-- the events of a step
+abbrev pub in_step : {X : Type 0} → (X → ℕ) → ℕ → List X → List X
+in_step step at_step xs = filter (λ x. step x == at_step) xs
+
 -- the element at index i stands at x's place
 pub record Stands {X : Type 0} (before : X → X → Bool) (same : X → Bool) (x : X) (xs : List X) (i : ℕ) : Type 0 where
   pub within : i < length xs

@@ -5,7 +5,7 @@ use Rattle.sv8_time.specs.declared.fault.TimeFault.{TimeFault}
 use Rattle.sv8_time.specs.declared.fault.TimeFault.TheVariants.{OutOfMemory, StepTooLarge, BadAddress, BadLevel, NothingThere, TooManyEvents, InputTooLong}
 use Rattle.sv8_time.specs.declared.pokes.Poke.{Poke}
 use Rattle.sv8_time.specs.declared.requests.Request.{Request}
-use Rattle.sv8_time.specs.Order.{placed, place_before}
+use Rattle.sv8_time.specs.Order.{placed, comes_before, is_at, cleared_at, in_step}
 
 -- the bytes that come in at a step
 pub record Input : Type 0 where
@@ -25,10 +25,10 @@ abbrev pub poke_of : ℕ → ℕ → ℕ → Poke
 poke_of step address value = record { step = step; address = address; value = value }
 
 abbrev pub poke_before : Poke → Poke → Bool
-poke_before p q = place_before p.step p.address q.step q.address
+poke_before = comes_before (λ p. p.step) (λ p. p.address)
 
 abbrev pub is_poke_at : ℕ → ℕ → Poke → Bool
-is_poke_at step address p = p.step == step && p.address == address
+is_poke_at step address = is_at (λ p. p.step) (λ p. p.address) step address
 
 abbrev pub has_poke : ℕ → ℕ → List Poke → Bool
 has_poke step address pokes = list_any (is_poke_at step address) pokes
@@ -37,11 +37,11 @@ abbrev pub put_poke : Poke → List Poke → List Poke
 put_poke p pokes = placed poke_before p pokes
 
 abbrev pub cut_poke : ℕ → ℕ → List Poke → List Poke
-cut_poke step address pokes = filter (λ p. not (is_poke_at step address p)) pokes
+cut_poke step address pokes = cleared_at (λ p. p.step) (λ p. p.address) step address pokes
 
 -- the pokes of a step, in rising address
 abbrev pub pokes_of_step : ℕ → List Poke → List Poke
-pokes_of_step step pokes = filter (λ p. p.step == step) pokes
+pokes_of_step step pokes = in_step (λ p. p.step) step pokes
 
 -- the first poke of a word in a later step
 abbrev pub poke_after : ℕ → ℕ → List Poke → Option ℕ
@@ -53,10 +53,10 @@ abbrev pub request_of : ℕ → ℕ → Request
 request_of step level = record { step = step; level = level }
 
 abbrev pub request_before : Request → Request → Bool
-request_before r s = place_before r.step r.level s.step s.level
+request_before = comes_before (λ r. r.step) (λ r. r.level)
 
 abbrev pub is_request_at : ℕ → ℕ → Request → Bool
-is_request_at step level r = r.step == step && r.level == level
+is_request_at step level = is_at (λ r. r.step) (λ r. r.level) step level
 
 abbrev pub has_request : ℕ → ℕ → List Request → Bool
 has_request step level requests = list_any (is_request_at step level) requests
@@ -65,11 +65,11 @@ abbrev pub put_request : Request → List Request → List Request
 put_request r requests = placed request_before r requests
 
 abbrev pub cut_request : ℕ → ℕ → List Request → List Request
-cut_request step level requests = filter (λ r. not (is_request_at step level r)) requests
+cut_request step level requests = cleared_at (λ r. r.step) (λ r. r.level) step level requests
 
 -- the requests of a step, in rising level
 abbrev pub requests_of_step : ℕ → List Request → List Request
-requests_of_step step requests = filter (λ r. r.step == step) requests
+requests_of_step step requests = in_step (λ r. r.step) step requests
 
 -- inputs
 

@@ -5,6 +5,7 @@ mod fault;
 mod inputs;
 mod marks;
 mod order;
+mod ordered;
 mod pokes;
 mod requests;
 #[cfg(test)]

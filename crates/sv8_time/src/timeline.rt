@@ -7,7 +7,7 @@ ghost use Rattle.sv8_time.specs.Order.{Rising};
 use crate::fault::TimeFault;
 use crate::inputs::Inputs;
 use crate::marks::Marks;
-use crate::pokes::{Poke, Pokes};
+use crate::pokes::{Poke, Pokes, next_poke, poke_at};
 use crate::requests::{Request, Requests};
 use std::alloc::{AllocError, Global};
 use std::marker::Model;
@@ -99,7 +99,7 @@ impl Timeline {
         if !is_word(address, self.limit) {
             return Some(TimeFault::BadAddress);
         }
-        if self.is_full() && !self.pokes.has(step, address) {
+        if self.is_full() && !self.pokes.has(poke_at(step, address)) {
             return Some(TimeFault::TooManyEvents);
         }
         None
@@ -114,7 +114,7 @@ impl Timeline {
         if !is_word(address, self.limit) {
             return Some(TimeFault::BadAddress);
         }
-        if !self.pokes.has(step, address) {
+        if !self.pokes.has(poke_at(step, address)) {
             return Some(TimeFault::NothingThere);
         }
         None
@@ -156,7 +156,7 @@ impl Timeline {
         if !is_level(level) {
             return Some(TimeFault::BadLevel);
         }
-        if self.is_full() && !self.requests.has(step, level) {
+        if self.is_full() && !self.requests.has(Request { step, level }) {
             return Some(TimeFault::TooManyEvents);
         }
         None
@@ -171,7 +171,7 @@ impl Timeline {
         if !is_level(level) {
             return Some(TimeFault::BadLevel);
         }
-        if !self.requests.has(step, level) {
+        if !self.requests.has(Request { step, level }) {
             return Some(TimeFault::NothingThere);
         }
         None
@@ -224,7 +224,7 @@ impl Timeline {
             Some(fault) => return Err(fault),
             None => {}
         }
-        self.pokes.cut(step, address);
+        self.pokes.cut(poke_at(step, address));
         Ok(())
     }
 
@@ -303,7 +303,7 @@ impl Timeline {
             Some(fault) => return Err(fault),
             None => {}
         }
-        self.requests.cut(step, level);
+        self.requests.cut(Request { step, level });
         Ok(())
     }
 }
@@ -338,7 +338,7 @@ impl Timeline {
         ensures value { result ≡ poke_after address after self.now.pokes }
         ensures least { IsNextPoke address after self.now.pokes result }
     {
-        self.pokes.next(address, after)
+        next_poke(&self.pokes, address, after)
     }
 
     /// The number of input bytes of all steps below `before`.
