@@ -1,11 +1,20 @@
-/* Preloaded, it refuses the Nth growth of memory that the program asks for, N being the environment variable REFUSE. */
+/* Preloaded, it refuses the Nth growth of memory that the program asks for, N being the environment variable REFUSE, and makes
+   a file of the name in the environment variable TOLD once it has done so. */
 #define _GNU_SOURCE
 #include <dlfcn.h>
 #include <errno.h>
+#include <fcntl.h>
 #include <stdlib.h>
+#include <unistd.h>
 
 static unsigned long asked;
 static unsigned long refused;
+
+static void tell(void) {
+    const char *name = getenv("TOLD");
+    if (name)
+        close(open(name, O_CREAT | O_WRONLY, 0600));
+}
 
 static int is_refused(void) {
     if (refused == 0) {
@@ -15,6 +24,7 @@ static int is_refused(void) {
     asked += 1;
     if (asked != refused)
         return 0;
+    tell();
     errno = ENOMEM;
     return 1;
 }

@@ -18,10 +18,10 @@ def commands(script):
         i += 1 + taken
     return found
 
-def run(program, script, shim=None, refuse=None):
+def run(program, script, shim=None, refuse=None, told=None):
     env = dict(os.environ)
     if shim:
-        env.update(LD_PRELOAD=shim, REFUSE=str(refuse))
+        env.update(LD_PRELOAD=shim, REFUSE=str(refuse), TOLD=told)
     done = subprocess.run([program], input=script, env=env, capture_output=True, timeout=120)
     return done.returncode, done.stdout, done.stderr
 
@@ -46,17 +46,17 @@ def main():
         whole = run(program, script)
         refusals = answers_without(program, script)
         counts = {"before any command": 0, "a command": 0, "no answer changed": 0}
-        n = failed = same = 0
-        # Once many numbers in a row change nothing, the run asks for no more memory.
-        while same < 8:
+        told = os.path.join(folder, "told")
+        n = failed = 0
+        while True:
+            status, written, errors = run(program, script, shim, n + 1, told)
+            if not os.path.exists(told):  # the run asks for no more memory
+                break
+            os.remove(told)
             n += 1
-            status, written, errors = run(program, script, shim, n)
             if (status, written) == whole[:2]:
-                same += 1
                 counts["no answer changed"] += 1
-                continue
-            same = 0
-            if status == 3 and not written and errors == b"sparc8: out of memory\n":
+            elif status == 3 and not written and errors == b"sparc8: out of memory\n":
                 counts["before any command"] += 1
             elif status == 0 and written in refusals:
                 counts["a command"] += 1
