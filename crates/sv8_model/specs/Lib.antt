@@ -1,4 +1,9 @@
+pub mod Words
+pub mod Levels
 pub mod Outside
 pub mod Action
+pub mod Footprint
+pub mod Cells
+pub mod Frame
 pub mod Does
 pub mod Laws

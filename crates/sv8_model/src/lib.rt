@@ -1,17 +1,10 @@
-//! The definitions that the machine's crates share: what is outside the processor, and what the processor does with it.
+//! The definitions that the machine's crates share: words, what is outside the processor, what the processor does with it, and what
+//! of it a step touches.
 //!
-//! The definitions stand in `specs/`; the functions here state laws about them and do nothing.
+//! The definitions stand in `specs/`; the functions of `laws` state laws about them and do nothing.
 #![tactic(auto)]
 
-ghost use Rattle.sv8_model.specs.Laws.{ActionsCompose, DeedsCompose};
+pub mod laws;
+mod touch;
 
-/// One action after another leads to what the second leads to from where the first one ended, and touches
-/// what both touch, in order.
-pub fn actions_compose<A, B>()
-    ensures { ActionsCompose A B }
-{}
-
-/// Code that does one action and then another does the two in sequence.
-pub fn deeds_compose<A, B>()
-    ensures { DeedsCompose A B }
-{}
+pub use touch::Touch;

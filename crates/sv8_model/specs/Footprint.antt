@@ -1,0 +1,52 @@
+-- The footprint of a step, from what it touches: what it reads, and what it writes without reading it, in whatever order it does that.
+-- A word of RAM is named by its address, a multiple of 4.
+use Rattle.std.specs.Prelude.{ℕ, ◌==◌, Bool, true, false, not, ◌&&◌, List}
+use Rattle.std.specs.List.{list_any}
+use Rattle.sv8_model.specs.declared.touch.Touch.{Touch}
+use Rattle.sv8_model.specs.declared.touch.Touch.TheVariants.{Read, Write, Input, Levels, Expiry}
+use Rattle.sv8_model.specs.Words.{bit}
+
+-- ---- one touch
+
+abbrev pub is_read_of : ℕ → Touch → Bool
+is_read_of address (Read other) = other == address
+is_read_of address t = false
+
+abbrev pub is_write_of : ℕ → Touch → Bool
+is_write_of address (Write other) = other == address
+is_write_of address t = false
+
+abbrev pub is_input : Touch → Bool
+is_input Input = true
+is_input t = false
+
+-- it asks a level
+abbrev pub asks : ℕ → Touch → Bool
+asks level (Levels word) = bit word level
+asks level t = false
+
+abbrev pub is_expiry : Touch → Bool
+is_expiry Expiry = true
+is_expiry t = false
+
+-- ---- a step
+
+-- a word is read: fetched, walked as a table entry, loaded, or stored in part
+abbrev pub reads_word : List Touch → ℕ → Bool
+reads_word ts address = list_any (is_read_of address) ts
+
+-- a word is stored whole, and not read
+abbrev pub writes_word : List Touch → ℕ → Bool
+writes_word ts address = list_any (is_write_of address) ts && not (reads_word ts address)
+
+-- a waiting byte is taken, or they are counted
+abbrev pub reads_input : List Touch → Bool
+reads_input ts = list_any is_input ts
+
+-- a level is asked
+abbrev pub reads_level : List Touch → ℕ → Bool
+reads_level ts level = list_any (asks level) ts
+
+-- the timer expires
+abbrev pub expires : List Touch → Bool
+expires ts = list_any is_expiry ts

@@ -1,0 +1,16 @@
+//! What a step touches of the outside of the processor.
+
+/// A touch of something outside the processor. Words of RAM are named by their physical address, a multiple of 4.
+#[derive(Clone, Copy, PartialEq, Eq, Debug)]
+pub enum Touch {
+    /// A word of RAM is read, or a part of it is written, which leaves the rest.
+    Read(u32),
+    /// A word of RAM is written whole.
+    Write(u32),
+    /// A waiting byte of the console is taken, or the waiting bytes are counted.
+    Input,
+    /// Some interrupt levels are asked, bit l for level l, from 1 to 15.
+    Levels(u16),
+    /// The timer expires, which makes level 10 pending, whether it was or not.
+    Expiry,
+}
