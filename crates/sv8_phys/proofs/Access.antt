@@ -1,9 +1,12 @@
 -- Deeds in RAM and at devices, put together.
-use Rattle.std.proofs.Common.{arith, ◌≡◌, ◌<◌, ◌≤◌, ℕ, ◌%◌, ◌^◌, Bool, false, nat_lt, List, ◌++◌, Result, Ok, Err, ◌==◌, ◌≢◌, inl, inr, ◌-◌, refl, ap}
+use Rattle.std.proofs.Common.{arith, ◌≡◌, ◌<◌, ◌≤◌, ℕ, ◌%◌, ◌^◌, Bool, false, nat_lt, List, [], ◌∷◌, ◌++◌, Result, Ok, Err, ◌==◌, ◌≢◌, inl, inr, ◌-◌, refl, ap, ◌∙◌}
 use Rattle.std.proofs.lemmas.Bool.{lt-ltb, le-ltb}
 use Rattle.std.proofs.lemmas.Bool.Decides.{eqb_tells}
 use Rattle.sv8_model.specs.Outside.{Outside}
-use Rattle.sv8_model.specs.Action.{Touch, done, mark_level, ◌>>=◌}
+use Rattle.sv8_model.specs.declared.touch.Touch.{Touch}
+use Rattle.sv8_model.specs.declared.touch.Touch.TheVariants.{Levels}
+use Rattle.sv8_model.specs.Levels.{asked, cleared, every_level}
+use Rattle.sv8_model.specs.Action.{done, ask_levels, clear_levels, expire, ◌>>=◌}
 use Rattle.sv8_model.specs.Does.{Does, kept}
 use Rattle.sv8_model.proofs.Deeds.{does_map, does_done, does_if_true, does_if_false}
 use Rattle.sv8_phys.specs.declared.size.Size.{Size}
@@ -12,10 +15,7 @@ use Rattle.sv8_phys.specs.declared.timer.Timer.{Timer}
 use Rattle.sv8_phys.specs.declared.fault.BusError.{BusError}
 use Rattle.sv8_phys.specs.Memory.{value_at, with_value}
 use Rattle.sv8_phys.specs.Devices.{ram_load, ram_store, load, store, answered, outside_load, outside_store, device_load, device_store, no_answer, output_address, count_address, reload_address, pending_address, Stored, stored_with, tick}
-use Rattle.sv8_phys.specs.Levels.{asked, cleared}
-use Rattle.sv8_phys.specs.Pending.{without_levels}
-use Rattle.sv8_phys.proofs.LevelActions.{does-cleared}
-use Rattle.sv8_phys.specs.Notes.{level_reads, load_touches, store_touches}
+use Rattle.sv8_phys.specs.Notes.{load_touches, store_touches}
 
 -- ---- RAM
 
@@ -78,9 +78,9 @@ module _ (keeps : Bool) (timer : Timer) (o : Outside) (ts : List Touch) where
   unfolding device_load
   reload_load v e = does_done keeps (Ok timer.reload) (Ok v) o ts (ap (λ w. Ok w) e)
 
-  pub pending_load : (w v : ℕ) (ts1 : List Touch) → v ≡ w → Does keeps (asked 0xfffe) o o w ts ts1 → Does keeps (device_load timer pending_address) o o (Ok v) ts ts1
+  pub pending_load : (w v : ℕ) (ts1 : List Touch) → v ≡ w → Does keeps (ask_levels every_level (λ x. done x)) o o w ts ts1 → Does keeps (device_load timer pending_address) o o (Ok v) ts ts1
   unfolding device_load
-  pending_load w v ts1 e h = does_map keeps (asked 0xfffe) (λ x. Ok x) o o w (Ok v) ts ts1 h (ap (λ x. Ok x) e)
+  pending_load w v ts1 e h = record { result = ap (λ x. Ok x) (e ∙ h.result); outside = h.outside; noted = h.noted }
 
   pub no_load : (a : ℕ) → a ≢ output_address → a ≢ count_address → a ≢ reload_address → a ≢ pending_address → Does keeps (device_load timer a) o o (Err no_answer) ts ts
   unfolding device_load
@@ -88,15 +88,20 @@ module _ (keeps : Bool) (timer : Timer) (o : Outside) (ts : List Touch) where
       rw (not_eqb a output_address e1, not_eqb a count_address e2, not_eqb a reload_address e3, not_eqb a pending_address e4) (does_done keeps (Err no_answer) (Err no_answer) o ts refl)
 
 module _ (keeps : Bool) (timer : Timer) (v : ℕ) (o o1 : Outside) (ts ts1 : List Touch) where
-  pub pending_store : (w : ℕ) (t : Timer) → w ≡ v % 2 ^ 32 → t ≡ timer → Does keeps (cleared w (done (stored_with timer))) o o1 (stored_with timer) ts ts1
+  pub pending_store : (w : ℕ) (t : Timer) → w ≡ v % 2 ^ 32 → t ≡ timer → Does keeps (clear_levels w (done (stored_with timer))) o o1 (stored_with timer) ts ts1
       → Does keeps (device_store timer pending_address v) o o1 (stored_with t) ts ts1
   unfolding device_store
   pending_store w t low e h = rw (e, ← low) h
 
--- levels that are no longer pending, in an outside that is otherwise as it was
+-- who leaves those levels pending that are not cleared, and notes that every level is read, clears them
 pub clears : {R : Type 0} (keeps : Bool) (word : ℕ) (x : R) (ps : List Bool) (o o1 : Outside) (ts ts1 : List Touch)
-    → ps ≡ without_levels word o.pending → o1 ≡ record o { pending = ps } → ts1 ≡ ts ++ kept keeps (level_reads 15 0xfffe) → Does keeps (cleared word (done x)) o o1 x ts ts1
-clears keeps word x ps o o1 ts ts1 h same n = rw same (does-cleared keeps word x ps o ts ts1 h n)
+    → ps ≡ cleared word o.pending → o1 ≡ record o { pending = ps } → ts1 ≡ ts ++ kept keeps (Levels every_level ∷ []) → Does keeps (clear_levels word (done x)) o o1 x ts ts1
+clears keeps word x ps o o1 ts ts1 h same n = rw (same, h) (record { result = refl; outside = refl; noted = n })
+
+-- who notes the levels that are asked, and leads to those that are pending, asks them
+pub asks_levels : (keeps : Bool) (word r : ℕ) (ps : List Bool) (o : Outside) (ts ts1 : List Touch)
+    → r ≡ asked word ps → ps ≡ o.pending → ts1 ≡ ts ++ kept keeps (Levels word ∷ []) → Does keeps (ask_levels word (λ x. done x)) o o r ts ts1
+asks_levels keeps word r ps o ts ts1 h same n = record { result = h ∙ ap (asked word) same; outside = refl; noted = n }
 
 -- ---- the timer
 
@@ -106,15 +111,15 @@ module _ (keeps : Bool) (timer : Timer) (o : Outside) (ts : List Touch) where
   tick_none e = does_if_true keeps (timer.count == 0) (done timer) _ o o timer ts ts (rw e refl) (does_done keeps timer timer o ts refl)
 
   pub tick_last : (o1 : Outside) (t : Timer) (ts1 : List Touch) → timer.count ≡ 1
-      → Does keeps (mark_level 10 (done (record timer { count = timer.reload }))) o o1 t ts ts1 → Does keeps (tick timer) o o1 t ts ts1
+      → Does keeps (expire (done (record timer { count = timer.reload }))) o o1 t ts ts1 → Does keeps (tick timer) o o1 t ts ts1
   unfolding tick
   tick_last o1 t ts1 e h =
       does_if_false keeps (timer.count == 0) (done timer) _ o o1 t ts ts1 (rw e refl)
-      (does_if_true keeps (timer.count == 1) (mark_level 10 (done (record timer { count = timer.reload }))) _ o o1 t ts ts1 (rw e refl) h)
+      (does_if_true keeps (timer.count == 1) (expire (done (record timer { count = timer.reload }))) _ o o1 t ts ts1 (rw e refl) h)
 
   pub tick_down : (o1 : Outside) (t : Timer) → 1 < timer.count → t ≡ record timer { count = timer.count - 1 } → o1 ≡ o → Does keeps (tick timer) o o1 t ts ts
   unfolding tick
   tick_down o1 t above e same =
       rw same (does_if_false keeps (timer.count == 0) (done timer) _ o o t ts ts (not_eqb timer.count 0 (omega arith))
-      (does_if_false keeps (timer.count == 1) (mark_level 10 (done (record timer { count = timer.reload }))) _ o o t ts ts (not_eqb timer.count 1 (omega arith))
+      (does_if_false keeps (timer.count == 1) (expire (done (record timer { count = timer.reload }))) _ o o t ts ts (not_eqb timer.count 1 (omega arith))
       (does_done keeps (record timer { count = timer.count - 1 }) t o ts e)))

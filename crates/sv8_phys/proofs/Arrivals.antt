@@ -11,7 +11,9 @@ use Rattle.sv8_time.specs.Schedule.{Input, Schedule, input_bytes, byte_count, by
 use Rattle.sv8_time.specs.Order.{Each, Rising}
 use Rattle.sv8_time.proofs.Parts.{filter_none}
 use Rattle.sv8_model.specs.Outside.{Outside, oldest, without_oldest}
-use Rattle.sv8_model.specs.Action.{Touch, console_input, reads, done, take_input, count_waiting}
+use Rattle.sv8_model.specs.declared.touch.Touch.{Touch}
+use Rattle.sv8_model.specs.declared.touch.Touch.TheVariants as note
+use Rattle.sv8_model.specs.Action.{done, take_input, count_waiting}
 use Rattle.sv8_model.specs.Does.{Does, kept}
 use Rattle.sv8_phys.specs.Contents.{Contents, arrived, outside_of}
 
@@ -76,7 +78,7 @@ module _ (before : ℕ) (schedule : Schedule) where
 
 -- what is noted of either access
 abbrev noted_input : Bool → List Touch → List Touch → Type 0
-noted_input keeps ts ts1 = ts1 ≡ ts ++ kept keeps (reads console_input ∷ [])
+noted_input keeps ts ts1 = ts1 ≡ ts ++ kept keeps (note.Input ∷ [])
 
 module _ (keeps : Bool) (m : Contents) (bytes : List ℕ) (ts ts1 : List Touch) (note : noted_input keeps ts ts1) where
   abbrev waits : List ℕ → Outside

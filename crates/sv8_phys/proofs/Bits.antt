@@ -2,7 +2,7 @@
 use Rattle.std.proofs.Common.{◌≡◌, arith, ℕ, ◌/◌, ◌%◌, ◌^◌, ◌<◌, ◌==◌, false, max, min, ◌&&◌, ◌||◌, sym, ap, ◌∙◌, bit_or, bit_and}
 use Rattle.std.proofs.lemmas.Bool.Decides.{nat_tests}
 use Rattle.std.proofs.lemmas.Nat.Bits.{bit_at_or, bit_at_and, bit_at-lt, bit_at-zero, same_from_bits}
-use Rattle.sv8_phys.specs.Levels.{bit}
+use Rattle.sv8_model.specs.Words.{bit}
 
 max_groups : (x y z : ℕ) → max (max x y) z ≡ max x (max y z)
 max_groups x y z = omega arith

@@ -1,14 +1,13 @@
 pub mod Numbers
+pub mod ByteLemmas
 pub mod Handles
 pub mod AllBytes
 pub mod OnePage
-pub mod Groups
 pub mod Bits
 pub mod Telling
 pub mod ToldLaws
 pub mod PendingWord
 pub mod PendingLevels
-pub mod LevelActions
 pub mod ChunkLemmas
 pub mod Access
 pub mod Arrivals

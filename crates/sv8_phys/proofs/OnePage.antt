@@ -4,7 +4,7 @@ use Rattle.std.proofs.lemmas.List.{get_or-take, get_or-drop, drop-set-add, drop-
 use Rattle.std.proofs.Math.Seq.{take-set-lt}
 use borrow.Rule.Slice.PartMut.{put_same}
 use Rattle.std.proofs.lemmas.List.{drop-drop}
-use Rattle.sv8_model.specs.Outside.{word_of, with_word}
+use Rattle.sv8_model.specs.Outside.{word_of, with_word, with_byte}
 use Rattle.sv8_phys.specs.declared.size.Size.{Size}
 use Rattle.sv8_phys.specs.declared.size.Size.TheVariants.{Byte, Half, Word, Double}
 use Rattle.sv8_phys.specs.Memory.{bytes_in, page_of, with_page, value_at, with_value}
@@ -87,7 +87,7 @@ module _ (ram : List ℕ) (p : ℕ) where
 
 -- a number put at an address, written in its page
 differs_value : (size : Size) (a v : ℕ) (ram : List ℕ) → a % bytes_in size ≡ 0 → Differs ram (a / 4096) (with_value size a v ram) (with_value size (a % 4096) v (page_of ram (a / 4096)))
-unfolding with_value
+unfolding with_value with_byte
 differs_value Byte a v ram h = differs_byte ram (a / 4096) ram _ a (a % 4096) _ (omega arith) (omega arith) (differs_not ram (a / 4096))
 differs_value Half a v ram h =
     let p = a / 4096 in
@@ -105,7 +105,7 @@ put_in_page size a v ram h = differs ram (a / 4096) (with_value size a v ram) _ 
 
 -- a number written in a list of bytes leaves its length
 pub length-with_value : (size : Size) (a v : ℕ) (bytes : List ℕ) → length (with_value size a v bytes) ≡ length bytes
-unfolding with_value with_word
+unfolding with_value with_byte with_word
 length-with_value Byte a v bytes = simp length-set
 length-with_value Half a v bytes = simp length-set
 length-with_value Word a v bytes = simp length-set

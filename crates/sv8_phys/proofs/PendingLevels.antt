@@ -1,13 +1,17 @@
 -- The pending levels as bits of a word, and as a list of conditions.
-use Rattle.std.proofs.Common.{◌≡◌, ◌≢◌, refl, sym, ap, ap₂, ◌∙◌, arith, ℕ, zero, suc, ◌-◌, ◌*◌, ◌%◌, ◌^◌, ◌==◌, ◌<◌, ◌≤◌, ◌⊎◌, inl, inr, Bool, true, false, not, ◌&&◌, ◌||◌, List, length, get_or, set, bit_or, bit_and, get_or-set_other, get_or-set_same, length-set, w32}
+use Rattle.std.proofs.Common.{◌≡◌, ◌≢◌, refl, sym, ap, ap₂, ◌∙◌, arith, ℕ, zero, suc, ◌+◌, ◌-◌, ◌*◌, ◌%◌, ◌^◌, ◌==◌, ◌<◌, ◌≤◌, ◌⊎◌, inl, inr, Bool, true, false, not, ◌&&◌, ◌||◌, List, length, get_or, set, bit_or, bit_and, get_or-set_other, get_or-set_same, length-set, w32}
 use Rattle.std.proofs.Math.Pow.{pow_mono}
 use Rattle.std.specs.Int.{bit_at, bit_not}
 use Rattle.std.proofs.lemmas.Bool.{cases_eq}
+use Rattle.std.proofs.lemmas.List.{ext_get_or}
 use Rattle.std.proofs.lemmas.List.FromFn.{length-map-range_with_len, get_or-map-range_with_len, fill_by_all}
 use Rattle.std.proofs.lemmas.Nat.Bits.{bit_at-lt, bit_at_not, bit_at-pow_same, bit_at-pow_other}
-use Rattle.sv8_model.specs.Outside.{held_level}
-use Rattle.sv8_phys.specs.Levels.{bit}
-use Rattle.sv8_phys.specs.Pending.{levels_of_word, AreLevels, without_from, without_levels}
+use Rattle.sv8_model.specs.Words.{bit}
+use Rattle.sv8_model.specs.Levels.{asked, cleared, levels_word, masked_from, unmasked_from}
+use Rattle.sv8_model.proofs.Lists.{length-masked, get_or-masked, length-unmasked, get_or-unmasked}
+use Rattle.std.proofs.lemmas.Nat.{and_le_l}
+use Rattle.sv8_phys.specs.Pending.{levels_of_word, AreLevels}
+use Rattle.sv8_phys.proofs.PendingWord.{word_of_bits}
 use Rattle.sv8_phys.proofs.Bits.{bit-or, bit-and}
 
 pub level_count : (word : ℕ) → length (levels_of_word word) ≡ 16
@@ -26,6 +30,9 @@ are_levels word h = record { count = level_count word; none_at_zero = level_at w
 
 pub shifted_one : (l : ℕ) → l ≤ 15 → 1 * 2 ^ l % 2 ^ 16 ≡ 2 ^ l
 shifted_one l h = let small : 2 ^ l ≤ 2 ^ 15 = pow_mono h in omega arith
+
+pub shifted_word : (l : ℕ) → l ≤ 15 → 1 * 2 ^ l % 2 ^ 32 ≡ 2 ^ l
+shifted_word l h = let small : 2 ^ l ≤ 2 ^ 15 = pow_mono h in omega arith
 
 bit-pow_same : (l : ℕ) → bit (2 ^ l) l ≡ true
 bit-pow_same l = ap (λ n. n == 1) (bit_at-pow_same l)
@@ -60,48 +67,8 @@ requested_zero word l h e = bit-or word (2 ^ l) 0 ∙ ap₂ ◌||◌ e (bit-pow_
 
 -- levels are no longer pending
 
-length-held : (l : ℕ) (held : Bool) (ps : List Bool) → length (held_level l held ps) ≡ length ps
-unfolding held_level
-length-held l held ps = length-set ps l (get_or ps l false && held)
-
-held_same : (l : ℕ) (held : Bool) (ps : List Bool) → l < length ps → get_or (held_level l held ps) l false ≡ (get_or ps l false && held)
-unfolding held_level
-held_same l held ps h = get_or-set_same ps l (get_or ps l false && held) false h
-
-held_other : (l k : ℕ) (held : Bool) (ps : List Bool) → k ≢ l → get_or (held_level l held ps) k false ≡ get_or ps k false
-unfolding held_level
-held_other l k held ps h = get_or-set_other ps l k (get_or ps l false && held) false h
-
-pub length-without : (n word : ℕ) (ps : List Bool) → length (without_from n word ps) ≡ length ps
-unfolding without_from
-length-without zero word ps = refl
-length-without (suc n) word ps = length-without n word (held_level (suc n) (not (bit word (suc n))) ps) ∙ length-held (suc n) (not (bit word (suc n))) ps
-
-without_zero : (n word : ℕ) (ps : List Bool) → get_or (without_from n word ps) 0 false ≡ get_or ps 0 false
-unfolding without_from
-without_zero zero word ps = refl
-without_zero (suc n) word ps =
-    without_zero n word (held_level (suc n) (not (bit word (suc n))) ps) ∙ held_other (suc n) 0 (not (bit word (suc n))) ps (λ e. omega arith)
-
-without_above : (n word k : ℕ) (ps : List Bool) → n < k → get_or (without_from n word ps) k false ≡ get_or ps k false
-unfolding without_from
-without_above zero word k ps h = refl
-without_above (suc n) word k ps h =
-    without_above n word k (held_level (suc n) (not (bit word (suc n))) ps) (omega arith) ∙ held_other (suc n) k (not (bit word (suc n))) ps (λ e. omega arith)
-
-without_at : (n word k : ℕ) (ps : List Bool) → 1 ≤ k → k ≤ n → n < length ps → get_or (without_from n word ps) k false ≡ (get_or ps k false && not (bit word k))
-unfolding without_from
-without_at zero word k ps h g b = absurd (omega arith)
-without_at (suc n) word k ps h g b =
-    let now = held_level (suc n) (not (bit word (suc n))) ps in
-    elim (cases_eq k (suc n)) [
-      | inl same ↦
-          without_above n word k now (omega arith) ∙ ap (λ i. get_or now i false) same ∙ held_same (suc n) (not (bit word (suc n))) ps b
-          ∙ sym (ap (λ i. get_or ps i false && not (bit word i)) same)
-      | inr other ↦
-          without_at n word k now h (omega arith) (omega (arith, length-held (suc n) (not (bit word (suc n))) ps))
-          ∙ ap (λ c. c && not (bit word k)) (held_other (suc n) k (not (bit word (suc n))) ps other)
-    ]
+zero_more : (k : ℕ) → 0 + k ≡ k
+zero_more k = omega arith
 
 test_of_not : (x : ℕ) → x < 2 → (1 - x == 1) ≡ not (x == 1)
 test_of_not zero h = refl
@@ -114,18 +81,43 @@ bit-without p word l h k =
     bit-and p (bit_not w32 word) l
     ∙ ap (λ b. bit p l && b) (ap (λ n. n == 1) (bit_at_not w32 word l h k) ∙ test_of_not (bit_at word l) (bit_at-lt word l))
 
-pub cleared_word : (p word : ℕ) → word < 2 ^ 32 → bit p 0 ≡ false → levels_of_word (bit_and p (bit_not w32 word)) ≡ without_levels word (levels_of_word p)
-unfolding levels_of_word without_levels
-cleared_word p word h e =
-    sym (fill_by_all (bit (bit_and p (bit_not w32 word))) (without_levels word (levels_of_word p)) 16 false (length-without 15 word (levels_of_word p) ∙ level_count p) at)
-  where
-    at : (k : ℕ) → k < 16 → get_or (without_from 15 word (levels_of_word p)) k false ≡ bit (bit_and p (bit_not w32 word)) k
-    at zero below =
-        without_zero 15 word (levels_of_word p) ∙ level_at p 0 below ∙ e
-        ∙ sym (bit-without p word 0 h (omega arith) ∙ ap (λ b. b && not (bit word 0)) e)
-    at (suc k) below =
-        without_at 15 word (suc k) (levels_of_word p) (omega arith) (omega arith) (omega (arith, level_count p))
-        ∙ ap (λ b. b && not (bit word (suc k))) (level_at p (suc k) below) ∙ sym (bit-without p word (suc k) h (omega arith))
+pub cleared_word : (p word : ℕ) → word < 2 ^ 32 → levels_of_word (bit_and p (bit_not w32 word)) ≡ cleared word (levels_of_word p)
+unfolding levels_of_word cleared
+cleared_word p word h =
+    sym (fill_by_all (bit (bit_and p (bit_not w32 word))) (unmasked_from 0 word (levels_of_word p)) 16 false (length-unmasked 0 word (levels_of_word p) ∙ level_count p) (λ k below.
+    get_or-unmasked 0 word (levels_of_word p) k ∙ ap₂ (λ a b. a && not b) (level_at p k below) (ap (bit word) (zero_more k)) ∙ sym (bit-without p word k h (omega arith))))
 
 pub cleared_zero : (p word : ℕ) → word < 2 ^ 32 → bit p 0 ≡ false → bit (bit_and p (bit_not w32 word)) 0 ≡ false
 cleared_zero p word h e = bit-without p word 0 h (omega arith) ∙ ap (λ b. b && not (bit word 0)) e
+
+-- those levels of a word that are pending
+
+pub asked_word : (p word : ℕ) → p < 2 ^ 16 → bit_and p word ≡ asked word (levels_of_word p)
+unfolding levels_of_word asked
+asked_word p word h =
+    word_of_bits (bit_and p word) (omega (arith, and_le_l p word))
+    ∙ ap levels_word (sym (fill_by_all (bit (bit_and p word)) (masked_from 0 word (levels_of_word p)) 16 false (length-masked 0 word (levels_of_word p) ∙ level_count p) (λ k below.
+    get_or-masked 0 word (levels_of_word p) k ∙ ap₂ ◌&&◌ (level_at p k below) (ap (bit word) (zero_more k)) ∙ sym (bit-and p word k))))
+
+-- the only level of a word is no longer pending
+
+and_not_true : (a : Bool) → (a && not true) ≡ false
+and_not_true true = refl
+and_not_true false = refl
+
+and_not_false : (a : Bool) → (a && not false) ≡ a
+and_not_false true = refl
+and_not_false false = refl
+
+pub withdrawn : (ps : List Bool) (l : ℕ) → l < length ps → cleared (2 ^ l) ps ≡ set ps l false
+unfolding cleared
+withdrawn ps l h = ext_get_or false (unmasked_from 0 (2 ^ l) ps) (set ps l false) (length-unmasked 0 (2 ^ l) ps ∙ sym (length-set ps l false)) (λ k below. at k (cases_eq k l))
+  where
+    at : (k : ℕ) → (k ≡ l) ⊎ (k ≢ l) → get_or (unmasked_from 0 (2 ^ l) ps) k false ≡ get_or (set ps l false) k false
+    at k (inl same) =
+        ap (λ i. get_or (unmasked_from 0 (2 ^ l) ps) i false) same ∙ get_or-unmasked 0 (2 ^ l) ps l
+        ∙ ap (λ b. get_or ps l false && not b) (ap (bit (2 ^ l)) (zero_more l) ∙ bit-pow_same l) ∙ and_not_true (get_or ps l false)
+        ∙ sym (ap (λ i. get_or (set ps l false) i false) same ∙ get_or-set_same ps l false false h)
+    at k (inr other) =
+        get_or-unmasked 0 (2 ^ l) ps k ∙ ap (λ b. get_or ps k false && not b) (ap (bit (2 ^ l)) (zero_more k) ∙ bit-pow_other l k other) ∙ and_not_false (get_or ps k false)
+        ∙ sym (get_or-set_other ps l k false false other)

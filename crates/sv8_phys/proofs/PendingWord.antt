@@ -5,24 +5,19 @@ use Rattle.std.proofs.lemmas.Bool.Decides.{nat_tests}
 use Rattle.std.proofs.lemmas.Grind.{pow_more}
 use Rattle.std.proofs.lemmas.Nat.{shr-shr, mod-pow-add}
 use Rattle.std.proofs.lemmas.Nat.Bits.{bit_at-suc}
-use Rattle.sv8_phys.specs.Levels.{bit, bits_from, levels_word}
+use Rattle.sv8_model.specs.Words.{bit, digit}
+use Rattle.sv8_model.specs.Levels.{bits_from, levels_word}
 use Rattle.sv8_phys.specs.Pending.{levels_of_word}
 use Rattle.sv8_phys.specs.Laws.{BitsArePending}
 use Rattle.sv8_phys.proofs.Bits.{bit-zero}
-
-digit : Bool → ℕ
-digit true = 1
-digit false = 0
 
 -- the word that has a bit for each condition of a list, the lowest for the first
 packed : List Bool → ℕ
 packed [] = 0
 packed (b ∷ bs) = digit b + 2 * packed bs
 
-digit-if : (b : Bool) (n : ℕ) → cond b n 0 ≡ n * digit b
-unfolding digit
-digit-if true n = omega arith
-digit-if false n = omega arith
+turned : (d n : ℕ) → d * n ≡ n * d
+turned d n = grind arith
 
 regroup : (p d q : ℕ) → p * d + p * 2 * q ≡ p * (d + 2 * q)
 regroup p d q = grind arith
@@ -31,18 +26,16 @@ shifted : (k : ℕ) (bs : List Bool) → bits_from k bs ≡ 2 ^ k * packed bs
 unfolding packed
 shifted k [] = omega arith
 shifted k (b ∷ bs) =
-    ap₂ ◌+◌ (digit-if b (2 ^ k)) (shifted (k + 1) bs ∙ ap (λ p. p * packed bs) (pow_more 2 k)) ∙ regroup (2 ^ k) (digit b) (packed bs)
+    ap₂ ◌+◌ (turned (digit b) (2 ^ k)) (shifted (k + 1) bs ∙ ap (λ p. p * packed bs) (pow_more 2 k)) ∙ regroup (2 ^ k) (digit b) (packed bs)
 
 word_is : (bs : List Bool) → levels_word bs ≡ packed bs
 word_is bs = shifted 0 bs ∙ omega arith
 
 lowest : (b : Bool) (n : ℕ) → ((digit b + 2 * n) / 2 ^ 0 % 2 == 1) ≡ b
-unfolding digit
 lowest true n = grind (arith, nat_tests)
 lowest false n = grind (arith, nat_tests)
 
 higher : (b : Bool) (n : ℕ) → (digit b + 2 * n) / 2 ≡ n
-unfolding digit
 higher true n = omega arith
 higher false n = omega arith
 
@@ -57,7 +50,6 @@ pub bits_pending : BitsArePending
 bits_pending bs l = ap (λ w. bit w l) (word_is bs) ∙ bit_of_packed bs l
 
 digit-bit : (n : ℕ) → n < 2 → digit (n == 1) ≡ n
-unfolding digit
 digit-bit zero h = refl
 digit-bit (suc zero) h = refl
 digit-bit (suc (suc n)) h = absurd (omega arith)

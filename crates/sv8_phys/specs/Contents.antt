@@ -1,9 +1,10 @@
 -- What physical memory holds, and how it lies outside the processor.
-use Rattle.std.specs.Prelude.{ℕ, Bool, false, List, [], nat_lt, drop, filter, replicate}
+use Rattle.std.specs.Prelude.{◌≡◌, ℕ, ◌<◌, Bool, false, List, [], length, nat_lt, drop, filter, replicate, slice_index_or}
 use Rattle.sv8_model.specs.Outside.{Outside}
 use Rattle.sv8_time.specs.Schedule.{Schedule, input_bytes}
 use Rattle.sv8_phys.specs.declared.timer.Timer.{Timer}
 use Rattle.sv8_phys.specs.Memory.{ram_size}
+use Rattle.sv8_phys.specs.Pending.{AreLevels}
 
 pub record Contents : Type 0 where
   -- the bytes of RAM, from physical address 0 on
@@ -27,3 +28,9 @@ arrived before schedule = input_bytes (filter (λ i. nat_lt i.step before) sched
 -- the outside of the processor once these bytes have come in: of them wait all that have not been taken
 abbrev pub outside_of : Contents → List ℕ → Outside
 outside_of m bytes = record { ram = m.ram; waiting = drop m.taken bytes; output = m.output; pending = m.pending }
+
+-- what every memory of so many pages has: its bytes are below 256, and its levels are 1 to 15
+pub record AreContents (pages : ℕ) (m : Contents) : Type 0 where
+  pub size : length m.ram ≡ ram_size pages
+  pub bytes : (i : ℕ) → slice_index_or m.ram i 0 < 256
+  pub levels : AreLevels m.pending

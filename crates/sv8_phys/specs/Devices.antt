@@ -1,11 +1,11 @@
 -- Accesses to physical memory, as actions: RAM from address 0 on, devices, and a bus error elsewhere.
 use Rattle.std.specs.Prelude.{ℕ, ◌+◌, ◌-◌, ◌*◌, ◌/◌, ◌%◌, ◌^◌, ◌==◌, nat_lt, Result, Ok, Err, if◌then◌else◌}
-use Rattle.sv8_model.specs.Action.{Action, done, load_word, store_word, load_byte, store_byte, emit, mark_level, ◌>>=◌}
+use Rattle.sv8_model.specs.Action.{Action, done, load_word, store_word, load_byte, store_byte, emit, ask_levels, clear_levels, expire, ◌>>=◌}
 use Rattle.sv8_phys.specs.declared.fault.BusError.{BusError}
 use Rattle.sv8_phys.specs.declared.size.Size.{Size}
 use Rattle.sv8_phys.specs.declared.size.Size.TheVariants.{Byte, Half, Word, Double}
 use Rattle.sv8_phys.specs.declared.timer.Timer.{Timer}
-use Rattle.sv8_phys.specs.Levels.{asked, cleared}
+use Rattle.sv8_model.specs.Levels.{every_level}
 
 -- nothing serves the address
 abbrev pub no_answer : BusError
@@ -22,8 +22,8 @@ ram_load Double a = load_word (a / 4) (λ high. load_word (a / 4 + 1) (λ low. d
 
 -- a store of the low bytes of a number, which leads to x
 abbrev pub ram_store : {R : Type 0} → Size → ℕ → ℕ → R → Action R
-ram_store Byte a v x = store_byte a (v % 2 ^ 8) (done x)
-ram_store Half a v x = store_byte a (v / 2 ^ 8 % 2 ^ 8) (store_byte (a + 1) (v % 2 ^ 8) (done x))
+ram_store Byte a v x = store_byte a v (done x)
+ram_store Half a v x = store_byte a (v / 2 ^ 8) (store_byte (a + 1) v (done x))
 ram_store Word a v x = store_word (a / 4) (v % 2 ^ 32) (done x)
 ram_store Double a v x = store_word (a / 4) (v / 2 ^ 32 % 2 ^ 32) (store_word (a / 4 + 1) (v % 2 ^ 32) (done x))
 
@@ -63,7 +63,7 @@ device_load timer a =
     if a == output_address then done (Ok 0) else
     (if a == count_address then done (Ok timer.count) else
     (if a == reload_address then done (Ok timer.reload) else
-    (if a == pending_address then asked 0xfffe >>= (λ word. answered word) else done (Err no_answer))))
+    (if a == pending_address then ask_levels every_level (λ word. answered word) else done (Err no_answer))))
 
 -- what a store leads to: whether anything serves its address, and the timer as it leaves it
 pub record Stored : Type 0 where
@@ -79,7 +79,7 @@ device_store timer a v =
     if a == output_address then emit (v % 2 ^ 8) (done (stored_with timer)) else
     (if a == count_address then done (stored_with (record timer { count = v % 2 ^ 32 })) else
     (if a == reload_address then done (stored_with (record timer { reload = v % 2 ^ 32 })) else
-    (if a == pending_address then cleared (v % 2 ^ 32) (done (stored_with timer)) else
+    (if a == pending_address then clear_levels (v % 2 ^ 32) (done (stored_with timer)) else
     (if a == input_address then done (stored_with timer) else
     (if a == waiting_address then done (stored_with timer) else done (record { answer = Err no_answer; timer = timer }))))))
 
@@ -105,8 +105,8 @@ load limit timer size a = if nat_lt a limit then (ram_load size a >>= answered) 
 abbrev pub store : ℕ → Timer → Size → ℕ → ℕ → Action Stored
 store limit timer size a v = if nat_lt a limit then ram_store size a v (stored_with timer) else outside_store timer size a v
 
--- a step of the timer: a count above 0 falls by one, and when it thereby reaches 0, level 10 becomes pending and the count is set to the reload
+-- a step of the timer: a count above 0 falls by one; when it thereby reaches 0, the timer expires, and starts again from the reload
 unfoldable pub tick : Timer → Action Timer
 tick timer =
     if timer.count == 0 then done timer else
-    (if timer.count == 1 then mark_level 10 (done (record timer { count = timer.reload })) else done (record timer { count = timer.count - 1 }))
+    (if timer.count == 1 then expire (done (record timer { count = timer.reload })) else done (record timer { count = timer.count - 1 }))

@@ -1,62 +1,21 @@
--- What is told of a step, seen by what it says of each word, each level, the input and the timer; and what the bits of a word of levels say.
-use Rattle.std.specs.Prelude.{◌≡◌, ℕ, ◌==◌, Bool, true, false, not, ◌&&◌, List, slice_index_or}
+-- What is told of a step has the footprint of what was noted; and what the bits of a word of levels say.
+use Rattle.std.specs.Prelude.{◌≡◌, ℕ, Bool, false, List, slice_index_or}
+use Rattle.sv8_model.specs.declared.touch.Touch.{Touch}
+use Rattle.sv8_model.specs.Words.{bit}
+use Rattle.sv8_model.specs.Levels.{levels_word}
+use Rattle.sv8_model.specs.Cells.{Cell, is_read, is_written}
+use Rattle.sv8_model.specs.Footprint.{is_write_of, reads_word, writes_word}
 use Rattle.std.specs.List.{list_any}
-use Rattle.sv8_phys.specs.declared.touch.Touch.{Touch as Note}
-use Rattle.sv8_phys.specs.declared.touch.Touch.TheVariants as note
-use Rattle.sv8_phys.specs.Levels.{bit, levels_word}
-use Rattle.sv8_phys.specs.Notes.{is_read_of, told}
+use Rattle.sv8_phys.specs.Notes.{told}
 
--- a note of a write of a word
-abbrev pub is_write_of : ℕ → Note → Bool
-is_write_of address (note.Write other) = other == address
-is_write_of address n = false
+-- every cell is read, and written, by what is told exactly as by what was noted
+pub record FootprintIsTold : Type 0 where
+  pub reads : (ts : List Touch) (c : Cell) → is_read (told ts) c ≡ is_read ts c
+  pub writes : (ts : List Touch) (c : Cell) → is_written (told ts) c ≡ is_written ts c
 
--- a note that asks a level
-abbrev pub asks_level : ℕ → Note → Bool
-asks_level l (note.Levels word) = bit word l
-asks_level l n = false
-
--- a note of the input
-abbrev pub is_input : Note → Bool
-is_input note.Input = true
-is_input n = false
-
--- a note that the timer expires
-abbrev pub is_expiry : Note → Bool
-is_expiry note.Expiry = true
-is_expiry n = false
-
--- some note reads a word
-abbrev pub is_read_in : List Note → ℕ → Bool
-is_read_in notes address = list_any (is_read_of address) notes
-
--- some note writes a word
-abbrev pub is_written_in : List Note → ℕ → Bool
-is_written_in notes address = list_any (is_write_of address) notes
-
--- some note asks a level
-abbrev pub is_asked_in : List Note → ℕ → Bool
-is_asked_in notes l = list_any (asks_level l) notes
-
--- a word is told as read exactly where some note reads it
-abbrev pub ReadsAreTold : Type 0
-ReadsAreTold = (notes : List Note) (address : ℕ) → is_read_in (told notes) address ≡ is_read_in notes address
-
--- a word is told as written exactly where some note writes it and none reads it
-abbrev pub WritesAreTold : Type 0
-WritesAreTold = (notes : List Note) (address : ℕ) → is_written_in (told notes) address ≡ (is_written_in notes address && not (is_read_in notes address))
-
--- a level is told exactly where some note asks it
-abbrev pub LevelsAreTold : Type 0
-LevelsAreTold = (notes : List Note) (l : ℕ) → is_asked_in (told notes) l ≡ is_asked_in notes l
-
--- the input is told exactly where it is noted
-abbrev pub InputIsTold : Type 0
-InputIsTold = (notes : List Note) → list_any is_input (told notes) ≡ list_any is_input notes
-
--- that the timer expires is told exactly where it is noted
-abbrev pub ExpiryIsTold : Type 0
-ExpiryIsTold = (notes : List Note) → list_any is_expiry (told notes) ≡ list_any is_expiry notes
+-- a word is told as written only where it is not read, so a write that is told needs no second look
+abbrev pub WritesAreUnread : Type 0
+WritesAreUnread = (ts : List Touch) (address : ℕ) → list_any (is_write_of address) (told ts) ≡ writes_word ts address
 
 -- the word of pending levels has the bit of each level set exactly where that level is pending
 abbrev pub BitsArePending : Type 0

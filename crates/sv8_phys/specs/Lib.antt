@@ -1,7 +1,7 @@
+pub mod Bytes
 pub mod Memory
 pub mod Pages
 pub mod Chunks
-pub mod Levels
 pub mod Pending
 pub mod Contents
 pub mod Devices

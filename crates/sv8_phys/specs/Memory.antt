@@ -1,7 +1,7 @@
 -- RAM as one list of bytes: what an access of each size finds there, and what it leaves. Numbers of more than one byte have their
 -- most significant byte at the lowest address (SPARC is big-endian).
-use Rattle.std.specs.Prelude.{ℕ, ◌+◌, ◌*◌, ◌/◌, ◌%◌, ◌^◌, List, ◌++◌, take, drop, slice_index, slice_set}
-use Rattle.sv8_model.specs.Outside.{word_of, with_word}
+use Rattle.std.specs.Prelude.{ℕ, ◌+◌, ◌*◌, ◌/◌, ◌%◌, ◌^◌, List, ◌++◌, take, drop, slice_index}
+use Rattle.sv8_model.specs.Outside.{word_of, with_word, with_byte}
 use Rattle.sv8_phys.specs.declared.size.Size.{Size}
 use Rattle.sv8_phys.specs.declared.size.Size.TheVariants.{Byte, Half, Word, Double}
 
@@ -25,8 +25,8 @@ value_at Double a ram = word_of ram (a / 4) * 2 ^ 32 + word_of ram (a / 4 + 1)
 
 -- RAM with the low bytes of a number at an address
 unfoldable pub with_value : Size → ℕ → ℕ → List ℕ → List ℕ
-with_value Byte a v ram = slice_set ram a (v % 2 ^ 8)
-with_value Half a v ram = slice_set (slice_set ram a (v / 2 ^ 8 % 2 ^ 8)) (a + 1) (v % 2 ^ 8)
+with_value Byte a v ram = with_byte ram a v
+with_value Half a v ram = with_byte (with_byte ram a (v / 2 ^ 8)) (a + 1) v
 with_value Word a v ram = with_word ram (a / 4) (v % 2 ^ 32)
 with_value Double a v ram = with_word (with_word ram (a / 4) (v / 2 ^ 32 % 2 ^ 32)) (a / 4 + 1) (v % 2 ^ 32)
 

@@ -1,78 +1,50 @@
--- What a note tells, and what a step tells of its touches.
-use Rattle.std.specs.Prelude.{ℕ, zero, suc, ◌+◌, ◌/◌, ◌==◌, Bool, true, false, not, ◌&&◌, List, [], ◌∷◌, ◌++◌, filter, flat_map, bit_or, if◌then◌else◌}
-use Rattle.std.specs.List.{list_any}
-use Rattle.sv8_model.specs.Action.{Touch, ram_word, console_input, interrupt_level, reads, writes}
+-- What is noted of an access to RAM, and what is told of a step at its end.
+use Rattle.std.specs.Prelude.{ℕ, ◌+◌, ◌*◌, ◌/◌, ◌==◌, Bool, true, false, not, ◌&&◌, List, [], ◌∷◌, ◌++◌, filter, bit_or, if◌then◌else◌}
+use Rattle.sv8_model.specs.declared.touch.Touch.{Touch}
+use Rattle.sv8_model.specs.declared.touch.Touch.TheVariants.{Read, Write, Levels}
+use Rattle.sv8_model.specs.Outside.{word_address}
+use Rattle.sv8_model.specs.Footprint.{reads_word}
 use Rattle.sv8_phys.specs.declared.size.Size.{Size}
 use Rattle.sv8_phys.specs.declared.size.Size.TheVariants.{Byte, Half, Word, Double}
-use Rattle.sv8_phys.specs.declared.touch.Touch.{Touch as Note}
-use Rattle.sv8_phys.specs.declared.touch.Touch.TheVariants as note
-use Rattle.sv8_phys.specs.Levels.{bit}
 
--- the levels of a word that are at most l are read, from the highest down
-abbrev pub level_reads : ℕ → ℕ → List Touch
-level_reads zero word = []
-level_reads (suc l) word = if bit word (suc l) then reads (interrupt_level (suc l)) ∷ level_reads l word else level_reads l word
+-- ---- an access to RAM
 
--- the touches that a note stands for
-abbrev pub touches_of : Note → List Touch
-touches_of (note.Read address) = reads (ram_word (address / 4)) ∷ []
-touches_of (note.Write address) = writes (ram_word (address / 4)) ∷ []
-touches_of note.Input = reads console_input ∷ []
-touches_of (note.Levels word) = level_reads 15 word
-touches_of note.Expiry = writes (interrupt_level 10) ∷ []
-
--- the touches that notes stand for, in their order
-abbrev pub touches_of_all : List Note → List Touch
-touches_of_all notes = flat_map touches_of notes
-
--- a note of a read of a word
-abbrev pub is_read_of : ℕ → Note → Bool
-is_read_of address (note.Read other) = other == address
-is_read_of address n = false
-
--- a write of a word that is also read need not be told, since what is told of the word is the read
-abbrev pub is_covered : List Note → Note → Bool
-is_covered notes (note.Write address) = list_any (is_read_of address) notes
-is_covered notes n = false
-
--- a note of levels
-abbrev pub is_levels : Note → Bool
-is_levels (note.Levels word) = true
-is_levels n = false
-
--- the levels that a note asks
-abbrev pub levels_of : Note → ℕ
-levels_of (note.Levels word) = word
-levels_of n = 0
-
--- all levels that some note asks
-abbrev pub levels_in : List Note → ℕ
-levels_in [] = 0
-levels_in (note.Levels word ∷ notes) = bit_or word (levels_in notes)
-levels_in (n ∷ notes) = levels_in notes
-
--- a note of levels, if there are any
-abbrev pub levels_note : ℕ → List Note
-levels_note word = if word == 0 then [] else note.Levels word ∷ []
-
--- a note is told as it stands, where it is neither a covered write nor one of levels
-abbrev pub is_told : List Note → Note → Bool
-is_told notes n = not (is_covered notes n) && not (is_levels n)
-
--- what is told of a step: its notes but for covered writes and for levels, and then the levels in one note
-unfoldable pub told : List Note → List Note
-told notes = filter (is_told notes) notes ++ levels_note (levels_in notes)
-
--- what a load from RAM touches
+-- what a load touches: the word of each byte, or each word
 abbrev pub load_touches : Size → ℕ → List Touch
-load_touches Byte a = reads (ram_word (a / 4)) ∷ []
-load_touches Half a = reads (ram_word (a / 4)) ∷ reads (ram_word ((a + 1) / 4)) ∷ []
-load_touches Word a = reads (ram_word (a / 4)) ∷ []
-load_touches Double a = reads (ram_word (a / 4)) ∷ reads (ram_word (a / 4 + 1)) ∷ []
+load_touches Byte a = Read (word_address a) ∷ []
+load_touches Half a = Read (word_address a) ∷ Read (word_address (a + 1)) ∷ []
+load_touches Word a = Read (word_address a) ∷ []
+load_touches Double a = Read (word_address a) ∷ Read (4 * (a / 4 + 1)) ∷ []
 
--- what a store to RAM touches: a byte or a halfword leaves the rest of its word, so it counts as a read
+-- what a store touches: a byte or a halfword leaves the rest of its word, so it counts as a read
 abbrev pub store_touches : Size → ℕ → List Touch
-store_touches Byte a = reads (ram_word (a / 4)) ∷ []
-store_touches Half a = reads (ram_word (a / 4)) ∷ reads (ram_word ((a + 1) / 4)) ∷ []
-store_touches Word a = writes (ram_word (a / 4)) ∷ []
-store_touches Double a = writes (ram_word (a / 4)) ∷ writes (ram_word (a / 4 + 1)) ∷ []
+store_touches Byte a = Read (word_address a) ∷ []
+store_touches Half a = Read (word_address a) ∷ Read (word_address (a + 1)) ∷ []
+store_touches Word a = Write (word_address a) ∷ []
+store_touches Double a = Write (word_address a) ∷ Write (4 * (a / 4 + 1)) ∷ []
+
+-- ---- a step
+
+-- the levels that a touch asks
+abbrev pub levels_of : Touch → ℕ
+levels_of (Levels word) = word
+levels_of t = 0
+
+-- all levels that some touch asks
+abbrev pub levels_in : List Touch → ℕ
+levels_in [] = 0
+levels_in (t ∷ ts) = bit_or (levels_of t) (levels_in ts)
+
+-- one touch of all these levels, if there are any
+abbrev pub levels_note : ℕ → List Touch
+levels_note word = if word == 0 then [] else Levels word ∷ []
+
+-- a touch is told as it stands: a write only where its word is not read, and levels not at all
+abbrev pub is_told : List Touch → Touch → Bool
+is_told ts (Write address) = not (reads_word ts address)
+is_told ts (Levels word) = false
+is_told ts t = true
+
+-- what is told of a step: each read, each write of a word that is not read, the input and the expiry as they were noted, and then all levels at once
+unfoldable pub told : List Touch → List Touch
+told ts = filter (is_told ts) ts ++ levels_note (levels_in ts)

@@ -1,10 +1,8 @@
 //! The pending interrupt levels.
 
-ghost use Rattle.std.specs.Prelude.{◌≡◌, ℕ, ◌≤◌, true, false, replicate, slice_set};
-ghost use Rattle.sv8_model.specs.Outside.{Outside};
-ghost use Rattle.sv8_model.specs.Action.{done, result_of, after};
-ghost use Rattle.sv8_phys.specs.Levels.{levels_word, asked, cleared};
-ghost use Rattle.sv8_phys.specs.Pending.{AreLevels, without_levels};
+ghost use Rattle.std.specs.Prelude.{◌≡◌, ◌≤◌, true, false, replicate, slice_set};
+ghost use Rattle.sv8_model.specs.Levels.{levels_word, asked, cleared};
+ghost use Rattle.sv8_phys.specs.Pending.{AreLevels};
 
 use std::marker::Model;
 
@@ -16,7 +14,7 @@ pub(crate) struct Pending {
 
 impl Model for Pending {
     ghost use Rattle.std.specs.Prelude.{◌≡◌, List, Bool, false};
-    ghost use Rattle.sv8_phys.specs.Levels.{bit};
+    ghost use Rattle.sv8_model.specs.Words.{bit};
     ghost use Rattle.sv8_phys.specs.Pending.{levels_of_word};
 
     ghost Value = { List Bool };
@@ -62,17 +60,41 @@ impl Pending {
         self.levels |= 1 << level;
     }
 
+    /// Makes a level pending, or no longer pending.
+    pub(crate) fn set(&mut self, level: u32, pending: bool)
+        requires low { 1 ≤ level }
+        requires high { level ≤ 15 }
+        ensures value { self.new ≡ slice_set self.old level pending }
+        ensures shape { AreLevels self.new }
+    {
+        if pending {
+            self.request(level);
+        } else {
+            self.withdraw(level);
+        }
+    }
+
+    /// Makes a level no longer pending.
+    fn withdraw(&mut self, level: u32)
+        requires low { 1 ≤ level }
+        requires high { level ≤ 15 }
+        ensures value { self.new ≡ slice_set self.old level false }
+        ensures shape { AreLevels self.new }
+    {
+        let _levels = self.levels;
+        self.clear(1 << level);
+    }
+
     /// Those levels of a word, bit l for level l, that are pending. Bit 0 is ignored.
     pub(crate) fn asked(&self, levels: u16) -> u32
-        ensures { (o : Outside) → o.pending ≡ self.now → result ≡ result_of (asked levels) o }
+        ensures { result ≡ asked levels self.now }
     {
         u32::from(self.levels & levels)
     }
 
     /// The levels of a word, bit l for level l, are no longer pending. Other bits than those of levels 1 to 15 are ignored.
     pub(crate) fn clear(&mut self, levels: u32)
-        ensures value { self.new ≡ without_levels levels self.old }
-        ensures action { (o : Outside) (x : ℕ) → o.pending ≡ self.old → after (cleared levels (done x)) o ≡ record o { pending = self.new } }
+        ensures value { self.new ≡ cleared levels self.old }
         ensures shape { AreLevels self.new }
     {
         self.levels = (u32::from(self.levels) & !levels) as u16;

@@ -3,7 +3,6 @@
 
 mod chunk;
 mod fault;
-mod group;
 pub mod laws;
 mod levels;
 mod output;
@@ -23,4 +22,5 @@ pub use phys::{INPUT, OUTPUT, PENDING, Phys, TIMER_COUNT, TIMER_RELOAD, WAITING}
 pub use size::Size;
 pub use step_touches::StepTouches;
 pub use timer::Timer;
-pub use touch::{NoTouches, Touch, Touches};
+pub use sv8_model::Touch;
+pub use touch::{NoTouches, Touches};

@@ -1,7 +1,8 @@
 //! A page of RAM.
 
-ghost use Rattle.std.specs.Prelude.{◌≡◌, ◌<◌, ◌%◌, ◌/◌, ◌^◌, length, replicate, OnOk, OnErr, MatchBool};
+ghost use Rattle.std.specs.Prelude.{◌≡◌, ◌<◌, ◌%◌, ◌/◌, ◌^◌, length, replicate, true, OnOk, OnErr, MatchBool};
 ghost use Rattle.sv8_model.specs.Outside.{word_of, with_word};
+ghost use Rattle.sv8_phys.specs.Bytes.{are_bytes};
 ghost use Rattle.sv8_phys.specs.Memory.{bytes_in, value_at, with_value};
 
 use crate::size::Size;
@@ -18,6 +19,7 @@ pub(crate) const PAGE_SIZE: usize = 4096;
 pub(crate) struct PageBytes {
     bytes: [u8; PAGE_SIZE],
     ghost full: { length bytes ≡ 4096 },
+    ghost fit: { are_bytes bytes ≡ true },
 }
 
 impl PageBytes {

@@ -1,13 +1,14 @@
 //! The notes of one step, kept until its end.
 
-ghost use Rattle.std.specs.Prelude.{◌≡◌, List, [], ◌∷◌, ◌++◌, OnOk, OnErr, true, filter};
-ghost use Rattle.std.specs.List.{list_any};
+ghost use Rattle.std.specs.Prelude.{◌≡◌, ◌∷◌, ◌++◌, [], OnOk, OnErr, true, filter};
 ghost use Rattle.sv8_model.specs.Does.{kept};
-ghost use Rattle.sv8_phys.specs.Notes.{touches_of, touches_of_all, is_read_of, is_covered, is_levels, is_told, levels_of, levels_in, levels_note, told};
+ghost use Rattle.sv8_model.specs.Footprint.{reads_word};
+ghost use Rattle.sv8_phys.specs.Notes.{is_told, levels_of, levels_in, levels_note, told};
 
-use crate::touch::{Touch, Touches};
+use crate::touch::Touches;
 use std::alloc::{AllocError, Global};
 use std::marker::Model;
+use sv8_model::Touch;
 
 /// The notes of one step, in their order.
 ///
@@ -20,7 +21,7 @@ pub struct StepTouches {
 
 impl Model for StepTouches {
     ghost use Rattle.std.specs.Prelude.{List};
-    ghost use Rattle.sv8_phys.specs.declared.touch.Touch.{Touch};
+    ghost use Rattle.sv8_model.specs.declared.touch.Touch.{Touch};
 
     ghost Value = { List Touch };
 
@@ -29,13 +30,12 @@ impl Model for StepTouches {
 
 impl Touches for StepTouches {
     ghost use Rattle.std.specs.Prelude.{Bool, true};
-    ghost use Rattle.sv8_phys.specs.Notes.{touches_of_all};
 
     const KEEPS: bool = true;
 
     ghost KEEPS = { true };
 
-    ghost noted = { touches_of_all };
+    ghost noted = { λ s. s };
 
     fn note(&mut self, touch: Touch) -> Result<(), AllocError> {
         self.notes.push(touch)?;
@@ -45,7 +45,7 @@ impl Touches for StepTouches {
 
 /// Whether some note is a read of the word at an address.
 fn is_read(notes: &[Touch], address: u32) -> bool
-    ensures { result ≡ list_any (is_read_of address) notes.now }
+    ensures { result ≡ reads_word notes.now address }
 {
     notes.iter().any(|note| matches!(*note, Touch::Read(other) if other == address))
 }
@@ -57,7 +57,7 @@ fn stands(notes: &[Touch], note: Touch) -> bool
     match note {
         Touch::Write(address) => !is_read(notes, address),
         Touch::Levels(_) => false,
-        _ => true,
+        Touch::Read(_) | Touch::Input | Touch::Expiry => true,
     }
 }
 
@@ -67,7 +67,7 @@ fn levels_of_note(note: Touch) -> u16
 {
     match note {
         Touch::Levels(levels) => levels,
-        _ => 0,
+        Touch::Read(_) | Touch::Write(_) | Touch::Input | Touch::Expiry => 0,
     }
 }
 
@@ -85,7 +85,7 @@ fn all_levels(notes: &[Touch]) -> u16
 
 /// Hands on a note, if it is told as it stands.
 fn tell_note<T: Touches>(from: &[Touch], note: Touch, notes: &mut T) -> Result<(), AllocError>
-    ensures ok { OnOk result (T.noted notes.new ≡ T.noted notes.old ++ kept T.KEEPS (touches_of_all (filter (is_told from.now) (note ∷ [])))) }
+    ensures ok { OnOk result (T.noted notes.new ≡ T.noted notes.old ++ kept T.KEEPS (filter (is_told from.now) (note ∷ []))) }
     ensures err { OnErr result (T.KEEPS ≡ true) }
 {
     if !stands(from, note) {
@@ -100,7 +100,7 @@ fn tell_note<T: Touches>(from: &[Touch], note: Touch, notes: &mut T) -> Result<(
 /// Hands on the notes that are told as they stand.
 #[tactic(auto, using(crate::proofs::Telling::handed_more))]
 fn tell_standing<T: Touches>(from: &[Touch], notes: &mut T) -> Result<(), AllocError>
-    ensures ok { OnOk result (T.noted notes.new ≡ T.noted notes.old ++ kept T.KEEPS (touches_of_all (filter (is_told from.now) from.now))) }
+    ensures ok { OnOk result (T.noted notes.new ≡ T.noted notes.old ++ kept T.KEEPS (filter (is_told from.now) from.now)) }
     ensures err { OnErr result (T.KEEPS ≡ true) }
 {
     for note in from {
@@ -114,7 +114,7 @@ fn tell_standing<T: Touches>(from: &[Touch], notes: &mut T) -> Result<(), AllocE
 
 /// Hands on a note of levels, if there are any.
 fn tell_levels<T: Touches>(levels: u16, notes: &mut T) -> Result<(), AllocError>
-    ensures ok { OnOk result (T.noted notes.new ≡ T.noted notes.old ++ kept T.KEEPS (touches_of_all (levels_note levels))) }
+    ensures ok { OnOk result (T.noted notes.new ≡ T.noted notes.old ++ kept T.KEEPS (levels_note levels)) }
     ensures err { OnErr result (T.KEEPS ≡ true) }
 {
     if levels == 0 {
@@ -127,9 +127,9 @@ fn tell_levels<T: Touches>(levels: u16, notes: &mut T) -> Result<(), AllocError>
 }
 
 /// Hands on what is told of some notes.
-#[tactic(auto, using(crate::proofs::Telling::kept_touches), unfolding(crate::specs::Notes::told))]
+#[tactic(auto, using(sv8_model::proofs::Deeds::kept_append), unfolding(crate::specs::Notes::told))]
 fn tell_all<T: Touches>(from: &[Touch], notes: &mut T) -> Result<(), AllocError>
-    ensures ok { OnOk result (T.noted notes.new ≡ T.noted notes.old ++ kept T.KEEPS (touches_of_all (told from.now))) }
+    ensures ok { OnOk result (T.noted notes.new ≡ T.noted notes.old ++ kept T.KEEPS (told from.now)) }
     ensures err { OnErr result (T.KEEPS ≡ true) }
 {
     match tell_standing(from, notes) {
@@ -155,7 +155,7 @@ impl StepTouches {
     /// `AllocError` where those that take the notes cannot have memory for them. Some may have been handed on then, and
     /// none is forgotten.
     pub fn tell<T: Touches>(&mut self, notes: &mut T) -> Result<(), AllocError>
-        ensures ok { OnOk result (T.noted notes.new ≡ T.noted notes.old ++ kept T.KEEPS (touches_of_all (told self.old))) }
+        ensures ok { OnOk result (T.noted notes.new ≡ T.noted notes.old ++ kept T.KEEPS (told self.old)) }
         ensures empty { OnOk result (self.new ≡ []) }
         ensures err { OnErr result (T.KEEPS ≡ true) }
         ensures stays { OnErr result (self.new ≡ self.old) }

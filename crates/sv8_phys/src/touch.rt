@@ -1,30 +1,15 @@
 //! Notes of what a step touches.
 
-ghost use Rattle.std.specs.Prelude.{◌≡◌, ◌++◌, true, OnOk, OnErr};
+ghost use Rattle.std.specs.Prelude.{◌≡◌, ◌++◌, ◌∷◌, [], true, OnOk, OnErr};
 ghost use Rattle.sv8_model.specs.Does.{kept};
-ghost use Rattle.sv8_phys.specs.Notes.{touches_of};
 
 use std::alloc::AllocError;
-
-/// A touch of something outside the processor. Words of RAM are named by their physical address, a multiple of 4.
-#[derive(Clone, Copy, PartialEq, Eq, Debug)]
-pub enum Touch {
-    /// A word of RAM is read, or written in part.
-    Read(u32),
-    /// A word of RAM is written whole.
-    Write(u32),
-    /// A waiting byte is taken, or the waiting bytes are counted.
-    Input,
-    /// Some interrupt levels are asked, bit l for level l, from 1 to 15.
-    Levels(u16),
-    /// The timer expires, and makes level 10 pending.
-    Expiry,
-}
+use sv8_model::Touch;
 
 /// What takes notes of touches.
 pub trait Touches {
     ghost use Rattle.std.specs.Prelude.{Bool, List};
-    ghost use Rattle.sv8_model.specs.Action as model;
+    ghost use Rattle.sv8_model.specs.declared.touch.Touch.{Touch};
 
     /// Whether notes are kept.
     const KEEPS: bool;
@@ -32,7 +17,7 @@ pub trait Touches {
     ghost KEEPS: { Bool };
 
     /// The touches noted so far.
-    ghost noted: { Self → List model.Touch };
+    ghost noted: { Self → List Touch };
 
     /// Takes a note, behind those taken so far.
     ///
@@ -40,7 +25,7 @@ pub trait Touches {
     ///
     /// `AllocError` where memory for the note cannot be had; never where no notes are kept.
     fn note(&mut self, touch: Touch) -> Result<(), AllocError>
-        ensures ok { OnOk result (noted self.new ≡ noted self.old ++ kept KEEPS (touches_of touch)) }
+        ensures ok { OnOk result (noted self.new ≡ noted self.old ++ kept KEEPS (touch ∷ [])) }
         ensures err { OnErr result (KEEPS ≡ true) };
 }
 

@@ -1,6 +1,7 @@
-use Rattle.std.proofs.Common.{sym, ◌∙◌, arith}
-use Rattle.sv8_phys.proofs.LevelActions.{result-asked}
+use Rattle.std.proofs.Common.{ap, ◌∙◌, arith}
+use Rattle.sv8_model.specs.Levels.{asked}
+use Rattle.sv8_phys.proofs.PendingLevels.{asked_word}
 use Rattle.sv8_phys.proofs.levels.Pending.asked.Goals as goal
 
 pub returns : goal.returns
-returns c = λ o e. c.from.ensures ∙ result-asked c.args.levels c.self.inside.levels o (omega arith) (e ∙ sym c.self.view_is) c.self.invariant
+returns c = c.from.ensures ∙ asked_word c.self.inside.levels c.args.levels (omega arith) ∙ ap (asked c.args.levels) c.self.view_is

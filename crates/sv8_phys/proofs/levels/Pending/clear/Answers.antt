@@ -1,9 +1,8 @@
-use Rattle.std.proofs.Common.{sym, ap, ◌∙◌, ◌-◌, Bool, List, bit_and, arith, w32}
+use Rattle.std.proofs.Common.{ap, ◌∙◌, ◌-◌, bit_and, arith, w32}
 use Rattle.std.specs.Int.{bit_not}
-use Rattle.sv8_model.specs.Outside.{Outside}
-use Rattle.sv8_phys.specs.Levels.{bit}
-use Rattle.sv8_phys.specs.Pending.{levels_of_word, without_levels}
-use Rattle.sv8_phys.proofs.LevelActions.{after-cleared}
+use Rattle.sv8_model.specs.Words.{bit}
+use Rattle.sv8_model.specs.Levels.{cleared}
+use Rattle.sv8_phys.specs.Pending.{levels_of_word}
 use Rattle.sv8_phys.proofs.PendingLevels.{are_levels, cleared_word, cleared_zero}
 use Rattle.sv8_phys.proofs.levels.Pending.clear.Goals as goal
 
@@ -14,12 +13,7 @@ invariant_of-self c =
 pub returns-clause-value : goal.returns-clause-value
 returns-clause-value c =
     ap (λ p. levels_of_word (bit_and p (bit_not w32 c.args.levels))) c.from.ensures
-    ∙ cleared_word c.self.inside.levels c.args.levels (omega arith) c.self.invariant ∙ ap (without_levels c.args.levels) c.self.view_is
-
-pub returns-clause-action : goal.returns-clause-action
-returns-clause-action c =
-    let with_pending : Outside → List Bool → Outside = λ o ps. record o { pending = ps } in
-    λ o x e. after-cleared c.args.levels x o ∙ ap (with_pending o) (ap (without_levels c.args.levels) e ∙ sym (returns-clause-value c))
+    ∙ cleared_word c.self.inside.levels c.args.levels (omega arith) ∙ ap (cleared c.args.levels) c.self.view_is
 
 pub returns-clause-shape : goal.returns-clause-shape
 returns-clause-shape c = are_levels (bit_and c.from.result (4294967295 - c.args.levels)) (invariant_of-self c)

@@ -1,5 +1,5 @@
 use Rattle.std.proofs.Common.{ap, ◌∙◌, ◌*◌, ◌^◌, ◌%◌, true, set, bit_or, arith}
-use Rattle.sv8_phys.specs.Levels.{bit}
+use Rattle.sv8_model.specs.Words.{bit}
 use Rattle.sv8_phys.specs.Pending.{levels_of_word}
 use Rattle.sv8_phys.proofs.PendingLevels.{are_levels, shifted_one, requested, requested_zero}
 use Rattle.sv8_phys.proofs.levels.Pending.request.Goals as goal

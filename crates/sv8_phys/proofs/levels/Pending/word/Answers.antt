@@ -1,5 +1,5 @@
 use Rattle.std.proofs.Common.{ap, ◌∙◌, arith}
-use Rattle.sv8_phys.specs.Levels.{levels_word}
+use Rattle.sv8_model.specs.Levels.{levels_word}
 use Rattle.sv8_phys.proofs.PendingWord.{word_of_bits}
 use Rattle.sv8_phys.proofs.levels.Pending.word.Goals as goal
 

@@ -1,6 +1,6 @@
 use Rattle.std.proofs.Common.{◌≡◌, replicate}
-use Rattle.sv8_phys.specs.Pages.{groups_of}
+use Rattle.sv8_phys.specs.Pages.{pages_of}
 use Rattle.sv8_phys.proofs.ram.Ram.new.Given as goal
 
 abbrev pub invariant-loop-place : goal.invariant-loop-place
-invariant-loop-place g l = groups_of l.groups.items ≡ replicate l._place (replicate 64 (replicate 4096 0))
+invariant-loop-place g l = pages_of l.pages.items ≡ replicate l._place (replicate 4096 0)

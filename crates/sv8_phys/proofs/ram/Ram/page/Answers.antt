@@ -1,16 +1,20 @@
-use Rattle.std.proofs.Common.{◌<◌, ◌/◌, sym, ap, ◌∙◌, length, arith}
+use Rattle.std.proofs.Common.{ℕ, List, [], ◌<◌, ◌/◌, sym, ap, ◌∙◌, length, arith}
+use Rattle.std.proofs.lemmas.List.{get_or-map}
+use Rattle.std.specs.declared.rc.Rc.{Rc}
+use Rattle.std.specs.declared.alloc.Global.{Global}
+use Rattle.sv8_phys.specs.declared.page.PageBytes.{PageBytes}
 use Rattle.sv8_phys.specs.Memory.{page_of}
-use Rattle.sv8_phys.specs.Pages.{groups_of}
-use Rattle.sv8_phys.proofs.AllBytes.{page_of-all}
-use Rattle.sv8_phys.proofs.Groups.{page_long}
+use Rattle.sv8_phys.specs.Pages.{pages_of, page_at}
+use Rattle.sv8_phys.proofs.AllBytes.{page_of-all, page_long, page_behind}
 use Rattle.sv8_phys.proofs.ram.Ram.page.Goals as goal
 
 pub returns : goal.returns
 returns g c =
     let p = c.args.at / 4096 in
-    let handles = c.self.inside.groups.items in
-    let in_groups : p / 64 < length handles = omega (arith, c.self.invariant) in
+    let handles = c.self.inside.pages.items in
+    let in_handles : p < length handles = omega (arith, c.self.invariant) in
     c.from_bytes.ensures
-    ∙ c.in_ok-bytes.ensures
-    ∙ sym (page_of-all g.row.PAGES (groups_of handles) p (omega arith) (page_long handles p in_groups))
+    ∙ ap (λ (v : PageBytes). v.bytes) c.in_ok-bytes.ensures.cases
+    ∙ page_behind handles p c.index.result.now in_handles c.index.ensures
+    ∙ sym (page_of-all g.row.PAGES (pages_of handles) p (omega arith) (page_long handles p in_handles))
     ∙ ap (λ ram. page_of ram p) c.self.view_is

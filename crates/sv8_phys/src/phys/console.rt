@@ -1,0 +1,72 @@
+//! The console's input.
+
+ghost use Rattle.std.specs.Prelude.{◌≡◌, ◌≤◌, true, IfOk, OnErr};
+ghost use Rattle.sv8_model.specs.Action as model;
+ghost use Rattle.sv8_model.specs.Does.{Does};
+ghost use Rattle.sv8_time.specs.Schedule.{bytes_below};
+ghost use Rattle.sv8_phys.specs.Contents.{arrived, outside_of};
+
+use crate::phys::Phys;
+use crate::touch::Touches;
+use std::alloc::AllocError;
+use sv8_model::Touch;
+use sv8_time::Timeline;
+
+impl<const PAGES: usize> Phys<PAGES> {
+    /// Takes the oldest of the bytes that came in at the steps below `before` and wait; 0 if none does.
+    ///
+    /// # Errors
+    ///
+    /// `AllocError` where memory for the note cannot be had; nothing is then taken.
+    pub fn take_input<T: Touches>(
+        &mut self,
+        before: u32,
+        timeline: &Timeline,
+        notes: &mut T,
+    ) -> Result<u8, AllocError>
+        requires { self.old.taken ≤ bytes_below before timeline.now.inputs }
+        ensures ok { IfOk result (λ byte. Does T.KEEPS (model.take_input (λ b. model.done b))
+            (outside_of self.old (arrived before timeline.now)) (outside_of self.new (arrived before timeline.now)) byte (T.noted notes.old) (T.noted notes.new)) }
+        ensures others { self.new ≡ record self.old { taken = self.new.taken } }
+        ensures delivered { self.new.taken ≤ bytes_below before timeline.now.inputs }
+        ensures err { OnErr result (self.new ≡ self.old) }
+        ensures quiet { OnErr result (T.KEEPS ≡ true) }
+    {
+        notes.note(Touch::Input)?;
+        if self.taken < timeline.delivered(before) {
+            if let Some(byte) = timeline.byte(self.taken) {
+                self.taken += 1;
+                return Ok(byte);
+            }
+        }
+        Ok(0)
+    }
+
+    /// The number of bytes that came in at the steps below `before` and wait.
+    ///
+    /// # Errors
+    ///
+    /// `AllocError` where memory for the note cannot be had.
+    pub fn waiting<T: Touches>(
+        &self,
+        before: u32,
+        timeline: &Timeline,
+        notes: &mut T,
+    ) -> Result<u32, AllocError>
+        requires { self.now.taken ≤ bytes_below before timeline.now.inputs }
+        ensures ok { IfOk result (λ count. Does T.KEEPS (model.count_waiting (λ n. model.done n))
+            (outside_of self.now (arrived before timeline.now)) (outside_of self.now (arrived before timeline.now)) count (T.noted notes.old) (T.noted notes.new)) }
+        ensures quiet { OnErr result (T.KEEPS ≡ true) }
+    {
+        let delivered = timeline.delivered(before);
+        notes.note(Touch::Input)?;
+        Ok(delivered - self.taken)
+    }
+
+    /// How many of the bytes that came in at the console have been taken.
+    pub fn taken(&self) -> u32
+        ensures { result ≡ self.now.taken }
+    {
+        self.taken
+    }
+}
