@@ -7,3 +7,4 @@ pub mod Contents
 pub mod Devices
 pub mod Notes
 pub mod Laws
+pub mod Examples

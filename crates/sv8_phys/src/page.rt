@@ -1,6 +1,6 @@
 //! A page of RAM.
 
-ghost use Rattle.std.specs.Prelude.{◌≡◌, ◌<◌, ◌%◌, ◌/◌, ◌^◌, length, replicate, true, OnOk, OnErr, MatchBool};
+ghost use Rattle.std.specs.Prelude.{◌≡◌, ◌<◌, ◌%◌, ◌/◌, ◌^◌, length, replicate, true, IfOk, OnOk, OnErr, MatchBool};
 ghost use Rattle.sv8_model.specs.Outside.{word_of, with_word};
 ghost use Rattle.sv8_phys.specs.Bytes.{are_bytes};
 ghost use Rattle.sv8_phys.specs.Memory.{bytes_in, value_at, with_value};
@@ -124,13 +124,14 @@ pub struct Page {
 }
 
 impl Model for Page {
-    ghost use Rattle.std.specs.Prelude.{◌≡◌, List, ℕ, length};
+    ghost use Rattle.std.specs.Prelude.{◌≡◌, List, ℕ, true, length};
+    ghost use Rattle.sv8_phys.specs.Bytes.{are_bytes};
 
     ghost Value = { List ℕ };
 
     ghost view = { λ p. p.bytes.value.bytes };
 
-    ghost invariant = { λ p. length p.bytes.value.bytes ≡ 4096 };
+    ghost invariant = { λ p. (length p.bytes.value.bytes ≡ 4096) × (are_bytes p.bytes.value.bytes ≡ true) };
 }
 
 impl Page {
@@ -148,10 +149,24 @@ impl Page {
         self.bytes
     }
 
+    /// The same page, shared once more.
+    ///
+    /// # Errors
+    ///
+    /// `AllocError` where the page is shared as often as can be counted.
+    pub fn share(&self) -> Result<Page, AllocError>
+        ensures { IfOk result (λ p. p ≡ self.now) }
+    {
+        let bytes = self.bytes.clone()?;
+        Ok(Page { bytes })
+    }
+
     /// The word at a physical address in the page.
     pub fn word(&self, pa: u32) -> u32
         requires { pa % 4 ≡ 0 }
-        ensures { result ≡ word_of self.now (pa % 4096 / 4) }
+        ensures value { result ≡ word_of self.now (pa % 4096 / 4) }
+        ensures whole { length self.now ≡ 4096 }
+        ensures bytes { are_bytes self.now ≡ true }
     {
         let bytes = &*self.bytes;
         bytes.word(pa as usize % PAGE_SIZE)

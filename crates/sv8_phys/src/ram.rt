@@ -96,13 +96,7 @@ impl<const PAGES: usize> Ram<PAGES> {
         ensures ok { OnOk result (self.new ≡ with_value size at value self.old) }
         ensures err { OnErr result (self.new ≡ self.old) }
     {
-        write_in(
-            &mut self.pages,
-            at / PAGE_SIZE,
-            at % PAGE_SIZE,
-            size,
-            value,
-        )?;
+        write_in(&mut self.pages, at / PAGE_SIZE, at % PAGE_SIZE, size, value)?;
         Ok(())
     }
 
