@@ -3,7 +3,7 @@ use Rattle.std.specs.Prelude.{ℕ, List, length, map}
 use Rattle.std.specs.List.{range_with_len}
 use Rattle.sv8_regs.specs.Ring.{Registers, read}
 use Rattle.sv8_regs.specs.Control.{packed_psr}
-use Rattle.sv8_phys.specs.Levels.{levels_word}
+use Rattle.sv8_model.specs.Levels.{levels_word}
 use Rattle.sv8_cpu.specs.State.{State}
 use Rattle.sv8_cpu.specs.Step.{state_at}
 use Rattle.sv8_bench.specs.Kept.{Kept}

@@ -2,7 +2,8 @@
 use Rattle.std.specs.Prelude.{ℕ, zero, suc, List, Option, Some, None, if◌then◌else◌}
 use Rattle.sv8_isa.specs.declared.instr.Instr.{Instr}
 use Rattle.sv8_isa.specs.Table.{meaning}
-use Rattle.sv8_model.specs.Action.{Action, Touch, done, ◌>>=◌, result_of, after, touches}
+use Rattle.sv8_model.specs.declared.touch.Touch.{Touch}
+use Rattle.sv8_model.specs.Action.{Action, done, ◌>>=◌, result_of, after, touches}
 use Rattle.sv8_source.specs.Text.{Text}
 use Rattle.sv8_cpu.specs.declared.trap.Trap.{Trap}
 use Rattle.sv8_cpu.specs.declared.access.Request.TheVariants as request

@@ -4,7 +4,7 @@ ghost use Rattle.std.specs.Prelude.{◌≡◌, ℕ, ◌<◌, ◌≤◌, ◌%◌,
 ghost use Rattle.sv8_isa.specs.Registers.{HasRegisters};
 ghost use Rattle.sv8_model.specs.Does.{DoesUnnoted};
 ghost use Rattle.sv8_model.specs.Outside.{word_of};
-ghost use Rattle.sv8_phys.specs.Levels.{levels_word};
+ghost use Rattle.sv8_model.specs.Levels.{levels_word};
 ghost use Rattle.sv8_phys.specs.Memory.{ram_size};
 ghost use Rattle.sv8_cpu.specs.State.{reset_state};
 ghost use Rattle.sv8_cpu.specs.Instruction.{raised, taken};
