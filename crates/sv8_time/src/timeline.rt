@@ -117,7 +117,7 @@ impl Timeline {
     ///
     /// Faults, the first that holds: `StepTooLarge`; `BadAddress`, where the address is no multiple of 4 or
     /// the word is not inside RAM; `TooManyEvents`, only where no byte of the word is poked at this step yet.
-    //TT    #[tactic(auto, using(crate::proofs::SoundEvents::sound_covers, crate::proofs::SoundEvents::poke_aligned))]
+    #[tactic(auto, using(crate::proofs::SoundEvents::sound_covers, crate::proofs::SoundEvents::poke_aligned))]
     pub fn set_poke(
         &mut self,
         _alloc: Global,
@@ -144,7 +144,7 @@ impl Timeline {
     ///
     /// Faults, the first that holds: `StepTooLarge`; `BadAddress`; `NothingThere`, where no byte of the word is
     /// poked at this step.
-    //TT    #[tactic(auto, using(crate::proofs::SoundEvents::sound_cut_word, crate::proofs::SoundEvents::word_stands, crate::proofs::SoundEvents::clear_aligned))]
+    #[tactic(auto, using(crate::proofs::SoundEvents::sound_cut_word, crate::proofs::SoundEvents::word_stands, crate::proofs::SoundEvents::clear_aligned))]
     pub fn clear_poke(&mut self, step: u32, address: u32) -> Result<(), TimeFault>
         ensures ok { OnOk result (clear_poke_fault step address self.old ≡ None) }
         ensures value { OnOk result (self.new ≡ without_poke step address self.old) }
@@ -163,7 +163,7 @@ impl Timeline {
     ///
     /// Faults, the first that holds: `StepTooLarge`; `BadAddress`, where the byte is not inside RAM;
     /// `TooManyEvents`, only where no byte of its word is poked at this step yet.
-    //TT    #[tactic(auto, using(crate::proofs::SoundEvents::sound_covers))]
+    #[tactic(auto, using(crate::proofs::SoundEvents::sound_covers))]
     pub fn set_poke_byte(
         &mut self,
         _alloc: Global,
@@ -189,7 +189,7 @@ impl Timeline {
     /// Clears the poke of a byte at a step. It takes no memory.
     ///
     /// Faults, the first that holds: `StepTooLarge`; `BadAddress`; `NothingThere`, where this byte is not poked.
-    //TT    #[tactic(auto, using(crate::proofs::SoundEvents::sound_cut_byte, crate::proofs::SoundEvents::byte_stands))]
+    #[tactic(auto, using(crate::proofs::SoundEvents::sound_cut_byte, crate::proofs::SoundEvents::byte_stands))]
     pub fn clear_poke_byte(&mut self, step: u32, address: u32) -> Result<(), TimeFault>
         ensures ok { OnOk result (clear_poke_byte_fault step address self.old ≡ None) }
         ensures value { OnOk result (self.new ≡ without_poke_byte step address self.old) }
@@ -208,7 +208,7 @@ impl Timeline {
     ///
     /// Faults, the first that holds: `StepTooLarge`; `TooManyEvents`, only where nothing comes in yet;
     /// `InputTooLong`.
-    //TT    #[tactic(auto, using(crate::proofs::SoundEvents::sound_covers, crate::proofs::SoundEvents::input_fits))]
+    #[tactic(auto, using(crate::proofs::SoundEvents::sound_covers, crate::proofs::SoundEvents::input_fits))]
     pub fn set_input(&mut self, alloc: Global, step: u32, bytes: &[u8]) -> Result<(), TimeFault>
         requires { 0 < length bytes.now }
         ensures ok { OnOk result (set_input_fault step bytes.now self.old ≡ None) }
@@ -229,7 +229,7 @@ impl Timeline {
     /// Clears the bytes that come in at a step. It takes no memory.
     ///
     /// Faults, the first that holds: `StepTooLarge`, `NothingThere`.
-    //TT    #[tactic(auto, using(crate::proofs::SoundEvents::sound_cut_input, crate::proofs::SoundEvents::input_stands))]
+    #[tactic(auto, using(crate::proofs::SoundEvents::sound_cut_input, crate::proofs::SoundEvents::input_stands))]
     pub fn clear_input(&mut self, step: u32) -> Result<(), TimeFault>
         ensures ok { OnOk result (clear_input_fault step self.old ≡ None) }
         ensures value { OnOk result (self.new ≡ without_input step self.old) }
@@ -248,7 +248,7 @@ impl Timeline {
     ///
     /// Faults, the first that holds: `StepTooLarge`; `BadLevel`, where the level is not 1 to 15;
     /// `TooManyEvents`, only where this level is not requested yet.
-    //TT    #[tactic(auto, using(crate::proofs::SoundEvents::sound_covers))]
+    #[tactic(auto, using(crate::proofs::SoundEvents::sound_covers))]
     pub fn set_request(&mut self, _alloc: Global, step: u32, level: u32) -> Result<(), TimeFault>
         ensures ok { OnOk result (set_request_fault step level self.old ≡ None) }
         ensures value { OnOk result (self.new ≡ with_request step level self.old) }
@@ -268,7 +268,7 @@ impl Timeline {
     /// Clears the request of a level at a step. It takes no memory.
     ///
     /// Faults, the first that holds: `StepTooLarge`, `BadLevel`, `NothingThere`.
-    //TT    #[tactic(auto, using(crate::proofs::SoundEvents::sound_cut_request, crate::proofs::SoundEvents::request_stands))]
+    #[tactic(auto, using(crate::proofs::SoundEvents::sound_cut_request, crate::proofs::SoundEvents::request_stands))]
     pub fn clear_request(&mut self, step: u32, level: u32) -> Result<(), TimeFault>
         ensures ok { OnOk result (clear_request_fault step level self.old ≡ None) }
         ensures value { OnOk result (self.new ≡ without_request step level self.old) }
@@ -288,7 +288,7 @@ impl Timeline {
     /// What happens at a step. A step that never had an event costs the read of one flag.
     ///
     /// `inside` has what a caller needs to write the poked bytes to RAM, and `levels` to make the levels pending.
-    //TT    #[tactic(auto, using(crate::proofs::SoundEvents::no_pokes, crate::proofs::SoundEvents::no_bytes, crate::proofs::SoundEvents::no_requests))]
+    #[tactic(auto, using(crate::proofs::SoundEvents::no_pokes, crate::proofs::SoundEvents::no_bytes, crate::proofs::SoundEvents::no_requests))]
     pub fn events(&self, step: u32) -> Events<'_>
         ensures pokes { bytes_of_words result.pokes.now ≡ pokes_of_step step self.now.pokes }
         ensures bytes { result.bytes.now ≡ bytes_of_step step self.now.inputs }
