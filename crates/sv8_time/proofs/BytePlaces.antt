@@ -17,7 +17,7 @@ poked_each P step address (None ∷ bytes) f =
     poked_each P step (address + 1) bytes (λ k v l. let e : address + suc k ≡ address + 1 + k = omega arith in subst (λ n. P (poke_of step n v)) e (f (suc k) v (omega arith)))
 poked_each P step address (Some value ∷ bytes) f = (
   let e : address + 0 ≡ address = omega arith in
-  subst (λ n. P (poke_of step n value)) e (f 0 value (omega arith)),
+      subst (λ n. P (poke_of step n value)) e (f 0 value (omega arith)),
   poked_each P step (address + 1) bytes (λ k v l. let e : address + suc k ≡ address + 1 + k = omega arith in subst (λ n. P (poke_of step n v)) e (f (suc k) v (omega arith))),
 )
 

@@ -170,7 +170,7 @@ poked_by_address n address words by_address h =
     ∙ (any_map (λ w. passes_at is_some w.bytes (address % 4)) (λ b. b.word) (filter (is_by_address_at (word_of address) n) by_address)
     ∙ (any_within (λ b. passes_at is_some b.word.bytes (address % 4)) (is_by_address_at (word_of address) n) by_address
     ∙ any_same (λ b. is_by_address_at (word_of address) n b && passes_at is_some b.word.bytes (address % 4)) (λ b. b.word.step == n && (b.word.address == word_of address && passes_at is_some b.word.bytes (address % 4)))
-        (λ b. and_turn (b.word.address == word_of address) (b.word.step == n) (passes_at is_some b.word.bytes (address % 4))) by_address)))
+    (λ b. and_turn (b.word.address == word_of address) (b.word.step == n) (passes_at is_some b.word.bytes (address % 4))) by_address)))
 
 later_step : (a b c d k : ℕ) (p q : Bool) → place_before a b c d ≡ true → (a == k && p) ≡ true → (c == k && q) ≡ true → b ≤ d
 later_step a b c d k true true h e f = grind (arith, nat_tests)
@@ -196,6 +196,6 @@ next_found address after words by_address h =
     (subst (λ o. IsNext (λ n. list_any (λ b. b.word.step == n && (b.word.address == word_of address && passes_at is_some b.word.bytes (address % 4))) by_address) after (option_map (λ b. b.word.step) o))
     (sym (find_within (λ b. passes_at is_some b.word.bytes (address % 4)) (λ b. b.word.address == word_of address && nat_lt after b.word.step) by_address
     ∙ find_same (λ b. cond (b.word.address == word_of address && nat_lt after b.word.step) (passes_at is_some b.word.bytes (address % 4)) false) (λ b. (b.word.address == word_of address && passes_at is_some b.word.bytes (address % 4)) && nat_lt after b.word.step)
-        (λ b. and_thrice (b.word.address == word_of address) (nat_lt after b.word.step) (passes_at is_some b.word.bytes (address % 4))) by_address))
+    (λ b. and_thrice (b.word.address == word_of address) (nat_lt after b.word.step) (passes_at is_some b.word.bytes (address % 4))) by_address))
     (next_is by_address_before (λ b. b.word.step) (λ b. b.word.address == word_of address && passes_at is_some b.word.bytes (address % 4))
-        (λ x y b e f. later_step x.word.address x.word.step y.word.address y.word.step (word_of address) (passes_at is_some x.word.bytes (address % 4)) (passes_at is_some y.word.bytes (address % 4)) b e f) after by_address h.rising_by_address))
+    (λ x y b e f. later_step x.word.address x.word.step y.word.address y.word.step (word_of address) (passes_at is_some x.word.bytes (address % 4)) (passes_at is_some y.word.bytes (address % 4)) b e f) after by_address h.rising_by_address))

@@ -46,11 +46,14 @@ byte_in_word step address (p ∷ pokes) e = go (byte_in_word step address pokes)
         let g : (p.step == step) ≡ true = eq-eqb p.step step e in
         let h : (word_of p.address == word_of (word_of address)) ≡ true = eq-eqb (word_of p.address) (word_of (word_of address)) (omega arith) in
         rw (g, h) refl
+
     or_last : (b : Bool) → (b || true) ≡ true
     or_last true = refl
     or_last false = refl
+
     rest : has_word step (word_of address) pokes ≡ true → has_word step (word_of address) (p ∷ pokes) ≡ true
     rest h = rw h (or_last (p.step == step && word_of p.address == word_of (word_of address)))
+
     go : (has_poke step address pokes ≡ true → has_word step (word_of address) pokes ≡ true) → (a b : Bool) → (p.step == step) ≡ a → (p.address == address) ≡ b → has_word step (word_of address) (p ∷ pokes) ≡ true
     go ih true true f g = first (eqb-true p.step step f) (eqb-true p.address address g)
     go ih true false f g = rest (ih (let h : (true && false || has_poke step address pokes) ≡ true = rw (f, g) at e in h))

@@ -48,6 +48,7 @@ word_parts a limit h = (eqb-true (a % 4) 0 (left (a % 4 == 0) (nat_le (a + 4) li
     left : (p q : Bool) → (p && q) ≡ true → p ≡ true
     left true q e = refl
     left false q e = absurd (cc)
+
     right : (p q : Bool) → (p && q) ≡ true → q ≡ true
     right true q e = e
     right false q e = absurd (cc)

@@ -162,6 +162,7 @@ count_word step address a (Some v ∷ bytes) rest f e h =
   where
     has_first : word_of address ≡ a → word_of a ≡ a → has_word step address rest ≡ false
     has_first p q = subst (λ n. list_any (λ y. y.step == step && word_of y.address == n) rest ≡ false) (q ∙ sym p) h
+
     go : (b : Bool) → word_count (poked_from step (address + 1) bytes ++ rest) ≡ cond b (word_count rest + 1) (word_count rest)
         → cond b (word_count (poked_from step (address + 1) bytes ++ rest)) (word_count (poked_from step (address + 1) bytes ++ rest) + 1) ≡ word_count rest + 1
     go true ih = ih
@@ -206,8 +207,10 @@ same_placed x words by_address e h = record {
         let g : filter (is_by_address_at x.address x.step) (placed by_address_before (keyed_by_address x) by_address) ≡ keyed_by_address x ∷ [] = placed_there by_address_before (is_by_address_at x.address x.step) (keyed_by_address x) (same_by_address (keyed_by_address x)) (at_itself x.address x.step) by_address in
         rw (sym p.0, sym p.1) (f ∙ rw g refl)
     go step address false e =
-        rw (placed_elsewhere word_before (is_word_at x.step x.address) (is_word_at step address) x (key_order (λ w. w.step) (λ w. w.address)) (same_word x) (λ y f. apart x.step x.address step address y.step y.address e f) e words h.rising,
-        placed_elsewhere by_address_before (is_by_address_at x.address x.step) (is_by_address_at address step) (keyed_by_address x) (key_order (λ b. b.word.address) (λ b. b.word.step)) (same_by_address (keyed_by_address x)) (λ y f. apart x.address x.step address step y.word.address y.word.step (sym (place_eq x step address) ∙ e) f) (sym (place_eq x step address) ∙ e) by_address h.rising_by_address)
+        rw (
+          placed_elsewhere word_before (is_word_at x.step x.address) (is_word_at step address) x (key_order (λ w. w.step) (λ w. w.address)) (same_word x) (λ y f. apart x.step x.address step address y.step y.address e f) e words h.rising,
+          placed_elsewhere by_address_before (is_by_address_at x.address x.step) (is_by_address_at address step) (keyed_by_address x) (key_order (λ b. b.word.address) (λ b. b.word.step)) (same_by_address (keyed_by_address x)) (λ y f. apart x.address x.step address step y.word.address y.word.step (sym (place_eq x step address) ∙ e) f) (sym (place_eq x step address) ∙ e) by_address h.rising_by_address,
+        )
         (h.same step address)
 
 pub same_cut : (x : WordPoke) (words : List WordPoke) (by_address : List ByAddress) → SameWords words by_address → SameWords (filter (λ w. not (is_word_at x.step x.address w)) words) (filter (λ b. not (is_by_address_at x.address x.step b)) by_address)
@@ -223,8 +226,10 @@ same_cut x words by_address h = record {
         let p = at_word step address x e in
         rw (sym p.0, sym p.1, dropped_there (is_word_at x.step x.address) words, dropped_there (is_by_address_at x.address x.step) by_address) refl
     go step address false e =
-        rw (dropped_elsewhere (is_word_at x.step x.address) (is_word_at step address) (λ y f. apart x.step x.address step address y.step y.address e f) words,
-        dropped_elsewhere (is_by_address_at x.address x.step) (is_by_address_at address step) (λ y f. apart x.address x.step address step y.word.address y.word.step (sym (place_eq x step address) ∙ e) f) by_address)
+        rw (
+          dropped_elsewhere (is_word_at x.step x.address) (is_word_at step address) (λ y f. apart x.step x.address step address y.step y.address e f) words,
+          dropped_elsewhere (is_by_address_at x.address x.step) (is_by_address_at address step) (λ y f. apart x.address x.step address step y.word.address y.word.step (sym (place_eq x step address) ∙ e) f) by_address,
+        )
         (h.same step address)
 
 -- whether a test finds an element, by the part that passes it

@@ -185,9 +185,12 @@ impl<E: Keyed> Ordered<E> {
         ensures value { result ≡ prefix_len (λ e. not (place_before major minor (E.major_of e) (E.minor_of e))) self.now }
         ensures bound { result ≤ length self.now }
     {
-        self.entries
-            .as_slice()
-            .partition_point(|entry| !is_before(major, minor, entry.major(), entry.minor()))
+        self.entries.as_slice().partition_point(|entry| !is_before(
+            major,
+            minor,
+            entry.major(),
+            entry.minor(),
+        ))
     }
 
     /// Where the elements of one first number stand.

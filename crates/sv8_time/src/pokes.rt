@@ -134,7 +134,12 @@ impl Pokes {
         ensures count { OnOk result (word_count self.new ≡ (if has_word word.step word.address self.old then word_count self.old else word_count self.old + 1)) }
         ensures err { OnErr result (self.new ≡ self.old) }
     {
-        put_both(&mut self.words, word, &mut self.by_address, ByAddress { word })
+        put_both(
+            &mut self.words,
+            word,
+            &mut self.by_address,
+            ByAddress { word },
+        )
     }
 
     /// Pokes the four bytes of a word.

@@ -1,7 +1,7 @@
 //! The timeline.
 
 ghost use Rattle.std.specs.Prelude.{◌≡◌, ◌<◌, ◌≤◌, [], length, None, Some, OnOk, OnErr, IfErr, IfSome, nat_le, slice_get};
-ghost use Rattle.sv8_time.specs.Schedule.{Schedule, with_poke, without_poke, with_poke_byte, without_poke_byte, with_input, without_input, with_request, without_request, set_poke_fault, clear_poke_fault, set_poke_byte_fault, clear_poke_byte_fault, set_input_fault, clear_input_fault, set_request_fault, clear_request_fault, pokes_of_step, bytes_of_step, requests_of_step, poke_after, request_after, bytes_below, input_bytes, has_poke, has_word, has_input, has_request, event_count, request_before, IsRefused, IsNextPoke, IsNextRequest, IsRequestPlace, IsTimeline};
+ghost use Rattle.sv8_time.specs.Schedule.{Schedule, with_poke, without_poke, with_poke_byte, without_poke_byte, with_input, without_input, with_request, without_request, set_poke_fault, clear_poke_fault, set_poke_byte_fault, clear_poke_byte_fault, set_input_fault, clear_input_fault, set_request_fault, clear_request_fault, pokes_of_step, bytes_of_step, requests_of_step, poke_after, request_after, bytes_below, input_bytes, has_poke, has_word, has_input, has_request, event_count, request_before, input_before, IsRefused, IsNextPoke, IsNextRequest, IsRequestPlace, IsTimeline};
 ghost use Rattle.sv8_time.specs.Words.{bytes_of_words, word_before, IsWordIn};
 ghost use Rattle.sv8_time.specs.Order.{Each, Rising};
 
@@ -338,6 +338,7 @@ impl Timeline {
     /// The number of input bytes of all steps below `before`.
     pub fn delivered(&self, before: u32) -> u32
         ensures value { result ≡ bytes_below before self.now.inputs }
+        ensures steps_rise { Rising input_before self.now.inputs }
         ensures timeline { IsTimeline self.now }
     {
         self.inputs.delivered(before)
@@ -346,6 +347,7 @@ impl Timeline {
     /// Input byte number k, all bytes counted from 0 in the order of their steps.
     pub fn byte(&self, k: u32) -> Option<u8>
         ensures value { result ≡ slice_get (input_bytes self.now.inputs) k }
+        ensures steps_rise { Rising input_before self.now.inputs }
         ensures timeline { IsTimeline self.now }
     {
         self.inputs.byte(k)

@@ -1,0 +1,115 @@
+//! Timelines at their bounds, with answers worked out by hand.
+
+use super::*;
+use std::alloc::Global;
+
+/// An edit of a timeline.
+#[derive(Clone, Copy)]
+enum Deed {
+    Poke(u32, u32, u32),
+    Unpoke(u32, u32),
+    PokeByte(u32, u32, u8),
+    UnpokeByte(u32, u32),
+    Input(u32, &'static [u8]),
+    Uninput(u32),
+    Request(u32, u32),
+    Unrequest(u32, u32),
+}
+
+fn carry_out(timeline: &mut Timeline, alloc: Global, deed: Deed) -> Result<(), TimeFault> {
+    match deed {
+        Deed::Poke(step, address, value) => timeline.set_poke(alloc, step, address, value),
+        Deed::Unpoke(step, address) => timeline.clear_poke(step, address),
+        Deed::PokeByte(step, address, value) => timeline.set_poke_byte(alloc, step, address, value),
+        Deed::UnpokeByte(step, address) => timeline.clear_poke_byte(step, address),
+        Deed::Input(_, []) => Ok(()),
+        Deed::Input(step, bytes) => timeline.set_input(alloc, step, bytes),
+        Deed::Uninput(step) => timeline.clear_input(step),
+        Deed::Request(step, level) => timeline.set_request(alloc, step, level),
+        Deed::Unrequest(step, level) => timeline.clear_request(step, level),
+    }
+}
+
+/// Whether the deeds, one after the other, have their answers.
+fn has_answers(
+    timeline: &mut Timeline,
+    alloc: Global,
+    deeds: &[(Deed, Result<(), TimeFault>)],
+) -> bool {
+    for (deed, answer) in deeds {
+        if carry_out(timeline, alloc, *deed) != *answer {
+            return false;
+        }
+    }
+    true
+}
+
+/// Whether all but two of the events that may stand can be set.
+fn fills(timeline: &mut Timeline, alloc: Global) -> bool {
+    for step in 0..65_534 {
+        if timeline.set_request(alloc, step, step % 15 + 1).is_err() {
+            return false;
+        }
+    }
+    true
+}
+
+const LONG: [u8; 1_025] = [b'x'; 1_025];
+
+use Deed::*;
+use TimeFault::*;
+
+/// Words and bytes at the end of a RAM that ends within a word.
+const AT_THE_END: &[(Deed, Result<(), TimeFault>)] = &[
+    (Poke(0, 4_096, 0), Err(BadAddress)),
+    (Poke(0, 0xFFFF_FFFC, 0), Err(BadAddress)),
+    (Poke(1_000_000, 4_092, 0), Ok(())),
+    (PokeByte(0, 4_097, 1), Ok(())),
+    (PokeByte(0, 4_098, 1), Err(BadAddress)),
+    (Unpoke(0, 4_096), Err(BadAddress)),
+    (UnpokeByte(0, 4_096), Err(NothingThere)),
+    (UnpokeByte(0, 4_097), Ok(())),
+];
+
+/// Two more events have a place; bytes of one word are one event, and what stands can be replaced.
+const FULL: &[(Deed, Result<(), TimeFault>)] = &[
+    (PokeByte(5, 9, 1), Ok(())),
+    (Input(5, b"a"), Ok(())),
+    (Poke(5, 12, 1), Err(TooManyEvents)),
+    (PokeByte(5, 12, 1), Err(TooManyEvents)),
+    (PokeByte(5, 11, 1), Ok(())),
+    (Poke(5, 8, 1), Ok(())),
+    (Input(6, b"a"), Err(TooManyEvents)),
+    (Input(6, &LONG), Err(TooManyEvents)),
+    (Input(5, &LONG), Err(InputTooLong)),
+    (Input(5, b"bc"), Ok(())),
+    (Request(5, 5), Err(TooManyEvents)),
+    (Request(5, 6), Ok(())),
+    (UnpokeByte(5, 9), Ok(())),
+    (Request(5, 5), Err(TooManyEvents)),
+    (Unpoke(5, 8), Ok(())),
+    (Request(5, 5), Ok(())),
+    (Uninput(5), Ok(())),
+    (Unrequest(5, 6), Ok(())),
+    (Unrequest(5, 6), Err(NothingThere)),
+];
+
+fn ends_well(alloc: Global) -> bool {
+    let mut timeline = Timeline::new(alloc, 4_098);
+    has_answers(&mut timeline, alloc, AT_THE_END)
+}
+
+fn is_full_at_last(alloc: Global) -> bool {
+    let mut timeline = Timeline::new(alloc, 4_096);
+    fills(&mut timeline, alloc) && has_answers(&mut timeline, alloc, FULL)
+}
+
+#[test]
+fn bytes_end_with_ram(rt: HostRuntime) {
+    assert!(rt; ends_well(rt.alloc()));
+}
+
+#[test]
+fn no_more_than_65536_events_stand(rt: HostRuntime) {
+    assert!(rt; is_full_at_last(rt.alloc()));
+}
