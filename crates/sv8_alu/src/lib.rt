@@ -8,6 +8,7 @@
 mod addition;
 mod bitwise;
 mod division;
+mod laws;
 mod multiplication;
 #[cfg(test)]
 mod table;
@@ -18,6 +19,7 @@ mod words;
 pub use addition::{add, sub, tagged_add, tagged_sub};
 pub use bitwise::{logic, shift};
 pub use division::{signed_divide, unsigned_divide};
+pub use laws::{worked_bits, worked_products, worked_quotients, worked_sums};
 pub use multiplication::{multiply_step, signed_multiply, unsigned_multiply};
 
 /// The integer condition codes, the icc field of the PSR. Section 4.2.

@@ -1,6 +1,7 @@
 -- The control and status registers: chapter 4, section 4.2.
 use Rattle.std.specs.Prelude.{ℕ, Bool, ◌+◌, ◌*◌, ◌-◌, ◌%◌, ◌/◌, ◌^◌, ◌==◌, if◌then◌else◌}
 use Rattle.sv8_regs.specs.declared.Psr.{Psr}
+use Rattle.sv8_regs.specs.declared.ConditionCodes.{ConditionCodes}
 
 -- a condition as one bit
 abbrev pub bit : Bool → ℕ
@@ -51,3 +52,11 @@ below windows cwp = (cwp + windows - 1) % windows
 -- the window that RESTORE and RETT go to
 abbrev pub above : ℕ → ℕ → ℕ
 above windows cwp = (cwp + 1) % windows
+
+-- N, Z, V and C of the PSR
+abbrev pub condition_codes : Psr → ConditionCodes
+condition_codes p = record { n = p.n; z = p.z; v = p.v; c = p.c }
+
+-- the PSR with other condition codes
+abbrev pub with_condition_codes : ConditionCodes → Psr → Psr
+with_condition_codes codes p = record p { n = codes.n; z = codes.z; v = codes.v; c = codes.c }

@@ -1,7 +1,7 @@
 //! Laws of the definitions, each a function that does nothing and whose contract is the law.
 
-ghost use Rattle.std.specs.Prelude.{◌≡◌, ◌<◌, ◌≤◌, ◌^◌, ◌+◌, ◌≢◌};
-ghost use Rattle.sv8_regs.specs.Control.{packed_psr, unpacked_psr, window_field, kept_mask, with_base, with_trap_type, above, below};
+ghost use Rattle.std.specs.Prelude.{◌≡◌, ◌<◌, ◌≤◌, ◌^◌, ◌+◌, ◌≢◌, true};
+ghost use Rattle.sv8_regs.specs.Control.{packed_psr, unpacked_psr, window_field, kept_mask, with_base, with_trap_type, with_condition_codes, above, below};
 ghost use Rattle.sv8_regs.specs.Ring.{read, write, reset};
 
 use crate::{Psr, Regs};
@@ -62,6 +62,7 @@ pub fn a_write_keeps_others<const NW: usize>(regs: &Regs<NW>, r: u32, other: u32
 ///   to 9; two steps down lead to window 0 again.
 /// - `wrap`: with three windows the ins of the last one are the outs of window 0.
 /// - `mask`: with three windows WIM keeps three bits.
+/// - `codes`: with all condition codes set the PSR after a reset is 00F00080.
 /// - `base` and `trap_type`: a write of TBA and one of the trap type leave each other's bits.
 pub fn worked_examples()
     ensures reset { packed_psr (reset 2).psr (reset 2).cwp ≡ 128 }
@@ -69,6 +70,7 @@ pub fn worked_examples()
     ensures locals { read 2 (record (write 2 (record (write 2 (reset 2) 16 7) { cwp = below 2 0 }) 16 9) { cwp = below 2 1 }) 16 ≡ 7 }
     ensures wrap { read 3 (record (write 3 (reset 3) 8 5) { cwp = 2 }) 24 ≡ 5 }
     ensures mask { kept_mask 3 4294967295 ≡ 7 }
+    ensures codes { packed_psr (with_condition_codes (record { n = true; z = true; v = true; c = true }) (reset 2).psr) 0 ≡ 15728768 }
     ensures base { with_base 1296 4294967295 ≡ 4294964496 }
     ensures trap_type { with_trap_type 4294964496 255 ≡ 4294967280 }
 {}

@@ -38,6 +38,19 @@ pub struct Psr {
     pub et: bool,
 }
 
+/// The integer condition codes, the icc field of the PSR. Section 4.2.
+#[derive(Clone, Copy, Debug, PartialEq, Eq)]
+pub struct ConditionCodes {
+    /// The result was negative.
+    pub n: bool,
+    /// The result was zero.
+    pub z: bool,
+    /// The result was out of range.
+    pub v: bool,
+    /// Carry or borrow.
+    pub c: bool,
+}
+
 /// The registers of a processor with `NW` windows. Sections 4.1 and 4.2.
 ///
 /// Register 0 reads 0, 1 to 7 are global, 8 to 15 the outs, 16 to 23 the locals and 24 to 31 the ins of the
@@ -75,7 +88,7 @@ impl<const NW: usize> Model for Regs<NW> {
 impl<const NW: usize> Regs<NW> {
     ghost use Rattle.std.specs.Prelude.{◌≡◌, ◌<◌, ◌≤◌, ◌^◌, ◌%◌};
     ghost use Rattle.sv8_regs.specs.Ring.{read, write, reset};
-    ghost use Rattle.sv8_regs.specs.Control.{bit_at, packed_psr, unpacked_psr, window_field, kept_mask, with_base, with_trap_type, below, above};
+    ghost use Rattle.sv8_regs.specs.Control.{bit_at, packed_psr, unpacked_psr, window_field, kept_mask, with_base, with_trap_type, below, above, condition_codes, with_condition_codes};
 
     /// The registers as they are after a reset: S is set and all else is 0. The manual fixes S = 1 and ET = 0
     /// alone (chapter 7); the other zeros are this project's.
@@ -101,6 +114,21 @@ impl<const NW: usize> Regs<NW> {
             wim: 0,
             tbr: 0,
             y: 0,
+        }
+    }
+
+    /// The same registers once more. It takes no memory.
+    pub fn copy(&self) -> Self
+        ensures { result ≡ self.now }
+    {
+        Regs {
+            globals: self.globals,
+            rows: self.rows,
+            window: self.window,
+            psr: self.psr,
+            wim: self.wim,
+            tbr: self.tbr,
+            y: self.y,
         }
     }
 
@@ -208,6 +236,30 @@ impl<const NW: usize> Regs<NW> {
         ensures { self.new ≡ record self.old { psr = psr } }
     {
         self.psr = psr;
+    }
+
+    /// The condition codes. Section 4.2.
+    #[inline(always)]
+    pub fn condition_codes(&self) -> ConditionCodes
+        ensures { result ≡ condition_codes self.now.psr }
+    {
+        let Psr { n, z, v, c, .. } = self.psr;
+        ConditionCodes { n, z, v, c }
+    }
+
+    /// Writes the condition codes; the rest of the PSR stays. Section 4.2.
+    #[inline(always)]
+    pub fn set_condition_codes(&mut self, codes: ConditionCodes)
+        ensures { self.new ≡ record self.old { psr = with_condition_codes codes self.old.psr } }
+    {
+        let ConditionCodes { n, z, v, c } = codes;
+        self.psr = Psr {
+            n,
+            z,
+            v,
+            c,
+            ..self.psr
+        };
     }
 
     /// The PSR as a word, as RDPSR reads it. Section 4.2 and Appendix B.28.

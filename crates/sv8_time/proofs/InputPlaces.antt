@@ -5,7 +5,7 @@ use Rattle.std.specs.Option.{option_to_list}
 use Rattle.std.proofs.lemmas.Bool.{leb-true, leb-false}
 use Rattle.std.proofs.lemmas.List.Edits.{length-insert, length-remove}
 use Rattle.std.proofs.lemmas.Bool.Decides.{nat_tests}
-use Rattle.std.proofs.lemmas.List.{map-append, map-set, take-map, drop-map, drop_more, take_more_set, append_assoc, append-nil}
+use Rattle.std.proofs.lemmas.List.{take-set, take-append-le, take-append-drop, map-append, map-set, take-map, drop-map, drop_more, take_more_set, append_assoc, append-nil}
 use Rattle.sv8_time.specs.Order.{Each, Rising, Stands, Misses, passes_at}
 use Rattle.sv8_time.specs.Schedule.{Input, input_of, input_before, is_input_at, byte_count, bytes_below, input_bytes}
 use Rattle.sv8_time.specs.Inputs.{starts_of, IsShort}
@@ -71,13 +71,14 @@ no_start n [] (suc i) h = refl
 no_start n (x ∷ xs) zero h = absurd (cc)
 no_start n (x ∷ xs) (suc i) h = ap (λ l. x ∷ l) (no_start (n + length x.bytes) xs i h)
 
-pub delivered_start : (before : ℕ) (xs : List Input) (i s : ℕ) → Rising input_before xs → i ≡ prefix_len (λ x. nat_lt x.step before) xs → slice_get (starts_of 0 xs) i ≡ Some s → s ≡ bytes_below before xs
-delivered_start before xs i s h e g = let r = start_at 0 xs i s g in
-    rw (filter_front (λ x. nat_lt x.step before) xs (inputs_below before xs h), sym e) (omega arith)
+pub start_is : (xs : List Input) (i s : ℕ) → slice_get (starts_of 0 xs) i ≡ Some s → s ≡ byte_count (take i xs)
+start_is xs i s g = let r = start_at 0 xs i s g in omega arith
 
-pub delivered_all : (before : ℕ) (xs : List Input) (i : ℕ) → Rising input_before xs → i ≡ prefix_len (λ x. nat_lt x.step before) xs → slice_get (starts_of 0 xs) i ≡ None → byte_count xs ≡ bytes_below before xs
-delivered_all before xs i h e g =
-    rw (filter_front (λ x. nat_lt x.step before) xs (inputs_below before xs h), sym e, no_start 0 xs i g) refl
+pub start_past : (xs : List Input) (i : ℕ) → slice_get (starts_of 0 xs) i ≡ None → byte_count xs ≡ byte_count (take i xs)
+start_past xs i g = rw (no_start 0 xs i g) refl
+
+pub below_front : (before : ℕ) (xs : List Input) → Rising input_before xs → byte_count (take (prefix_len (λ x. nat_lt x.step before) xs) xs) ≡ bytes_below before xs
+below_front before xs h = ap byte_count (sym (filter_front (λ x. nat_lt x.step before) xs (inputs_below before xs h)))
 
 -- the bytes fit a word
 pub bytes_bound : (xs : List Input) → Each IsShort xs → byte_count xs ≤ 1024 * length xs
@@ -225,3 +226,56 @@ alone_bytes same g i bytes e f = rw e (go (slice_get g i) f)
     go : (o : Option Input) → option_map (λ x. x.bytes) o ≡ Some bytes → bytes ≡ input_bytes (option_to_list o)
     go None f = absurd (cc)
     go (Some x) f = let b : x.bytes ≡ bytes = cc in rw (append-nil x.bytes) (sym b)
+
+-- an input's bytes are few
+pub short_at : (g : List Input) (i : ℕ) (bytes : List ℕ) → Each IsShort g → option_map (λ x. x.bytes) (slice_get g i) ≡ Some bytes → length bytes ≤ 1024
+short_at [] i bytes h e = absurd (cc)
+short_at (x ∷ g) zero bytes h e = let b : x.bytes ≡ bytes = cc in subst (λ l. length l ≤ 1024) b h.0
+short_at (x ∷ g) (suc i) bytes h e = short_at g i bytes h.1 e
+
+-- what stands in front of a place is counted already
+
+take_starts : (n i : ℕ) (xs : List Input) → take i (starts_of n xs) ≡ starts_of n (take i xs)
+take_starts n zero xs = refl
+take_starts n (suc i) [] = refl
+take_starts n (suc i) (x ∷ xs) = ap (λ l. n ∷ l) (take_starts (n + length x.bytes) i xs)
+
+starts_append : (n : ℕ) (xs ys : List Input) → starts_of n (xs ++ ys) ≡ starts_of n xs ++ starts_of (n + byte_count xs) ys
+starts_append n [] ys = let e : n ≡ n + 0 = omega arith in ap (λ m. starts_of m ys) e
+starts_append n (x ∷ xs) ys =
+    let e : n + length x.bytes + byte_count xs ≡ n + (length x.bytes + byte_count xs) = omega arith in
+    ap (λ l. n ∷ l) (starts_append (n + length x.bytes) xs ys ∙ ap (λ m. starts_of (n + length x.bytes) xs ++ starts_of m ys) e)
+
+count_append : (xs ys : List Input) → byte_count xs + byte_count ys ≡ byte_count (xs ++ ys)
+count_append [] ys = omega arith
+count_append (x ∷ xs) ys = let r = count_append xs ys in omega arith
+
+pub record Counted (starts : List ℕ) (before i : ℕ) (g : List Input) : Type 0 where
+  pub front : take i starts ++ starts_of before (drop i g) ≡ starts_of 0 g
+  pub sum : before + byte_count (drop i g) ≡ byte_count g
+
+-- the front of the old starts serves a list with the same front
+counted : (starts : List ℕ) (before i : ℕ) (old g : List Input) → take i starts ≡ take i (starts_of 0 old) → take i g ≡ take i old → before ≡ byte_count (take i old) → Counted starts before i g
+counted starts before i old g s e b =
+    let parts : take i g ++ drop i g ≡ g = take-append-drop i g in
+    let zero_is : 0 + byte_count (take i g) ≡ byte_count (take i g) = omega arith in
+    record {
+      front = rw (s, take_starts 0 i old, sym e, b, sym e, sym zero_is) (sym (starts_append 0 (take i g) (drop i g)) ∙ ap (starts_of 0) parts);
+      sum = rw (b, sym e) (count_append (take i g) (drop i g) ∙ ap byte_count parts);
+    }
+
+take_front : {X : Type 0} (i : ℕ) (xs ys : List X) → i ≤ length xs → take i (take i xs ++ ys) ≡ take i xs
+take_front zero xs ys l = refl
+take_front (suc i) [] ys l = absurd (omega arith)
+take_front (suc i) (x ∷ xs) ys l = ap (λ l. x ∷ l) (take_front i xs ys (omega arith))
+
+pub counted_replaced : (starts : List ℕ) (before i : ℕ) (old : List Input) (x : Input) → starts ≡ starts_of 0 old → before ≡ byte_count (take i old) → Counted starts before i (set old i x)
+counted_replaced starts before i old x s b = counted starts before i old (set old i x) (ap (take i) s) (take-set old i x) b
+
+pub counted_inserted : (starts : List ℕ) (before i : ℕ) (old : List Input) (x : Input) → i ≤ length old → starts ≡ starts_of 0 old ++ 0 ∷ [] → before ≡ byte_count (take i old) → Counted starts before i (insert old i x)
+counted_inserted starts before i old x l s b =
+    counted starts before i old (insert old i x) (ap (take i) s ∙ take-append-le i (starts_of 0 old) (0 ∷ []) (let e = length_starts 0 old in omega arith)) (take_front i old (x ∷ drop i old) l) b
+
+pub counted_removed : (starts : List ℕ) (before i : ℕ) (old : List Input) → i ≤ length old → starts ≡ remove (starts_of 0 old) i → before ≡ byte_count (take i old) → Counted starts before i (remove old i)
+counted_removed starts before i old l s b =
+    counted starts before i old (remove old i) (ap (take i) s ∙ take_front i (starts_of 0 old) (drop (suc i) (starts_of 0 old)) (let e = length_starts 0 old in omega arith)) (take_front i old (drop (suc i) old) l) b

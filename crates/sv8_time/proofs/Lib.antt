@@ -1,7 +1,11 @@
 pub mod Parts
 pub mod Places
 pub mod Orders
-pub mod EventPlaces
+pub mod KeyPlaces
+pub mod Splits
+pub mod BytePlaces
+pub mod WordPlaces
+pub mod Nexts
+pub mod PokeEdits
 pub mod InputPlaces
 pub mod SoundEvents
-pub mod NextPoke

@@ -11,8 +11,8 @@ one_way a b c d h = grind (arith, nat_tests)
 chain : (a b c d e f : ℕ) → place_before a b c d ≡ false → place_before c d e f ≡ false → place_before a b e f ≡ false
 chain a b c d e f h k = grind (arith, nat_tests)
 
-pub event_order : {X : Type 0} (step part : X → ℕ) → IsStrictWeakOrder (comes_before step part)
-event_order step part = record { one_way = λ x y h. one_way (step x) (part x) (step y) (part y) h; chain = λ x y z h k. chain (step x) (part x) (step y) (part y) (step z) (part z) h k }
+pub key_order : {X : Type 0} (major minor : X → ℕ) → IsStrictWeakOrder (comes_before major minor)
+key_order major minor = record { one_way = λ x y h. one_way (major x) (minor x) (major y) (minor y) h; chain = λ x y z h k. chain (major x) (minor x) (major y) (minor y) (major z) (minor z) h k }
 
 pub input_order : IsStrictWeakOrder input_before
 input_order = record { one_way = λ x y h. grind (arith, nat_tests); chain = λ x y z h k. grind (arith, nat_tests) }

@@ -19,10 +19,10 @@ passes_any p (x ∷ xs) zero h = rw h refl
 passes_any p (x ∷ xs) (suc i) h = elim (p x) as (λ b. (b || list_any p xs) ≡ true) [ true ↦ refl | false ↦ passes_any p xs i h ]
 
 -- an element that comes before k, or after it, has another place
-same_first : (a b s : Bool) → s ≡ (not a && not b) → a ≡ true → s ≡ false
+pub same_first : (a b s : Bool) → s ≡ (not a && not b) → a ≡ true → s ≡ false
 same_first a b s h e = grind arith
 
-same_last : (a b s : Bool) → s ≡ (not a && not b) → b ≡ true → s ≡ false
+pub same_last : (a b s : Bool) → s ≡ (not a && not b) → b ≡ true → s ≡ false
 same_last a b s h e = grind arith
 
 same_not : (a b s : Bool) → s ≡ (not a && not b) → s ≡ true → b ≡ false
@@ -31,10 +31,10 @@ same_not a b s h e = grind arith
 other_after : (a b s : Bool) → s ≡ (not a && not b) → a ≡ false → s ≡ false → b ≡ true
 other_after a b s h e f = grind arith
 
-abbrev IsSame : {X : Type 0} → (X → X → Bool) → (X → Bool) → X → Type 0
+abbrev pub IsSame : {X : Type 0} → (X → X → Bool) → (X → Bool) → X → Type 0
 IsSame {X} before same k = (y : X) → same y ≡ (not (before y k) && not (before k y))
 
-others : {X : Type 0} (before : X → X → Bool) (same : X → Bool) (k : X) → IsSame before same k → (xs : List X) → Each (λ y. before k y ≡ true) xs → Each (λ y. same y ≡ false) xs
+pub others : {X : Type 0} (before : X → X → Bool) (same : X → Bool) (k : X) → IsSame before same k → (xs : List X) → Each (λ y. before k y ≡ true) xs → Each (λ y. same y ≡ false) xs
 others before same k s xs h = each_map (λ y. before k y ≡ true) (λ y. same y ≡ false) (λ y e. same_last (before y k) (before k y) (same y) (s y) e) xs h
 
 pub replaced_at : {X : Type 0} (before : X → X → Bool) (same : X → Bool) (k : X) → IsStrictWeakOrder before → IsSame before same k → (xs : List X) → Rising before xs

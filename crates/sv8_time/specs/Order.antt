@@ -17,25 +17,33 @@ Rising before (x ∷ xs) = Each (λ y. before x y ≡ true) xs × Rising before 
 abbrev pub placed : {X : Type 0} → (X → X → Bool) → X → List X → List X
 placed before x xs = filter (λ y. before y x) xs ++ x ∷ filter (λ y. before x y) xs
 
--- a step and an address or level come before others: an earlier step, or in the same step a lower address or level
+-- two numbers come before two others: a lower first one, or the same first one and a lower second one
 abbrev pub place_before : ℕ → ℕ → ℕ → ℕ → Bool
-place_before step part other_step other_part = nat_lt step other_step || (step == other_step && nat_lt part other_part)
+place_before major minor other_major other_minor = nat_lt major other_major || (major == other_major && nat_lt minor other_minor)
 
--- the same of two events, of which step and part are known
+-- the same of two elements, of which both numbers are known
 abbrev pub comes_before : {X : Type 0} → (X → ℕ) → (X → ℕ) → X → X → Bool
-comes_before step part x y = place_before (step x) (part x) (step y) (part y)
+comes_before major minor x y = place_before (major x) (minor x) (major y) (minor y)
 
--- an event is at a place
+-- an element is at a place
 abbrev pub is_at : {X : Type 0} → (X → ℕ) → (X → ℕ) → ℕ → ℕ → X → Bool
-is_at step part at_step at_part x = step x == at_step && part x == at_part
+is_at major minor at_major at_minor x = major x == at_major && minor x == at_minor
 
--- the events without that of a place
+-- the elements without that of a place
 abbrev pub cleared_at : {X : Type 0} → (X → ℕ) → (X → ℕ) → ℕ → ℕ → List X → List X
-cleared_at step part at_step at_part xs = filter (λ x. not (is_at step part at_step at_part x)) xs
+cleared_at major minor at_major at_minor xs = filter (λ x. not (is_at major minor at_major at_minor x)) xs
 
--- the events of a step
-abbrev pub in_step : {X : Type 0} → (X → ℕ) → ℕ → List X → List X
-in_step step at_step xs = filter (λ x. step x == at_step) xs
+-- the elements of one first number
+abbrev pub of_major : {X : Type 0} → (X → ℕ) → ℕ → List X → List X
+of_major major n xs = filter (λ x. major x == n) xs
+
+-- the elements of one first number whose second number is above another
+abbrev pub of_major_behind : {X : Type 0} → (X → ℕ) → (X → ℕ) → ℕ → ℕ → List X → List X
+of_major_behind major minor n after xs = filter (λ x. major x == n && nat_lt after (minor x)) xs
+
+-- the elements whose first number is above another
+abbrev pub behind_major : {X : Type 0} → (X → ℕ) → ℕ → List X → List X
+behind_major major after xs = filter (λ x. nat_lt after (major x)) xs
 
 -- the element at index i stands at x's place
 pub record Stands {X : Type 0} (before : X → X → Bool) (same : X → Bool) (x : X) (xs : List X) (i : ℕ) : Type 0 where

@@ -1,51 +1,73 @@
 -- The outside events of a machine, and what an edit makes of them.
-use Rattle.std.specs.Prelude.{◌≡◌, ◌⊎◌, ◌<◌, true, false, ℕ, ◌+◌, Bool, not, nat_lt, nat_le, ◌==◌, ◌&&◌, ◌%◌, List, [], ◌∷◌, length, filter, flat_map, find, Option, Some, None, option_map, if◌then◌else◌}
+use Rattle.std.specs.Prelude.{◌≡◌, ◌⊎◌, ◌<◌, ◌≤◌, true, false, ℕ, ◌+◌, ◌*◌, ◌/◌, ◌^◌, Bool, not, nat_lt, nat_le, ◌==◌, ◌&&◌, ◌%◌, List, [], ◌∷◌, length, filter, flat_map, find, Option, Some, None, option_map, if◌then◌else◌}
 use Rattle.std.specs.List.{list_any}
 use Rattle.sv8_time.specs.declared.fault.TimeFault.{TimeFault}
 use Rattle.sv8_time.specs.declared.fault.TimeFault.TheVariants.{OutOfMemory, StepTooLarge, BadAddress, BadLevel, NothingThere, TooManyEvents, InputTooLong}
-use Rattle.sv8_time.specs.declared.pokes.Poke.{Poke}
 use Rattle.sv8_time.specs.declared.requests.Request.{Request}
-use Rattle.sv8_time.specs.Order.{placed, comes_before, is_at, cleared_at, in_step}
+use Rattle.sv8_time.specs.Order.{Each, Rising, placed, comes_before, is_at, cleared_at, of_major}
+
+-- a byte of RAM that gets a value at a step
+pub record BytePoke : Type 0 where
+  pub step : ℕ
+  pub address : ℕ
+  pub value : ℕ
 
 -- the bytes that come in at a step
 pub record Input : Type 0 where
   pub step : ℕ
   pub bytes : List ℕ
 
--- the size of RAM in bytes, and the events: pokes by step and address, inputs by step, requests by step and level
+-- the size of RAM in bytes, and the events: poked bytes by step and address, inputs by step, requests by step and level
 pub record Schedule : Type 0 where
   pub limit : ℕ
-  pub pokes : List Poke
+  pub pokes : List BytePoke
   pub inputs : List Input
   pub requests : List Request
 
--- pokes
+-- poked bytes
 
-abbrev pub poke_of : ℕ → ℕ → ℕ → Poke
+abbrev pub poke_of : ℕ → ℕ → ℕ → BytePoke
 poke_of step address value = record { step = step; address = address; value = value }
 
-abbrev pub poke_before : Poke → Poke → Bool
+abbrev pub poke_before : BytePoke → BytePoke → Bool
 poke_before = comes_before (λ p. p.step) (λ p. p.address)
 
-abbrev pub is_poke_at : ℕ → ℕ → Poke → Bool
+abbrev pub is_poke_at : ℕ → ℕ → BytePoke → Bool
 is_poke_at step address = is_at (λ p. p.step) (λ p. p.address) step address
 
-abbrev pub has_poke : ℕ → ℕ → List Poke → Bool
+abbrev pub has_poke : ℕ → ℕ → List BytePoke → Bool
 has_poke step address pokes = list_any (is_poke_at step address) pokes
 
-abbrev pub put_poke : Poke → List Poke → List Poke
+abbrev pub put_poke : BytePoke → List BytePoke → List BytePoke
 put_poke p pokes = placed poke_before p pokes
 
-abbrev pub cut_poke : ℕ → ℕ → List Poke → List Poke
+abbrev pub cut_poke : ℕ → ℕ → List BytePoke → List BytePoke
 cut_poke step address pokes = cleared_at (λ p. p.step) (λ p. p.address) step address pokes
 
--- the pokes of a step, in rising address
-abbrev pub pokes_of_step : ℕ → List Poke → List Poke
-pokes_of_step step pokes = in_step (λ p. p.step) step pokes
+-- the poked bytes of a step, in rising address
+abbrev pub pokes_of_step : ℕ → List BytePoke → List BytePoke
+pokes_of_step step pokes = of_major (λ p. p.step) step pokes
 
--- the first poke of a word in a later step
-abbrev pub poke_after : ℕ → ℕ → List Poke → Option ℕ
+-- the first later step in which a byte is poked
+abbrev pub poke_after : ℕ → ℕ → List BytePoke → Option ℕ
 poke_after address after pokes = option_map (λ p. p.step) (find (λ p. p.address == address && nat_lt after p.step) pokes)
+
+-- the word of a byte, named by its address
+abbrev pub word_of : ℕ → ℕ
+word_of address = address / 4 * 4
+
+-- a poked byte is in the word of an address
+abbrev pub is_poke_in : ℕ → ℕ → BytePoke → Bool
+is_poke_in step address p = p.step == step && word_of p.address == word_of address
+
+-- a byte of the word of an address is poked at a step
+abbrev pub has_word : ℕ → ℕ → List BytePoke → Bool
+has_word step address pokes = list_any (is_poke_in step address) pokes
+
+-- the number of words that have poked bytes, a word counted once for each step: of the bytes of one word and step the last counts
+abbrev pub word_count : List BytePoke → ℕ
+word_count [] = 0
+word_count (p ∷ pokes) = if has_word p.step p.address pokes then word_count pokes else word_count pokes + 1
 
 -- requests
 
@@ -69,7 +91,11 @@ cut_request step level requests = cleared_at (λ r. r.step) (λ r. r.level) step
 
 -- the requests of a step, in rising level
 abbrev pub requests_of_step : ℕ → List Request → List Request
-requests_of_step step requests = in_step (λ r. r.step) step requests
+requests_of_step step requests = of_major (λ r. r.step) step requests
+
+-- the first later step in which a level is requested
+abbrev pub request_after : ℕ → ℕ → List Request → Option ℕ
+request_after level after requests = option_map (λ r. r.step) (find (λ r. r.level == level && nat_lt after r.step) requests)
 
 -- inputs
 
@@ -108,11 +134,22 @@ bytes_below before inputs = byte_count (filter (λ i. nat_lt i.step before) inpu
 
 -- edits of the whole
 
+abbrev pub with_poke_byte : ℕ → ℕ → ℕ → Schedule → Schedule
+with_poke_byte step address value s = record s { pokes = put_poke (poke_of step address value) s.pokes }
+
+abbrev pub without_poke_byte : ℕ → ℕ → Schedule → Schedule
+without_poke_byte step address s = record s { pokes = cut_poke step address s.pokes }
+
+-- a word is poked as its four bytes, one after the other, the most significant first
 abbrev pub with_poke : ℕ → ℕ → ℕ → Schedule → Schedule
-with_poke step address value s = record s { pokes = put_poke (poke_of step address value) s.pokes }
+with_poke step address value s =
+    with_poke_byte step (address + 3) (value % 2 ^ 8)
+    (with_poke_byte step (address + 2) (value / 2 ^ 8 % 2 ^ 8)
+    (with_poke_byte step (address + 1) (value / 2 ^ 16 % 2 ^ 8)
+    (with_poke_byte step address (value / 2 ^ 24 % 2 ^ 8) s)))
 
 abbrev pub without_poke : ℕ → ℕ → Schedule → Schedule
-without_poke step address s = record s { pokes = cut_poke step address s.pokes }
+without_poke step address s = without_poke_byte step (address + 3) (without_poke_byte step (address + 2) (without_poke_byte step (address + 1) (without_poke_byte step address s)))
 
 abbrev pub with_input : ℕ → List ℕ → Schedule → Schedule
 with_input step bytes s = record s { inputs = put_input (input_of step bytes) s.inputs }
@@ -128,9 +165,9 @@ without_request step level s = record s { requests = cut_request step level s.re
 
 -- refusals
 
--- the number of events
+-- the number of events: a step and word with poked bytes is one
 abbrev pub event_count : Schedule → ℕ
-event_count s = length s.pokes + length s.inputs + length s.requests
+event_count s = word_count s.pokes + length s.inputs + length s.requests
 
 -- an event where nothing stands yet, of which there is no place left
 abbrev pub is_one_too_many : Bool → Schedule → Bool
@@ -146,12 +183,24 @@ abbrev pub set_poke_fault : ℕ → ℕ → Schedule → Option TimeFault
 set_poke_fault step address s =
     if nat_lt 1000000 step then Some StepTooLarge
     else (if not (is_word address s.limit) then Some BadAddress
-    else (if is_one_too_many (has_poke step address s.pokes) s then Some TooManyEvents else None))
+    else (if is_one_too_many (has_word step address s.pokes) s then Some TooManyEvents else None))
 
 abbrev pub clear_poke_fault : ℕ → ℕ → Schedule → Option TimeFault
 clear_poke_fault step address s =
     if nat_lt 1000000 step then Some StepTooLarge
     else (if not (is_word address s.limit) then Some BadAddress
+    else (if not (has_word step address s.pokes) then Some NothingThere else None))
+
+abbrev pub set_poke_byte_fault : ℕ → ℕ → Schedule → Option TimeFault
+set_poke_byte_fault step address s =
+    if nat_lt 1000000 step then Some StepTooLarge
+    else (if not (nat_lt address s.limit) then Some BadAddress
+    else (if is_one_too_many (has_word step address s.pokes) s then Some TooManyEvents else None))
+
+abbrev pub clear_poke_byte_fault : ℕ → ℕ → Schedule → Option TimeFault
+clear_poke_byte_fault step address s =
+    if nat_lt 1000000 step then Some StepTooLarge
+    else (if not (nat_lt address s.limit) then Some BadAddress
     else (if not (has_poke step address s.pokes) then Some NothingThere else None))
 
 abbrev pub set_input_fault : ℕ → List ℕ → Schedule → Option TimeFault
@@ -181,7 +230,36 @@ clear_request_fault step level s =
 abbrev pub IsRefused : Option TimeFault → TimeFault → Type 0
 IsRefused fault e = (fault ≡ Some e) ⊎ ((fault ≡ None) × (e ≡ OutOfMemory))
 
--- the least step above one in which a word is poked, or none where there is no such step
-abbrev pub IsNextPoke : ℕ → ℕ → List Poke → Option ℕ → Type 0
-IsNextPoke address after pokes None = (n : ℕ) → after < n → has_poke n address pokes ≡ false
-IsNextPoke address after pokes (Some m) = (after < m) × (has_poke m address pokes ≡ true) × ((n : ℕ) → after < n → n < m → has_poke n address pokes ≡ false)
+-- the least step above one that passes, or none where there is no such step
+abbrev pub IsNext : (ℕ → Bool) → ℕ → Option ℕ → Type 0
+IsNext has after None = (n : ℕ) → after < n → has n ≡ false
+IsNext has after (Some m) = (after < m) × (has m ≡ true) × ((n : ℕ) → after < n → n < m → has n ≡ false)
+
+-- the least step above one in which a byte is poked
+abbrev pub IsNextPoke : ℕ → ℕ → List BytePoke → Option ℕ → Type 0
+IsNextPoke address after pokes = IsNext (λ n. has_poke n address pokes) after
+
+-- the least step above one in which a level is requested
+abbrev pub IsNextRequest : ℕ → ℕ → List Request → Option ℕ → Type 0
+IsNextRequest level after requests = IsNext (λ n. has_request n level requests) after
+
+-- what holds of every timeline
+
+abbrev pub IsPokePlace : ℕ → BytePoke → Type 0
+IsPokePlace limit p = (p.step ≤ 1000000) × (p.address < limit)
+
+abbrev pub IsInputPlace : Input → Type 0
+IsInputPlace i = (i.step ≤ 1000000) × (length i.bytes ≤ 1024)
+
+abbrev pub IsRequestPlace : Request → Type 0
+IsRequestPlace r = (r.step ≤ 1000000) × (1 ≤ r.level) × (r.level ≤ 15)
+
+-- events in rising places, one at a place, each where it may be, and no more than may stand
+pub record IsTimeline (s : Schedule) : Type 0 where
+  pub pokes_rise : Rising poke_before s.pokes
+  pub poke_places : Each (IsPokePlace s.limit) s.pokes
+  pub inputs_rise : Rising input_before s.inputs
+  pub input_places : Each IsInputPlace s.inputs
+  pub requests_rise : Rising request_before s.requests
+  pub request_places : Each IsRequestPlace s.requests
+  pub few : event_count s ≤ 65536

@@ -1,6 +1,6 @@
 //! The input bytes of a timeline.
 
-ghost use Rattle.std.specs.Prelude.{◌≡◌, ℕ, ◌+◌, ◌≤◌, ◌<◌, ◌^◌, List, [], length, MatchResult, OnOk, OnErr, nat_lt, nat_le, true, false, slice_get, slice_set, vec_len, if◌then◌else◌, option_map, Some};
+ghost use Rattle.std.specs.Prelude.{◌≡◌, ℕ, ◌+◌, ◌≤◌, ◌<◌, ◌^◌, List, [], ◌∷◌, ◌++◌, take, drop, length, MatchResult, OnOk, OnErr, nat_lt, nat_le, true, false, slice_get, slice_set, vec_len, if◌then◌else◌, option_map, Some};
 ghost use Rattle.std.specs.List.{prefix_len, insert, remove};
 ghost use Rattle.sv8_time.specs.Order.{Rising, Stands, Misses, passes_at, Each};
 ghost use Rattle.sv8_time.specs.Schedule.{input_of, input_before, is_input_at, has_input, put_input, cut_input, bytes_of_step, input_bytes, bytes_below, byte_count};
@@ -36,15 +36,19 @@ impl Model for Inputs {
     ghost invariant = { λ i. Kept (givens i.entries.items) i.starts.items i.total };
 }
 
-/// Counts the bytes before each entry, and answers how many there are in all.
-fn recount(entries: &[Entry], starts: &mut Vec<u32>) -> u32
+/// Counts the bytes before each entry from one on, and answers how many there are in all.
+///
+/// `before` is the number of bytes before that entry. What stands before it is not looked at.
+fn recount(entries: &[Entry], starts: &mut Vec<u32>, from: usize, before: u32) -> u32
     requires same { length starts.old.items ≡ length entries.now }
     requires fits { byte_count (givens entries.now) < 2 ^ 32 }
+    requires front { take from starts.old.items ++ starts_of before (drop from (givens entries.now)) ≡ starts_of 0 (givens entries.now) }
+    requires sum { before + byte_count (drop from (givens entries.now)) ≡ byte_count (givens entries.now) }
     ensures starts { starts.new.items ≡ starts_of 0 (givens entries.now) }
     ensures total { result ≡ byte_count (givens entries.now) }
 {
-    let mut total = 0;
-    for index in 0..entries.len() {
+    let mut total = before;
+    for index in from..entries.len() {
         starts[index] = total;
         let entry = &entries[index];
         total += entry.bytes.len() as u32;
@@ -69,7 +73,7 @@ fn insert_at(
 ) -> Result<(), AllocError>
     requires { index ≤ vec_len entries.old }
     ensures ok { OnOk result (givens entries.new.items ≡ insert (givens entries.old.items) index (given entry)) }
-    ensures starts { OnOk result (length starts.new.items ≡ length starts.old.items + 1) }
+    ensures starts { OnOk result (starts.new.items ≡ starts.old.items ++ 0 ∷ []) }
     ensures err { OnErr result (entries.new.items ≡ entries.old.items) }
     ensures starts_kept { OnErr result (starts.new.items ≡ starts.old.items) }
 {
@@ -84,7 +88,7 @@ fn remove_at(entries: &mut Vec<Entry>, starts: &mut Vec<u32>, index: usize)
     requires within { index < vec_len entries.old }
     requires same { length starts.old.items ≡ length entries.old.items }
     ensures entries { givens entries.new.items ≡ remove (givens entries.old.items) index }
-    ensures starts { length starts.new.items ≡ length entries.new.items }
+    ensures starts { starts.new.items ≡ remove starts.old.items index }
 {
     entries.remove(index);
     starts.remove(index);
@@ -177,16 +181,23 @@ impl Inputs {
         }
     }
 
-    /// The number of bytes of all steps below one.
-    pub(crate) fn delivered(&self, before: u32) -> u32
-        ensures value { result ≡ bytes_below before self.now }
-        ensures rising { Rising input_before self.now }
+    /// The number of bytes before the entry at an index.
+    fn start(&self, index: usize) -> u32
+        requires { index ≤ length self.now }
+        ensures { result ≡ byte_count (take index self.now) }
     {
-        let index = self.count_below(before);
         match start_at(&self.starts, index) {
             Some(start) => start,
             None => self.total,
         }
+    }
+
+    /// The number of bytes of all steps below one.
+    pub(crate) fn delivered(&self, before: u32) -> u32
+        ensures { result ≡ bytes_below before self.now }
+    {
+        let _entries = &self.entries;
+        self.start(self.count_below(before))
     }
 
     /// How many inputs begin at or below a byte, the bytes of all counted from 0.
@@ -201,8 +212,7 @@ impl Inputs {
 
     /// A byte of all inputs in the order of their steps, from 0.
     pub(crate) fn byte(&self, index: u32) -> Option<u8>
-        ensures value { result ≡ slice_get (input_bytes self.now) index }
-        ensures rising { Rising input_before self.now }
+        ensures { result ≡ slice_get (input_bytes self.now) index }
     {
         let _entries = &self.entries;
         let count = self.count_started(index);
@@ -216,7 +226,8 @@ impl Inputs {
 
     /// The bytes of a step, none where nothing comes in.
     pub(crate) fn at(&self, step: u32) -> &[u8]
-        ensures { result.now ≡ bytes_of_step step self.now }
+        ensures value { result.now ≡ bytes_of_step step self.now }
+        ensures short { length result.now ≤ 1024 }
     {
         match self.place(step) {
             Ok(index) => bytes_in(&self.entries, index),
@@ -238,13 +249,15 @@ impl Inputs {
         };
         match self.place(step) {
             Ok(index) => {
+                let before = self.start(index);
                 replace_at(&mut self.entries, index, entry);
-                self.total = recount(&self.entries, &mut self.starts);
+                self.total = recount(&self.entries, &mut self.starts, index, before);
                 Ok(())
             }
             Err(index) => {
+                let before = self.start(index);
                 insert_at(&mut self.entries, &mut self.starts, index, entry)?;
-                self.total = recount(&self.entries, &mut self.starts);
+                self.total = recount(&self.entries, &mut self.starts, index, before);
                 Ok(())
             }
         }
@@ -258,8 +271,9 @@ impl Inputs {
     {
         match self.place(step) {
             Ok(index) => {
+                let before = self.start(index);
                 remove_at(&mut self.entries, &mut self.starts, index);
-                self.total = recount(&self.entries, &mut self.starts);
+                self.total = recount(&self.entries, &mut self.starts, index, before);
             }
             Err(_) => {}
         }

@@ -3,16 +3,20 @@
 
 mod fault;
 mod inputs;
+mod laws;
 mod marks;
 mod order;
 mod ordered;
 mod pokes;
+mod refusal;
 mod requests;
 #[cfg(test)]
 mod tests;
 mod timeline;
+mod words;
 
 pub use fault::TimeFault;
-pub use pokes::Poke;
+pub use laws::{worked_nexts, worked_pokes, worked_reads, worked_refusals};
 pub use requests::Request;
 pub use timeline::{Events, LAST_STEP, MOST_BYTES, MOST_EVENTS, Timeline};
+pub use words::WordPoke;

@@ -1,11 +1,11 @@
-//! The order of events.
+//! The order of places.
 
 ghost use Rattle.std.specs.Prelude.{◌≡◌};
 ghost use Rattle.sv8_time.specs.Order.{place_before};
 
-/// Whether a step with an address or level comes before another.
-pub(crate) fn is_before(step: u32, part: u32, other_step: u32, other_part: u32) -> bool
-    ensures { result ≡ place_before step part other_step other_part }
+/// Whether a place comes before another.
+pub(crate) fn is_before(major: u32, minor: u32, other_major: u32, other_minor: u32) -> bool
+    ensures { result ≡ place_before major minor other_major other_minor }
 {
-    step < other_step || (step == other_step && part < other_part)
+    major < other_major || (major == other_major && minor < other_minor)
 }

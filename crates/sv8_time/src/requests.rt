@@ -1,6 +1,9 @@
 //! The interrupt requests of a timeline.
 
-use crate::ordered::{Event, Ordered};
+ghost use Rattle.std.specs.Prelude.{◌≡◌, ◌==◌, find, option_map};
+ghost use Rattle.sv8_time.specs.Schedule.{IsNextRequest};
+
+use crate::ordered::{Keyed, Ordered};
 
 /// An interrupt request from outside.
 #[derive(Debug, Drop, Clone, Copy, PartialEq, Eq)]
@@ -11,21 +14,38 @@ pub struct Request {
     pub level: u32,
 }
 
-impl Event for Request {
+impl Keyed for Request {
     ghost use Rattle.std.specs.Prelude.{ℕ};
 
-    ghost step_of = { λ r. r.step };
+    ghost major_of = { λ r. r.step };
 
-    ghost part_of = { λ r. r.level };
+    ghost minor_of = { λ r. r.level };
 
-    fn step(&self) -> u32 {
+    fn major(&self) -> u32 {
         self.step
     }
 
-    fn part(&self) -> u32 {
+    fn minor(&self) -> u32 {
         self.level
     }
 }
 
 /// Requests in rising step, and within a step in rising level.
 pub(crate) type Requests = Ordered<Request>;
+
+/// The least step above one in which a level is requested.
+pub(crate) fn next_request(requests: &Requests, level: u32, after: u32) -> Option<u32>
+    ensures { IsNextRequest level after requests.now result }
+{
+    first_of_level(requests.behind(after), level)
+}
+
+/// The step of the first request of a level.
+fn first_of_level(requests: &[Request], level: u32) -> Option<u32>
+    ensures { result ≡ option_map (λ r. r.step) (find (λ r. r.level == level) requests.now) }
+{
+    requests
+        .iter()
+        .find(|request| request.level == level)
+        .map(|request| request.step)
+}

@@ -1,21 +1,23 @@
 //! The timeline.
 
-ghost use Rattle.std.specs.Prelude.{◌≡◌, ◌+◌, ◌<◌, [], length, None, Some, OnOk, OnErr, IfErr, option_map, nat_le, nat_lt, slice_get};
-ghost use Rattle.sv8_time.specs.Schedule.{Schedule, with_poke, without_poke, with_input, without_input, with_request, without_request, set_poke_fault, clear_poke_fault, set_input_fault, clear_input_fault, set_request_fault, clear_request_fault, pokes_of_step, bytes_of_step, requests_of_step, poke_after, bytes_below, input_bytes, is_word, is_level, event_count, is_one_too_many, IsRefused, IsNextPoke, poke_before, request_before, input_before};
-ghost use Rattle.sv8_time.specs.Order.{Rising};
+ghost use Rattle.std.specs.Prelude.{◌≡◌, ◌<◌, ◌≤◌, [], length, None, Some, OnOk, OnErr, IfErr, IfSome, nat_le, slice_get};
+ghost use Rattle.sv8_time.specs.Schedule.{Schedule, with_poke, without_poke, with_poke_byte, without_poke_byte, with_input, without_input, with_request, without_request, set_poke_fault, clear_poke_fault, set_poke_byte_fault, clear_poke_byte_fault, set_input_fault, clear_input_fault, set_request_fault, clear_request_fault, pokes_of_step, bytes_of_step, requests_of_step, poke_after, request_after, bytes_below, input_bytes, has_poke, has_word, has_input, has_request, event_count, request_before, input_before, IsRefused, IsNextPoke, IsNextRequest, IsRequestPlace, IsTimeline};
+ghost use Rattle.sv8_time.specs.Words.{bytes_of_words, word_before, IsWordIn};
+ghost use Rattle.sv8_time.specs.Order.{Each, Rising};
 
 use crate::fault::TimeFault;
 use crate::inputs::Inputs;
 use crate::marks::Marks;
-use crate::pokes::{Poke, Pokes, next_poke, poke_at};
-use crate::requests::{Request, Requests};
+use crate::pokes::Pokes;
+use crate::requests::{Request, Requests, next_request};
+use crate::words::WordPoke;
 use std::alloc::{AllocError, Global};
 use std::marker::Model;
 
 /// The last step that may have events; steps are counted from 0.
 pub const LAST_STEP: u32 = 1_000_000;
 
-/// How many pokes, inputs and requests may stand together.
+/// How many events may stand together; the poked bytes of one step and word are one.
 pub const MOST_EVENTS: usize = 65_536;
 
 /// How many bytes may come in at one step.
@@ -24,16 +26,16 @@ pub const MOST_BYTES: usize = 1_024;
 /// What happens at a step, before its instruction.
 #[derive(Drop, Clone, Copy)]
 pub struct Events<'a> {
-    /// The pokes, in rising address.
-    pub pokes: &'a [Poke],
+    /// The words that have poked bytes, in rising address.
+    pub pokes: &'a [WordPoke],
     /// The bytes that come in, none where nothing does.
     pub bytes: &'a [u8],
     /// The interrupt requests, in rising level.
     pub requests: &'a [Request],
 }
 
-/// The outside events of a machine: pokes by step and word, input bytes by step, and interrupt requests by
-/// step and level (The SPARC Architecture Manual, Version 8, section 7.3, has the levels).
+/// The outside events of a machine: pokes by step and byte of RAM, input bytes by step, and interrupt requests
+/// by step and level (The SPARC Architecture Manual, Version 8, section 7.3, has the levels).
 ///
 /// There is at most one event of a kind at a place: setting it again replaces it. An edit that is refused
 /// leaves all events as they were.
@@ -54,19 +56,7 @@ impl Model for Timeline {
 
     ghost view = { λ t. record { limit = t.limit; pokes = t.pokes; inputs = t.inputs; requests = t.requests } };
 
-    ghost invariant = { λ t. Sound t.marks t.pokes t.inputs t.requests };
-}
-
-fn is_word(address: u32, limit: u32) -> bool
-    ensures { result ≡ is_word address limit }
-{
-    address % 4 == 0 && u64::from(address) + 4 <= u64::from(limit)
-}
-
-fn is_level(level: u32) -> bool
-    ensures { result ≡ is_level level }
-{
-    1 <= level && level <= 15
+    ghost invariant = { λ t. Sound t.marks (record { limit = t.limit; pokes = t.pokes; inputs = t.inputs; requests = t.requests }) };
 }
 
 impl Timeline {
@@ -83,107 +73,51 @@ impl Timeline {
         }
     }
 
+    /// The size of RAM in bytes.
+    pub(crate) fn limit(&self) -> u32
+        ensures { result ≡ self.now.limit }
+    {
+        self.limit
+    }
+
     /// Whether no new event has a place.
-    fn is_full(&self) -> bool
+    pub(crate) fn is_full(&self) -> bool
         ensures { result ≡ nat_le 65536 (event_count self.now) }
     {
         self.pokes.count() + self.inputs.count() + self.requests.count() >= MOST_EVENTS
     }
 
-    fn set_poke_fault(&self, step: u32, address: u32) -> Option<TimeFault>
-        ensures { result ≡ set_poke_fault step address self.now }
+    pub(crate) fn has_word(&self, step: u32, address: u32) -> bool
+        ensures { result ≡ has_word step address self.now.pokes }
     {
-        if step > LAST_STEP {
-            return Some(TimeFault::StepTooLarge);
-        }
-        if !is_word(address, self.limit) {
-            return Some(TimeFault::BadAddress);
-        }
-        if self.is_full() && !self.pokes.has(poke_at(step, address)) {
-            return Some(TimeFault::TooManyEvents);
-        }
-        None
+        self.pokes.has_word(step, address)
     }
 
-    fn clear_poke_fault(&self, step: u32, address: u32) -> Option<TimeFault>
-        ensures { result ≡ clear_poke_fault step address self.now }
+    pub(crate) fn has_byte(&self, step: u32, address: u32) -> bool
+        ensures { result ≡ has_poke step address self.now.pokes }
     {
-        if step > LAST_STEP {
-            return Some(TimeFault::StepTooLarge);
-        }
-        if !is_word(address, self.limit) {
-            return Some(TimeFault::BadAddress);
-        }
-        if !self.pokes.has(poke_at(step, address)) {
-            return Some(TimeFault::NothingThere);
-        }
-        None
+        self.pokes.has_byte(step, address)
     }
 
-    fn set_input_fault(&self, step: u32, bytes: &[u8]) -> Option<TimeFault>
-        ensures { result ≡ set_input_fault step bytes.now self.now }
+    pub(crate) fn has_input(&self, step: u32) -> bool
+        ensures { result ≡ has_input step self.now.inputs }
     {
-        if step > LAST_STEP {
-            return Some(TimeFault::StepTooLarge);
-        }
-        if self.is_full() && !self.inputs.has(step) {
-            return Some(TimeFault::TooManyEvents);
-        }
-        if bytes.len() > MOST_BYTES {
-            return Some(TimeFault::InputTooLong);
-        }
-        None
+        self.inputs.has(step)
     }
 
-    fn clear_input_fault(&self, step: u32) -> Option<TimeFault>
-        ensures { result ≡ clear_input_fault step self.now }
+    pub(crate) fn has_request(&self, step: u32, level: u32) -> bool
+        ensures { result ≡ has_request step level self.now.requests }
     {
-        if step > LAST_STEP {
-            return Some(TimeFault::StepTooLarge);
-        }
-        if !self.inputs.has(step) {
-            return Some(TimeFault::NothingThere);
-        }
-        None
-    }
-
-    fn set_request_fault(&self, step: u32, level: u32) -> Option<TimeFault>
-        ensures { result ≡ set_request_fault step level self.now }
-    {
-        if step > LAST_STEP {
-            return Some(TimeFault::StepTooLarge);
-        }
-        if !is_level(level) {
-            return Some(TimeFault::BadLevel);
-        }
-        if self.is_full() && !self.requests.has(Request { step, level }) {
-            return Some(TimeFault::TooManyEvents);
-        }
-        None
-    }
-
-    fn clear_request_fault(&self, step: u32, level: u32) -> Option<TimeFault>
-        ensures { result ≡ clear_request_fault step level self.now }
-    {
-        if step > LAST_STEP {
-            return Some(TimeFault::StepTooLarge);
-        }
-        if !is_level(level) {
-            return Some(TimeFault::BadLevel);
-        }
-        if !self.requests.has(Request { step, level }) {
-            return Some(TimeFault::NothingThere);
-        }
-        None
+        self.requests.has(Request { step, level })
     }
 }
 
 impl Timeline {
-    /// Sets the value that a word gets at a step, over the one that stands there.
+    /// Pokes a word: the values of its four bytes at a step, over those that stand there.
     ///
     /// Faults, the first that holds: `StepTooLarge`; `BadAddress`, where the address is no multiple of 4 or
-    /// the word is not inside RAM; `TooManyEvents`, only where none stands at this place yet.
-    #[tactic(auto, using(crate::proofs::SoundEvents::sound_covers))]
+    /// the word is not inside RAM; `TooManyEvents`, only where no byte of the word is poked at this step yet.
+    #[tactic(auto, using(crate::proofs::SoundEvents::sound_covers, crate::proofs::SoundEvents::poke_aligned))]
     pub fn set_poke(
         &mut self,
         _alloc: Global,
@@ -201,19 +135,16 @@ impl Timeline {
             None => {}
         }
         self.marks.reach(step)?;
-        self.pokes.put(Poke {
-            step,
-            address,
-            value,
-        })?;
+        self.pokes.put_word(step, address, value)?;
         self.marks.mark(step);
         Ok(())
     }
 
-    /// Clears the poke of a word at a step. It takes no memory.
+    /// Clears the pokes of a word's bytes at a step. It takes no memory.
     ///
-    /// Faults, the first that holds: `StepTooLarge`, `BadAddress`, `NothingThere`.
-    #[tactic(auto, using(crate::proofs::SoundEvents::sound_cut_poke, crate::proofs::SoundEvents::poke_stands))]
+    /// Faults, the first that holds: `StepTooLarge`; `BadAddress`; `NothingThere`, where no byte of the word is
+    /// poked at this step.
+    #[tactic(auto, using(crate::proofs::SoundEvents::sound_cut_word, crate::proofs::SoundEvents::word_stands, crate::proofs::SoundEvents::clear_aligned))]
     pub fn clear_poke(&mut self, step: u32, address: u32) -> Result<(), TimeFault>
         ensures ok { OnOk result (clear_poke_fault step address self.old ≡ None) }
         ensures value { OnOk result (self.new ≡ without_poke step address self.old) }
@@ -224,7 +155,52 @@ impl Timeline {
             Some(fault) => return Err(fault),
             None => {}
         }
-        self.pokes.cut(poke_at(step, address));
+        self.pokes.cut_word(step, address);
+        Ok(())
+    }
+
+    /// Pokes a byte: its value at a step, over the one that stands there.
+    ///
+    /// Faults, the first that holds: `StepTooLarge`; `BadAddress`, where the byte is not inside RAM;
+    /// `TooManyEvents`, only where no byte of its word is poked at this step yet.
+    #[tactic(auto, using(crate::proofs::SoundEvents::sound_covers))]
+    pub fn set_poke_byte(
+        &mut self,
+        _alloc: Global,
+        step: u32,
+        address: u32,
+        value: u8,
+    ) -> Result<(), TimeFault>
+        ensures ok { OnOk result (set_poke_byte_fault step address self.old ≡ None) }
+        ensures value { OnOk result (self.new ≡ with_poke_byte step address value self.old) }
+        ensures err { IfErr result (IsRefused (set_poke_byte_fault step address self.old)) }
+        ensures kept { OnErr result (self.new ≡ self.old) }
+    {
+        match self.set_poke_byte_fault(step, address) {
+            Some(fault) => return Err(fault),
+            None => {}
+        }
+        self.marks.reach(step)?;
+        self.pokes.put_byte(step, address, value)?;
+        self.marks.mark(step);
+        Ok(())
+    }
+
+    /// Clears the poke of a byte at a step. It takes no memory.
+    ///
+    /// Faults, the first that holds: `StepTooLarge`; `BadAddress`; `NothingThere`, where this byte is not poked.
+    #[tactic(auto, using(crate::proofs::SoundEvents::sound_cut_byte, crate::proofs::SoundEvents::byte_stands))]
+    pub fn clear_poke_byte(&mut self, step: u32, address: u32) -> Result<(), TimeFault>
+        ensures ok { OnOk result (clear_poke_byte_fault step address self.old ≡ None) }
+        ensures value { OnOk result (self.new ≡ without_poke_byte step address self.old) }
+        ensures err { IfErr result (λ e. clear_poke_byte_fault step address self.old ≡ Some e) }
+        ensures kept { OnErr result (self.new ≡ self.old) }
+    {
+        match self.clear_poke_byte_fault(step, address) {
+            Some(fault) => return Err(fault),
+            None => {}
+        }
+        self.pokes.cut_byte(step, address);
         Ok(())
     }
 
@@ -310,13 +286,19 @@ impl Timeline {
 
 impl Timeline {
     /// What happens at a step. A step that never had an event costs the read of one flag.
+    ///
+    /// `inside` has what a caller needs to write the poked bytes to RAM, and `levels` to make the levels pending.
     #[tactic(auto, using(crate::proofs::SoundEvents::no_pokes, crate::proofs::SoundEvents::no_bytes, crate::proofs::SoundEvents::no_requests))]
     pub fn events(&self, step: u32) -> Events<'_>
-        ensures pokes { result.pokes.now ≡ pokes_of_step step self.now.pokes }
+        ensures pokes { bytes_of_words result.pokes.now ≡ pokes_of_step step self.now.pokes }
         ensures bytes { result.bytes.now ≡ bytes_of_step step self.now.inputs }
         ensures requests { result.requests.now ≡ requests_of_step step self.now.requests }
-        ensures addresses_rise { Rising poke_before result.pokes.now }
+        ensures addresses_rise { Rising word_before result.pokes.now }
+        ensures inside { Each (IsWordIn self.now.limit) result.pokes.now }
+        ensures short { length result.bytes.now ≤ 1024 }
         ensures levels_rise { Rising request_before result.requests.now }
+        ensures levels { Each IsRequestPlace result.requests.now }
+        ensures timeline { IsTimeline self.now }
     {
         if self.marks.has(step) {
             Events {
@@ -333,18 +315,31 @@ impl Timeline {
         }
     }
 
-    /// The least step above `after` at which a word is poked. The time grows with the number of pokes.
+    /// The least step above `after` at which a byte is poked, at most `LAST_STEP`. `address` is that of the byte.
     pub fn next_poke(&self, address: u32, after: u32) -> Option<u32>
         ensures value { result ≡ poke_after address after self.now.pokes }
         ensures least { IsNextPoke address after self.now.pokes result }
+        ensures bound { IfSome result (λ n. n ≤ 1000000) }
+        ensures timeline { IsTimeline self.now }
     {
-        next_poke(&self.pokes, address, after)
+        self.pokes.next(address, after)
+    }
+
+    /// The least step above `after` at which a level is requested, at most `LAST_STEP`.
+    pub fn next_request(&self, level: u32, after: u32) -> Option<u32>
+        ensures value { result ≡ request_after level after self.now.requests }
+        ensures least { IsNextRequest level after self.now.requests result }
+        ensures bound { IfSome result (λ n. n ≤ 1000000) }
+        ensures timeline { IsTimeline self.now }
+    {
+        next_request(&self.requests, level, after)
     }
 
     /// The number of input bytes of all steps below `before`.
     pub fn delivered(&self, before: u32) -> u32
         ensures value { result ≡ bytes_below before self.now.inputs }
         ensures steps_rise { Rising input_before self.now.inputs }
+        ensures timeline { IsTimeline self.now }
     {
         self.inputs.delivered(before)
     }
@@ -353,6 +348,7 @@ impl Timeline {
     pub fn byte(&self, k: u32) -> Option<u8>
         ensures value { result ≡ slice_get (input_bytes self.now.inputs) k }
         ensures steps_rise { Rising input_before self.now.inputs }
+        ensures timeline { IsTimeline self.now }
     {
         self.inputs.byte(k)
     }

@@ -5,8 +5,8 @@ use Rattle.sv8_time.specs.Inputs.{givens, starts_of}
 use Rattle.sv8_time.proofs.InputPlaces.{no_byte, byte_found, start_le, length_starts}
 use Rattle.sv8_time.proofs.inputs.Inputs.byte.Goals as goal
 
-pub returns-then-count-eq0-clause-value : goal.returns-then-count-eq0-clause-value
-returns-then-count-eq0-clause-value c = sym (no_byte c.args.index c.args.self.now (sym c.count_started-count.ensures.value ∙ c.if-count-eq0.true))
+pub returns-then-count-eq0 : goal.returns-then-count-eq0
+returns-then-count-eq0 c = sym (no_byte c.args.index c.args.self.now (sym c.count_started-count.ensures.value ∙ c.if-count-eq0.true))
 
 pub start_in-start-requires : goal.start_in-start-requires
 start_in-start-requires c = omega (arith, c.count_started-count.ensures.bound, ap length c.self.view_is, ap length c.self.invariant.starts_are, length_starts 0 (givens c.self.inside.entries.items), ap length c.deref.ensures.value)
@@ -19,8 +19,8 @@ overflow_sub-index c =
     subst (λ l. slice_get l n ≡ Some c.start_in-start.result) (c.deref.ensures.value ∙ (c.self.invariant.starts_are ∙ ap (λ l. starts_of 0 l) c.self.view_is)) c.start_in-start.ensures in
     start_le c.args.index 0 c.args.self.now n c.start_in-start.result e g
 
-pub returns-clause-value : goal.returns-clause-value
-returns-clause-value c =
+pub returns : goal.returns
+returns c =
     let n = c.count_started-count.result - 1 in
     let e : prefix_len (λ s. nat_le s c.args.index) (starts_of 0 c.args.self.now) ≡ suc n = sym c.count_started-count.ensures.value ∙ omega arith in
     let g : slice_get (starts_of 0 c.args.self.now) n ≡ Some c.start_in-start.result =

@@ -1,0 +1,10 @@
+use Rattle.std.proofs.Common.{rules, ◌≡◌, ◌∙◌, subst, sym, ap, Some, None, slice_get}
+use Rattle.sv8_time.specs.Inputs.{starts_of}
+use Rattle.sv8_time.proofs.InputPlaces.{start_is, start_past}
+use Rattle.sv8_time.proofs.inputs.Inputs.start.Goals as goal
+
+pub returns-in-Some : goal.returns-in-Some
+returns-in-Some c = start_is c.args.self.now c.args.index c.in-Some.start (search rules)
+
+pub returns-in-None : goal.returns-in-None
+returns-in-None c = rw (c.self.invariant.total_is, c.self.view_is) (start_past c.args.self.now c.args.index (search rules))

@@ -1,0 +1,9 @@
+use Rattle.std.proofs.Common.{rules}
+use Rattle.sv8_time.specs.Schedule.{Schedule}
+use Rattle.sv8_time.proofs.SoundEvents.{sound_cut_byte}
+use Rattle.sv8_time.proofs.timeline.Timeline.clear_poke_byte.Goals as goal
+
+pub invariant_of-self : goal.invariant_of-self
+invariant_of-self c =
+    let s : Schedule = record { limit = c.self.inside.limit; pokes = c.self.inside.pokes; inputs = c.self.inside.inputs; requests = c.self.inside.requests } in
+    sound_cut_byte c.self.inside.marks s c.args.step c.args.address c.cut_byte.new.self c.self.invariant c.cut_byte.ensures.value c.cut_byte.ensures.count
