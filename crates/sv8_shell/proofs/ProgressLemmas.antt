@@ -10,7 +10,8 @@ use Rattle.sv8_shell.specs.declared.place.Place.{Place}
 use Rattle.sv8_shell.specs.declared.driver.RunFault.{RunFault}
 use Rattle.sv8_shell.specs.declared.driver.RunFault.TheVariants.{Read, Write, TooManyCommands}
 use Rattle.sv8_shell.specs.Script.{Order, bad, Stage, idle, taking, over, is_nil, orders_at_end, orders_of, Step, step, kept_with, left_from, ended_lines, stage_from, orders_in}
-use Rattle.sv8_shell.specs.Session.{State, Answered, Cut, Does}
+use Rattle.sv8_shell.specs.Session.{State, Answered, Cut}
+use Rattle.sv8_shell.specs.Put.{Does}
 use Rattle.sv8_shell.specs.Gathers.{IsAt, Stepped}
 use Rattle.sv8_shell.specs.Progress.{Progress, Stopped, Stops, Taken}
 use Rattle.sv8_shell.proofs.SessionLemmas.{Answered-none, Answered-append, Cut-after, Cut-longer, Does-after}

@@ -4,9 +4,8 @@ use Rattle.sv8_shell.specs.declared.gathering.Gathering.{Gathering}
 use Rattle.sv8_shell.specs.declared.place.Place.{Place}
 use Rattle.sv8_shell.specs.declared.driver.RunFault.{RunFault}
 use Rattle.sv8_shell.specs.declared.driver.RunFault.TheVariants.{Read, Write, TooManyCommands}
-use Rattle.sv8_shell.specs.Put.{IsPrefix}
 use Rattle.sv8_shell.specs.Script.{idle, ended_lines, left_from, stage_from, orders_in}
-use Rattle.sv8_shell.specs.Session.{State, Answered, Cut}
+use Rattle.sv8_shell.specs.Session.{State, IsPrefix, Answered, Cut}
 use Rattle.sv8_shell.specs.Gathers.{IsAt, is_over}
 
 -- the place and what waits are those after these bytes

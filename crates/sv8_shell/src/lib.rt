@@ -7,10 +7,12 @@ mod command;
 mod driver;
 mod gathering;
 mod line;
+mod listing;
 mod place;
 mod put;
 mod refusal;
 mod script;
+mod text;
 mod texts;
 
 pub use command::{BadCommand, Command, parse_command};
