@@ -10,7 +10,7 @@ use Rattle.sv8_source.specs.declared.fault.SourceFault.TheVariants as source
 use Rattle.sv8_source.specs.Text.{Text, replaced, is_range, text_fault, edit_fault}
 use Rattle.sv8_shell.specs.Refusal.{refusal_of, bad_command}
 use Rattle.sv8_shell.specs.Text.{ok_line, refusal_line}
-use Rattle.sv8_shell.specs.Outcome.{Outcome, changed, refused, unless_refused, may_lack_memory, Answer, answer_to, Answers, due, lacking}
+use Rattle.sv8_shell.specs.Outcome.{Outcome, changed, refused, unless_refused, may_lack_memory, answer_to, Answers, due, lacking}
 use Rattle.sv8_shell.specs.Commands.{edit_outcome}
 use Rattle.sv8_shell.specs.Script.{edit, bad}
 use Rattle.sv8_shell.specs.Session.{State, outcome}

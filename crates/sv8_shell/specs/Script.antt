@@ -128,3 +128,7 @@ orders_of bytes = orders_from idle (all_lines bytes) ++ orders_at_end (stage_fro
 -- the script ends by a `quit` among these lines
 unfoldable pub EndsByQuit : List (List ℕ) → Type 0
 EndsByQuit lines = stage_from idle lines ≡ over
+
+-- none of these lines ends it by a `quit`
+unfoldable pub HasNoQuit : List (List ℕ) → Type 0
+HasNoQuit lines = EndsByQuit lines → ⊥

@@ -1,9 +1,9 @@
 //! What each byte of a script does.
-ghost use Rattle.std.specs.Prelude.{◌≡◌, ℕ, ◌+◌, ◌<◌, ◌≤◌, ◌++◌, ◌∷◌, [], List, Option, length};
+ghost use Rattle.std.specs.Prelude.{◌≡◌, ℕ, ◌+◌, ◌<◌, ◌≤◌, ◌++◌, ◌∷◌, [], List, Option, length, false};
 ghost use Rattle.sv8_bench.specs.Kept.{Kept};
 ghost use Rattle.sv8_shell.specs.Script.{Stage, orders_at_end, orders_of};
 ghost use Rattle.sv8_shell.specs.Put.{Does};
-ghost use Rattle.sv8_shell.specs.Gathers.{IsAt};
+ghost use Rattle.sv8_shell.specs.Gathers.{IsAt, is_over};
 ghost use Rattle.sv8_shell.specs.Progress.{Progress, Reached, TakesByte, TakesPiece};
 ghost use Rattle.sv8_shell.specs.declared.gathering.Gathering.TheVariants.{Idle};
 
@@ -42,6 +42,7 @@ fn take_byte<const NW: usize, const PAGES: usize, const K: u32, W: Write>(
     writer: &mut W,
     b: u8,
 ) -> Result<Gathering, RunFault>
+    requires { is_over gathering ≡ false }
     ensures { (old : Option (List ℕ)) (start : Kept) (given : List ℕ) →
         Progress old (W.contents writer.old) start bench.old given place.old gathering →
         TakesByte result old (W.contents writer.new) start bench.new given b place.new }
@@ -76,6 +77,7 @@ pub fn take_piece<const NW: usize, const PAGES: usize, const K: u32, W: Write>(
     writer: &mut W,
     piece: &[u8],
 ) -> Result<Gathering, RunFault>
+    requires { is_over gathering ≡ false }
     ensures { (old : Option (List ℕ)) (start : Kept) (given : List ℕ) →
         Progress old (W.contents writer.old) start bench.old given place.old gathering →
         TakesPiece result old (W.contents writer.new) start bench.new given piece.now place.new }
@@ -83,8 +85,12 @@ pub fn take_piece<const NW: usize, const PAGES: usize, const K: u32, W: Write>(
     let mut gathering = gathering;
     for b in piece {
         match take_byte(alloc, place, gathering, bench, writer, *b) {
-            Ok(Gathering::Over) => return Ok(Gathering::Over),
-            Ok(taken) => gathering = taken,
+            Ok(taken) => {
+                if taken.is_over() {
+                    return Ok(taken);
+                }
+                gathering = taken;
+            }
             Err(fault) => return Err(fault),
         }
     }
