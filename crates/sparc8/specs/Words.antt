@@ -1,6 +1,6 @@
 -- What the words of the command line choose. `matches_of` of clap's definitions is what a command line makes of words.
 use Rattle.std.specs.Prelude.{◌≡◌, ℕ, List, [], ◌∷◌, Option, Some, None, map, codes, bytes_eq, if◌then◌else◌, true}
-use Rattle.clap.specs.Words.{App, Rule, Text, first_of, matches_of, new_app, new_rule, takes, with_rule}
+use Rattle.clap.specs.Words.{App, Rule, Text, first_of, matches_of, new_rule, with_rule}
 use Rattle.clap.specs.Simple.{new_shape}
 use Rattle.clap.specs.declared.builder.value_parser.ValueParser.{ValueParser}
 use Rattle.clap.specs.declared.builder.value_parser.ValueParser.TheVariants.{Names}

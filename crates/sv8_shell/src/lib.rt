@@ -6,6 +6,7 @@ mod bytes;
 mod command;
 mod driver;
 mod gathering;
+pub mod laws;
 mod line;
 mod listing;
 mod place;

@@ -2,7 +2,7 @@ use Rattle.std.proofs.Common.{◌≡◌, ◌∙◌, ℕ, List, [], ◌∷◌, Op
 use Rattle.clap.specs.Words.{Text, first_of, matches_of}
 use Rattle.clap.specs.declared.builder.value_parser.ValueParser.{ValueParser}
 use Rattle.clap.proofs.OnLiterals.{clap_on_literals}
-use Rattle.sparc8.specs.Words.{command_line, windows_of, Chooses}
+use Rattle.sparc8.specs.Words.{command_line, windows_of}
 use Rattle.sparc8.proofs.laws.worked_words.Goals as goal
 
 abbrev windows_at : ValueParser → List Text → ℕ

@@ -1,5 +1,5 @@
 use Rattle.std.proofs.Common.{rules, ap, ap₂, sym, subst, codes, true, map, [], ◌∷◌, ◌≡◌, ◌∙◌}
-use Rattle.clap.specs.Words.{App, app_of, rule_of, with_rule}
+use Rattle.clap.specs.Words.{App, rule_of, with_rule}
 use Rattle.clap.specs.Simple.{app_of_fields}
 use Rattle.sparc8.specs.Words.{IsFiveCounts, windows_rule, script_rule}
 use Rattle.sparc8.proofs.words.command_line.Goals as goal
