@@ -16,5 +16,4 @@ pub fn worked_words()
         → (n ≡ 16) × (s ≡ Some (codes "x")) }
     ensures thirty_two { (n : ℕ) (s : Option (List ℕ)) → Chooses (codes "x" ∷ codes "--windows" ∷ codes "32" ∷ []) n s
         → (n ≡ 32) × (s ≡ Some (codes "x")) }
-{
-}
+{}

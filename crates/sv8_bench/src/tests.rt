@@ -249,7 +249,13 @@ fn a_refused_edit_changes_nothing(rt: HostRuntime) -> Result<(), Fail> {
         (4, 3, b"nop", BenchFault::NoSuchLine),
     ];
     for (first, last, text, fault) in refused {
-        assert!(rt; holds::<8, 256>(rt.alloc(), LOOP, Question::Refuses(first, last, text, fault))?);
+        assert!(rt;
+            holds::<8, 256>(
+                rt.alloc(),
+                LOOP,
+                Question::Refuses(first, last, text, fault)
+            )?
+        );
     }
     Ok(())
 }

@@ -7,7 +7,6 @@ pub mod Script
 pub mod Words
 pub mod Text
 pub mod Refusal
-
 -- What the contracts of its parts say besides
 pub mod Put
 pub mod Gathers

@@ -15,5 +15,4 @@ pub fn worked_session()
         (edit 3 3 (codes "nop" ∷ codes "quit" ∷ []) ∷ bad ∷ command (Regs 1000001) ∷ command Listing
         ∷ command (Edit 1 0 0) ∷ command Quit ∷ [])
         (codes "refused 2 NoSuchLine\nrefused 18 BadCommand\nrefused 13 StepTooLarge\nok\nok\nok\n") (empty 8 256) }
-{
-}
+{}

@@ -30,11 +30,7 @@ fn add_byte<W: Write>(
 }
 
 /// The bytes of a line.
-fn add_bytes<W: Write>(
-    writer: &mut W,
-    text: &mut Text,
-    bytes: &[u8],
-) -> Result<(), WriteFault>
+fn add_bytes<W: Write>(writer: &mut W, text: &mut Text, bytes: &[u8]) -> Result<(), WriteFault>
     ensures { Gains result (W.contents writer.old) (W.contents writer.new) text.old text.new (numbered_text listed_byte 0 bytes.now) }
 {
     for (place, byte) in bytes.iter().enumerate() {

@@ -55,11 +55,7 @@ pub fn put_text<W: Write>(writer: &mut W, text: &mut Text) -> Result<(), WriteFa
 }
 
 /// Puts the text where it has no room for so many bytes more.
-pub fn make_room<W: Write>(
-    writer: &mut W,
-    text: &mut Text,
-    wanted: usize,
-) -> Result<(), WriteFault>
+pub fn make_room<W: Write>(writer: &mut W, text: &mut Text, wanted: usize) -> Result<(), WriteFault>
     requires { wanted ≤ 4096 }
     ensures gained { Gains result (W.contents writer.old) (W.contents writer.new) text.old text.new [] }
     ensures room { OnOk result (length text.new + wanted ≤ 4096) }
@@ -71,11 +67,7 @@ pub fn make_room<W: Write>(
 }
 
 /// Adds bytes of any number.
-fn add_long<W: Write>(
-    writer: &mut W,
-    text: &mut Text,
-    bytes: &[u8],
-) -> Result<(), WriteFault>
+fn add_long<W: Write>(writer: &mut W, text: &mut Text, bytes: &[u8]) -> Result<(), WriteFault>
     ensures { Gains result (W.contents writer.old) (W.contents writer.new) text.old text.new bytes.now }
 {
     if bytes.len() <= text.room() {

@@ -26,7 +26,9 @@ impl Text {
     pub fn new() -> Text
         ensures { result ≡ [] }
     {
-        Text { bytes: ArrayVec::new() }
+        Text {
+            bytes: ArrayVec::new(),
+        }
     }
 
     pub fn as_slice(&self) -> &[u8]

@@ -11,8 +11,11 @@ returns-in-Err g c = λ old source given p.
     stops-piece c.in-Err.fault old _ source _ given c.args.piece.now c.loop-b.b-index (omega arith) (c.in-Err.ensures old source _ (c.loop-b.invariant.1 old source given p))
 
 pub loop-b-preserved : goal.loop-b-preserved
-loop-b-preserved g c = (sym c.is_over.ensures ∙ c.if-is_over.false, λ old source given p.
-    rw (next_byte given c.args.piece.now c.loop-b.b-index (omega arith)) at (c.in-Ok.ensures old source _ (c.loop-b.invariant.1 old source given p)))
+loop-b-preserved g c = (
+  sym c.is_over.ensures ∙ c.if-is_over.false,
+  λ old source given p.
+      rw (next_byte given c.args.piece.now c.loop-b.b-index (omega arith)) at (c.in-Ok.ensures old source _ (c.loop-b.invariant.1 old source given p)),
+)
 
 pub returns : goal.returns
 returns g c = λ old source given p. taken-whole old _ source _ given c.args.piece.now _ _ c.loop-b.b-index (omega arith) (c.loop-b.invariant.1 old source given p)

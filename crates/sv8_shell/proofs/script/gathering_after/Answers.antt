@@ -12,7 +12,7 @@ pub returns-in-Quit : goal.returns-in-Quit
 returns-in-Quit c = rw c.in-Quit.is tt
 
 pub returns-in_default : goal.returns-in_default
-returns-in_default c = elim c.in_default.branch [ 
-    | in_default-via-in-Edit+else-count-gt0 w ↦ rw (w.in-Edit.is, edit-at_once w.in-Edit.first w.in-Edit.last w.in-Edit.count (let h = w.if-count-gt0.false in omega arith)) tt
-    | in_default-via-in_default w ↦ idle-after c.args.command.now w.in_default.not-Edit w.in_default.not-Quit
+returns-in_default c = elim c.in_default.branch [
+  | in_default-via-in-Edit+else-count-gt0 w ↦ rw (w.in-Edit.is, edit-at_once w.in-Edit.first w.in-Edit.last w.in-Edit.count (let h = w.if-count-gt0.false in omega arith)) tt
+  | in_default-via-in_default w ↦ idle-after c.args.command.now w.in_default.not-Edit w.in_default.not-Quit
 ]
