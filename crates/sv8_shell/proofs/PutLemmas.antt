@@ -113,10 +113,20 @@ Puts-gained r a b c w x s t g h = subst (Puts r a c) (sym (joined w x s g.writte
 pub gained-put : (a b : Option (List ℕ)) (w x : List ℕ) → Appends a b w → x ≡ [] → Gained a b w x []
 gained-put a b w x h e = record { written = w; put = h; is = ap (λ l. w ++ l) (sym e) }
 
+-- nothing waits any more
+all_put : (a b : Option (List ℕ)) (w x : List ℕ) → Gained a b w x [] → x ≡ [] → Appends a b w
+all_put a b w x g e =
+    let written : w ≡ g.written = sym (append-nil w) ∙ g.is ∙ ap (λ l. g.written ++ l) e ∙ append-nil g.written in
+    subst (Appends a b) (sym written) g.put
+
 -- all that waited was put, and bytes behind it
-pub Gains-direct : {A E : Type 0} (r : Result A E) (a b c : Option (List ℕ)) (w x t : List ℕ) → Appends a b w → x ≡ [] → Puts r b c t → Gains r a c w x t
+Gains-direct : {A E : Type 0} (r : Result A E) (a b c : Option (List ℕ)) (w x t : List ℕ) → Appends a b w → x ≡ [] → Puts r b c t → Gains r a c w x t
 Gains-direct (Ok _) a b c w x t h e k = record { written = w ++ t; put = Appends-trans a b c w t h k; is = sym (append-nil (w ++ t)) ∙ ap (λ l. (w ++ t) ++ l) (sym e) }
 Gains-direct (Err _) a b c w x t h e k = part-after a b c w t h k
+
+-- the same after room was made
+pub Gains-long : {A E : Type 0} (r : Result A E) (a b c : Option (List ℕ)) (w x t : List ℕ) → Gained a b w x [] → length x ≤ 0 → Puts r b c t → Gains r a c w x t
+Gains-long r a b c w x t g h k = Gains-direct r a b c w x t (all_put a b w x g (none_left x h)) (none_left x h) k
 
 -- ---- pieces
 

@@ -5,7 +5,7 @@ ghost use Rattle.sv8_shell.specs.Put.{Puts, Gains, refusal_in};
 ghost use Rattle.sv8_shell.specs.Text.{ok_line, refusal_line};
 
 use crate::refusal::Refusal;
-use crate::text::Text;
+use crate::text::{CAPACITY, Text};
 use crate::texts::{add_ok, add_refusal};
 use std::io::Write;
 
@@ -66,18 +66,19 @@ pub fn make_room<W: Write>(writer: &mut W, text: &mut Text, wanted: usize) -> Re
     put_text(writer, text)
 }
 
-/// Adds bytes of any number.
+/// Adds bytes, which are put by themselves where they are more than the buffer holds.
 fn add_long<W: Write>(writer: &mut W, text: &mut Text, bytes: &[u8]) -> Result<(), WriteFault>
     ensures { Gains result (W.contents writer.old) (W.contents writer.new) text.old text.new bytes.now }
 {
+    match make_room(writer, text, bytes.len().min(CAPACITY)) {
+        Ok(()) => {}
+        Err(fault) => return Err(fault),
+    }
     if bytes.len() <= text.room() {
         text.add(bytes);
         return Ok(());
     }
-    match put_text(writer, text) {
-        Ok(()) => put(writer, bytes),
-        Err(fault) => Err(fault),
-    }
+    put(writer, bytes)
 }
 
 /// Adds each piece in turn.
