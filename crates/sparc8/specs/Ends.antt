@@ -1,5 +1,7 @@
--- The exit status of each end, and its line on standard error.
-use Rattle.std.specs.Prelude.{ℕ, List, [], codes}
+-- How each run ends the program: its exit status, and its line on standard error.
+use Rattle.std.specs.Prelude.{ℕ, List, [], codes, Result, Ok, Err}
+use Rattle.sv8_shell.specs.declared.driver.RunFault.{RunFault}
+use Rattle.sv8_shell.specs.declared.driver.RunFault.TheVariants as fault
 use Rattle.sparc8.specs.declared.end.End.{End}
 use Rattle.sparc8.specs.declared.end.End.TheVariants.{Done, Help, Usage, ReadFault, WriteFault, TooMany, NoScript, Memory}
 
@@ -22,3 +24,10 @@ line_of WriteFault = codes "sparc8: write fault"
 line_of TooMany = codes "sparc8: too many commands"
 line_of NoScript = codes "sparc8: cannot open script"
 line_of Memory = codes "sparc8: out of memory"
+
+-- the end after a run
+abbrev pub end_of : {A : Type 0} → Result A RunFault → End
+end_of (Ok _) = Done
+end_of (Err fault.Read) = ReadFault
+end_of (Err fault.Write) = WriteFault
+end_of (Err fault.TooManyCommands) = TooMany

@@ -1,7 +1,9 @@
 //! How the program ends.
 
 ghost use Rattle.std.specs.Prelude.{◌≡◌};
-ghost use Rattle.sparc8.specs.Ends.{status_of, line_of};
+ghost use Rattle.sparc8.specs.Ends.{status_of, line_of, end_of};
+
+use sv8_shell::RunFault;
 
 /// How the program ends.
 #[derive(Debug, Drop, Clone, Copy, PartialEq, Eq)]
@@ -22,6 +24,18 @@ pub enum End {
     NoScript,
     /// Memory could not be had.
     Memory,
+}
+
+/// The end after a run.
+pub fn end_of(ran: Result<(), RunFault>) -> End
+    ensures { result ≡ end_of ran }
+{
+    match ran {
+        Ok(()) => End::Done,
+        Err(RunFault::Read) => End::ReadFault,
+        Err(RunFault::Write) => End::WriteFault,
+        Err(RunFault::TooManyCommands) => End::TooMany,
+    }
 }
 
 /// The exit status of an end, and the line that goes to standard error, empty if there is none.

@@ -2,12 +2,13 @@
 #![tactic(auto)]
 
 mod end;
+pub mod laws;
 mod program;
 #[cfg(test)]
 mod tests;
 mod words;
 
-pub use end::{End, ending};
+pub use end::{End, end_of, ending};
 use std::process::ExitCode;
 pub use words::{Settings, settings};
 

@@ -1,21 +1,20 @@
 //! The words of the command line.
 
-ghost use Rattle.std.specs.Prelude.{IfOk, IsTrue};
+ghost use Rattle.std.specs.Prelude.{◌≡◌, IfOk, IsTrue, map, option_map};
+ghost use Rattle.clap.specs.Words.{app_of};
 ghost use Rattle.sparc8.specs.Windows.{is_window_count};
+ghost use Rattle.sparc8.specs.Words.{Chooses, IsSparc8, windows_of};
 
 mod chosen;
 
 pub use chosen::Settings;
+use clap::error::ErrorKind;
 use clap::{Arg, Command, Error};
-use std::alloc::Global;
+use std::alloc::{AllocError, Global};
 
-/// Reads the words that follow the program's name.
-///
-/// # Errors
-///
-/// The error of `clap`, which also tells that the help was asked for, or that memory could not be had.
-pub fn settings<'a>(alloc: Global, words: &'a [&'a str]) -> Result<Settings<'a>, Error>
-    ensures { IfOk result (λ s. IsTrue (is_window_count s.windows)) }
+/// The command line that the program takes, without the program's name in front.
+fn command_line<'a>(alloc: Global) -> Result<Command<'a>, AllocError>
+    ensures { IfOk result (λ c. IsSparc8 (app_of c)) }
 {
     let windows = Arg::new(alloc, "windows")
         .long("windows")
@@ -31,6 +30,20 @@ pub fn settings<'a>(alloc: Global, words: &'a [&'a str]) -> Result<Settings<'a>,
         .no_binary_name(true)
         .arg(windows)?
         .arg(script)?;
+    Ok(command)
+}
+
+/// Reads the words that follow the program's name.
+///
+/// # Errors
+///
+/// The error of `clap`, which also tells that the help was asked for, or that memory could not be had.
+pub fn settings<'a>(alloc: Global, words: &'a [&'a str]) -> Result<Settings<'a>, Error>
+    ensures chosen { IfOk result (λ s.
+        Chooses (map (λ w. w.now) words.entry.now) s.windows (option_map (λ t. t.now) s.script)) }
+    ensures windows { IfOk result (λ s. IsTrue (is_window_count s.windows)) }
+{
+    let command = command_line(alloc)?;
     let matches = command.try_get_matches_from(words)?;
     Ok(Settings {
         windows: window_count(matches.get_str("windows")),
@@ -38,10 +51,25 @@ pub fn settings<'a>(alloc: Global, words: &'a [&'a str]) -> Result<Settings<'a>,
     })
 }
 
-fn window_count(text: Option<&str>) -> u32
-    ensures { IsTrue (is_window_count result) }
+/// The error where a word is no text, which `clap` cannot be given.
+///
+/// # Errors
+///
+/// Memory could not be had.
+pub fn not_text(alloc: Global) -> Result<Error, AllocError> {
+    let mut command = command_line(alloc)?;
+    command.error(
+        ErrorKind::InvalidValue,
+        "invalid UTF-8 was detected in one or more arguments",
+    )
+}
+
+/// The number of windows that a word names, 8 where there is none.
+fn window_count(word: Option<&str>) -> u32
+    ensures value { result ≡ windows_of (option_map (λ w. w.now) word.entry) }
+    ensures five { IsTrue (is_window_count result) }
 {
-    match text {
+    match word {
         Some("2") => 2,
         Some("4") => 4,
         Some("16") => 16,

@@ -1,4 +1,5 @@
 pub mod Keys
 pub mod Gathering
+pub mod Marks
 pub mod Sizes
 pub mod Decodes

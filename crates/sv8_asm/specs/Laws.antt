@@ -1,36 +1,36 @@
 -- What is true of every statement, and of a line's text.
-use Rattle.std.specs.Prelude.{◌≡◌, ℕ, ◌≤◌, List, length, Some, Result, Ok, Err, IsOk}
-use Rattle.std.specs.Int.{w32, to_be_bytes}
+use Rattle.std.specs.Prelude.{◌≡◌, ℕ, ◌≤◌, List, length, flat_map, Result, Ok, Err, IsOk}
+use Rattle.std.specs.List.{AllZip}
 use Rattle.std.specs.Result.{result_unwrap_or}
+use Rattle.std.specs.Int.{w32, to_be_bytes}
 use Rattle.sv8_isa.specs.Table.{meaning}
 use Rattle.sv8_isa.specs.declared.instr.Instr.{Instr}
 use Rattle.sv8_syntax.specs.declared.fault.LineFault.{LineFault}
-use Rattle.sv8_syntax.specs.declared.statement.Statement.{Statement}
 use Rattle.sv8_syntax.specs.declared.statement.Stmt.{Stmt}
 use Rattle.sv8_syntax.specs.Reading.{reading}
 use Rattle.sv8_asm.specs.Names.{Names}
 use Rattle.sv8_asm.specs.Size.{size}
-use Rattle.sv8_asm.specs.Code.{bytes as line_code, instruction_of, statement_bytes}
+use Rattle.sv8_asm.specs.Code.{bytes as line_code, instruction_bytes}
 
 -- what a statement places does not reach beyond the location behind it
 abbrev pub BytesFitSize : Type 0
-BytesFitSize = (s : Stmt) (at : ℕ) (names : Names) (b : List ℕ) → IsOk (size s at) → line_code s at names ≡ Ok b → length b ≤ result_unwrap_or (size s at) 0
+BytesFitSize = (s : Stmt) (line at : ℕ) (names : Names) (b : List ℕ) → IsOk (size s at) → line_code s line at names ≡ Ok b → length b ≤ result_unwrap_or (size s at) 0
 
 -- the bytes of what was read, or its fault
-abbrev pub bytes_of_reading : Result Stmt LineFault → ℕ → Names → Result (List ℕ) LineFault
-bytes_of_reading (Ok s) at names = line_code s at names
-bytes_of_reading (Err e) at names = Err e
+abbrev pub bytes_of_reading : Result Stmt LineFault → ℕ → ℕ → Names → Result (List ℕ) LineFault
+bytes_of_reading (Ok s) line at names = line_code s line at names
+bytes_of_reading (Err e) line at names = Err e
 
 -- the bytes of a line of text at a location
-abbrev pub line_bytes : List ℕ → ℕ → Names → Result (List ℕ) LineFault
-line_bytes text at names = bytes_of_reading (reading text) at names
+abbrev pub line_bytes : List ℕ → ℕ → ℕ → Names → Result (List ℕ) LineFault
+line_bytes text line at names = bytes_of_reading (reading text) line at names
 
--- a word that stands for an instruction, and its bytes, the most significant first
-pub record IsWordOf (i : Instr) (b : List ℕ) : Type 0 where
-  pub word : ℕ
-  pub decodes : meaning word ≡ i
-  pub bytes : b ≡ to_be_bytes w32 word
+-- words that stand for instructions, one after another, and their bytes, the most significant of each first
+pub record AreWordsOf (is : List Instr) (b : List ℕ) : Type 0 where
+  pub words : List ℕ
+  pub decode : AllZip (λ w i. meaning w ≡ i) words is
+  pub bytes : b ≡ flat_map (to_be_bytes w32) words
 
--- what is placed for a statement that stands for an instruction is a word of that instruction
+-- what is placed for instructions are words of those instructions
 abbrev pub InstructionsDecode : Type 0
-InstructionsDecode = (s : Statement) (at : ℕ) (names : Names) (i : Instr) (b : List ℕ) → instruction_of names at s ≡ Ok (Some i) → statement_bytes s at names ≡ Ok b → IsWordOf i b
+InstructionsDecode = (is : List Instr) (b : List ℕ) → instruction_bytes is ≡ Ok b → AreWordsOf is b

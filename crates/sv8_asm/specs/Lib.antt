@@ -3,5 +3,6 @@ pub mod Index
 pub mod Value
 pub mod Size
 pub mod Code
+pub mod Coded
 pub mod Gathering
 pub mod Laws

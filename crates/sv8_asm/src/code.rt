@@ -1,116 +1,113 @@
 //! The bytes of a statement.
 
-ghost use Rattle.sv8_asm.specs.Gathering.{carried};
+ghost use Rattle.std.specs.Prelude.{ℕ, List, Result, [], ◌≡◌, ℤ, pos, negsuc, ◌≤ℤ◌, ◌⊎◌, ◌-◌, ◌^◌, ◌++◌, IsOk, IfOk, OnErr, MatchResult, Ok, Err};
+ghost use Rattle.std.specs.Int.{w32, to_be_bytes};
 ghost use Rattle.sv8_syntax.specs.declared.fault.LineFault.{LineFault};
-ghost use Rattle.std.specs.Prelude.{ℕ, List, Result, ◌≡◌, ℤ, pos, negsuc, ◌≤ℤ◌, ◌⊎◌, ◌-◌, ◌^◌, ◌≤◌, ◌<◌, IsOk, IfOk, MatchResult, Ok, Err};
 ghost use Rattle.sv8_syntax.specs.declared.fault.LineFault.TheVariants.{OutOfMemory};
-ghost use Rattle.sv8_asm.specs.Value.{value_of, within};
-ghost use Rattle.sv8_isa.specs.Encoding.{encoding};
 ghost use Rattle.sv8_asm.specs.Size.{size};
-ghost use Rattle.sv8_asm.specs.Code.{immediate, second_source, upper_bits, encoded, code, words, before, least, bytes, instruction_of};
+ghost use Rattle.sv8_asm.specs.Code.{on_ok, least_datum, most_datum, datum_bytes, datum, data_bytes, instruction_bytes, code, before, bytes, instructions_of};
+ghost use Rattle.sv8_asm.specs.Coded.{listed, listed_any};
+ghost use Rattle.sv8_asm.specs.Gathering.{carried};
 
+use crate::instruction::{Coded, instruction_of, set_instructions};
 use crate::symbols::Symbols;
-use crate::value::{displacement, value, within, word};
+use crate::value::{value, within, word_of_number};
 use std::alloc::{AllocError, Global};
-use sv8_isa::{Instr, Operand, encode};
-use sv8_syntax::{Expr, Imm, LineFault, RegOrImm, Statement, Stmt, Upper};
+use sv8_isa::{Instr, encode};
+use sv8_syntax::{Expr, LineFault, Statement, Stmt, Width};
 
-/// The number in an instruction's field simm13.
-fn immediate(imm: &Imm, names: &Symbols) -> Result<i32, LineFault>
-    ensures { result ≡ immediate names.now imm.now }
+/// The least number that a value in memory may be.
+fn least_datum(width: Width) -> i128
+    ensures value { result ≡ least_datum width }
+    ensures low { negsuc (2 ^ 31) ≤ℤ result }
 {
-    match imm {
-        Imm::Value(expr) => match within(-4096, 4095, value(expr, names)) {
-            Ok(number) => Ok(number as i32),
-            Err(fault) => Err(fault),
-        },
-        Imm::Low(expr) => match word(expr, names) {
-            Ok(word) => Ok((word % 1024) as i32),
-            Err(fault) => Err(fault),
-        },
+    match width {
+        Width::Byte => -0x80,
+        Width::Half => -0x8000,
+        Width::Word => -0x8000_0000,
     }
 }
 
-/// The second source of an instruction.
-fn second_source(operand: &RegOrImm, names: &Symbols) -> Result<Operand, LineFault>
-    ensures { result ≡ second_source names.now operand.now }
+/// The greatest number that it may be.
+fn most_datum(width: Width) -> i128
+    ensures value { result ≡ most_datum width }
+    ensures high { result ≤ℤ pos (2 ^ 32) }
 {
-    match operand {
-        RegOrImm::Register(register) => Ok(Operand::Register(*register)),
-        RegOrImm::Immediate(imm) => match immediate(imm, names) {
-            Ok(number) => Ok(Operand::Immediate(number)),
-            Err(fault) => Err(fault),
-        },
+    match width {
+        Width::Byte => 0xFF,
+        Width::Half => 0xFFFF,
+        Width::Word => 0xFFFF_FFFF,
     }
 }
 
-/// The number in SETHI's field imm22.
-fn upper_bits(upper: &Upper, names: &Symbols) -> Result<u32, LineFault>
-    ensures { result ≡ upper_bits names.now upper.now }
+/// The bytes of a value in memory, in the place of which a number was found, behind those so far.
+fn put_datum(bytes: &mut Vec<u8>, width: Width, number: i128) -> Result<(), AllocError>
+    requires low { negsuc (2 ^ 31) ≤ℤ number }
+    requires high { number ≤ℤ pos (2 ^ 32) }
+    ensures { IfOk result (λ _. bytes.new.items ≡ bytes.old.items ++ datum_bytes width number) }
 {
-    match upper {
-        Upper::Value(expr) => match within(0, 0x3F_FFFF, value(expr, names)) {
-            Ok(number) => Ok(number as u32),
-            Err(fault) => Err(fault),
-        },
-        Upper::High(expr) => match word(expr, names) {
-            Ok(word) => Ok(word / 1024),
-            Err(fault) => Err(fault),
-        },
+    let word = word_of_number(number);
+    match width {
+        Width::Byte => bytes.push((word % 0x100) as u8)?,
+        Width::Half => bytes.extend_from_slice(&((word % 0x1_0000) as u16).to_be_bytes())?,
+        Width::Word => bytes.extend_from_slice(&word.to_be_bytes())?,
     }
+    Ok(())
 }
 
-/// The bytes of an instruction.
-fn encoded(alloc: Global, instr: &Instr) -> Result<Vec<u8>, LineFault>
-    ensures { MatchResult result (λ v. encoded (encoding instr.now) ≡ Ok v.items) (λ e. (e ≡ OutOfMemory) ⊎ (encoded (encoding instr.now) ≡ Err e)) }
-{
-    match encode(instr) {
-        None => Err(LineFault::OutOfRange),
-        Some(word) => {
-            let bytes = Vec::from_slice(alloc, &word.to_be_bytes())?;
-            Ok(bytes)
-        }
-    }
-}
-
-/// The fault that stands once another is found: the first one, but that a name without a value comes before all.
-fn least(first: Option<LineFault>, found: LineFault) -> LineFault
-    ensures { result ≡ least first found }
-{
-    match (first, found) {
-        (_, LineFault::UnknownName) | (None, _) => found,
-        (Some(first), _) => first,
-    }
-}
-
-/// Puts one more word behind the bytes so far, or its fault beside the fault so far.
-#[tactic(auto, using(crate::proofs::Gathering::carried_word, crate::proofs::Gathering::carried_fault))]
+/// Puts the bytes of one more value behind those so far, or its fault beside the least one so far.
+#[tactic(auto, using(crate::proofs::Gathering::carried_bytes, crate::proofs::Gathering::carried_fault))]
 fn gather(
     bytes: &mut Vec<u8>,
     fault: Option<LineFault>,
-    word: Result<u32, LineFault>,
+    width: Width,
+    number: Result<i128, LineFault>,
 ) -> Result<Option<LineFault>, AllocError>
-    ensures { IfOk result (λ f. (rest : Result (List ℕ) LineFault) → carried fault bytes.old.items (before word rest) ≡ carried f bytes.new.items rest) }
+    requires low { IfOk number (λ v. negsuc (2 ^ 31) ≤ℤ v) }
+    requires high { IfOk number (λ v. v ≤ℤ pos (2 ^ 32)) }
+    ensures { IfOk result (λ f. (rest : Result (List ℕ) LineFault) → carried fault bytes.old.items (before (on_ok number (datum_bytes width)) rest) ≡ carried f bytes.new.items rest) }
 {
-    match word {
-        Ok(word) => {
-            bytes.extend_from_slice(&word.to_be_bytes())?;
+    match number {
+        Ok(number) => {
+            put_datum(bytes, width, number)?;
             Ok(fault)
         }
-        Err(found) => Ok(Some(least(fault, found))),
+        Err(found) => Ok(Some(LineFault::least(fault, found))),
     }
 }
 
-/// The bytes of the words of these expressions. Each of them is looked at, whatever fault one before it has.
-#[tactic(auto, using(crate::proofs::Gathering::carried_start, crate::proofs::Gathering::carried_end), unfolding(crate::specs::Code::words))]
-fn words(alloc: Global, values: &[Expr], names: &Symbols) -> Result<Vec<u8>, LineFault>
-    ensures { MatchResult result (λ v. words names.now values.now ≡ Ok v.items) (λ e. (e ≡ OutOfMemory) ⊎ (words names.now values.now ≡ Err e)) }
+/// The number of a value in memory.
+fn datum_number(
+    width: Width,
+    expr: &Expr,
+    line: u32,
+    names: &Symbols,
+) -> Result<i128, LineFault>
+    ensures value { on_ok result (datum_bytes width) ≡ datum names.now line width expr.now }
+    ensures low { IfOk result (λ v. negsuc (2 ^ 31) ≤ℤ v) }
+    ensures high { IfOk result (λ v. v ≤ℤ pos (2 ^ 32)) }
+{
+    let least = least_datum(width);
+    let most = most_datum(width);
+    within(least, most, value(expr, line, names))
+}
+
+/// The bytes of these values. Each of them is looked at, whatever fault one before it has.
+#[tactic(auto, using(crate::proofs::Gathering::carried_start, crate::proofs::Gathering::carried_end), unfolding(crate::specs::Code::data_bytes))]
+fn data_bytes(
+    alloc: Global,
+    width: Width,
+    values: &[Expr],
+    line: u32,
+    names: &Symbols,
+) -> Result<Vec<u8>, LineFault>
+    ensures { MatchResult result (λ v. data_bytes names.now line width values.now ≡ Ok v.items) (λ e. (e ≡ OutOfMemory) ⊎ (data_bytes names.now line width values.now ≡ Err e)) }
 {
     let mut bytes = Vec::new(alloc);
     let mut fault = None;
     let mut rest = values;
     while let [first, after @ ..] = rest {
-        fault = gather(&mut bytes, fault, word(first, names))?;
+        fault = gather(&mut bytes, fault, width, datum_number(width, first, line, names))?;
         rest = after;
     }
     match fault {
@@ -119,69 +116,118 @@ fn words(alloc: Global, values: &[Expr], names: &Symbols) -> Result<Vec<u8>, Lin
     }
 }
 
-/// The instruction that a statement stands for, or none where it is no instruction.
-fn instruction(statement: &Statement, at: u32, names: &Symbols) -> Result<Option<Instr>, LineFault>
-    ensures { result ≡ instruction_of names.now at statement.now }
+/// The bytes of a word, the most significant first.
+fn word_bytes(alloc: Global, word: u32) -> Result<Vec<u8>, AllocError>
+    ensures { IfOk result (λ v. v.items ≡ to_be_bytes w32 word) }
 {
-    match statement {
-        Statement::Arith {
-            op,
-            cc,
-            rs1,
-            operand,
-            rd,
-        } => match second_source(operand, names) {
-            Ok(operand) => Ok(Some(Instr::Arith {
-                op: *op,
-                cc: *cc,
-                rd: *rd,
-                rs1: *rs1,
-                operand,
-            })),
-            Err(fault) => Err(fault),
+    let bytes = Vec::from_slice(alloc, &word.to_be_bytes())?;
+    Ok(bytes)
+}
+
+/// The bytes of two words.
+fn two_words(alloc: Global, first: u32, second: u32) -> Result<Vec<u8>, AllocError>
+    ensures { IfOk result (λ v. v.items ≡ to_be_bytes w32 first ++ to_be_bytes w32 second) }
+{
+    let mut bytes = word_bytes(alloc, first)?;
+    bytes.extend_from_slice(&second.to_be_bytes())?;
+    Ok(bytes)
+}
+
+/// The bytes of one instruction or two.
+fn instruction_bytes(alloc: Global, coded: Coded) -> Result<Vec<u8>, LineFault>
+    ensures { MatchResult result (λ v. instruction_bytes (listed coded) ≡ Ok v.items) (λ e. (e ≡ OutOfMemory) ⊎ (instruction_bytes (listed coded) ≡ Err e)) }
+{
+    match coded {
+        Coded::One(instr) => match encode(&instr) {
+            None => Err(LineFault::OutOfRange),
+            Some(word) => {
+                let bytes = word_bytes(alloc, word)?;
+                Ok(bytes)
+            }
         },
-        Statement::Branch {
-            cond,
-            annul,
-            target,
-        } => match displacement(at, target, names) {
-            Ok(disp22) => Ok(Some(Instr::Bicc {
-                cond: *cond,
-                annul: *annul,
-                disp22,
-            })),
-            Err(fault) => Err(fault),
+        Coded::Two(first, second) => match (encode(&first), encode(&second)) {
+            (Some(first), Some(second)) => {
+                let bytes = two_words(alloc, first, second)?;
+                Ok(bytes)
+            }
+            _ => Err(LineFault::OutOfRange),
         },
-        Statement::Sethi { value, rd } => match upper_bits(value, names) {
-            Ok(imm22) => Ok(Some(Instr::Sethi { imm22, rd: *rd })),
-            Err(fault) => Err(fault),
-        },
-        Statement::Word(_) => Ok(None),
     }
 }
 
-/// The bytes that a statement places from the location `at` on; none where the line has no statement.
+/// The instructions that a statement stands for, or none where it is none.
+fn instructions(
+    statement: &Statement,
+    line: u32,
+    at: u32,
+    names: &Symbols,
+) -> Result<Option<Coded>, LineFault>
+    ensures { on_ok result listed_any ≡ instructions_of names.now line at statement.now }
+{
+    match statement {
+        Statement::Instruction(instruction) => match instruction_of(instruction, line, at, names) {
+            Ok(instr) => Ok(Some(Coded::One(instr))),
+            Err(fault) => Err(fault),
+        },
+        Statement::Set { value, rd } => match set_instructions(value, *rd, line, names) {
+            Ok(coded) => Ok(Some(coded)),
+            Err(fault) => Err(fault),
+        },
+        Statement::Data { .. }
+        | Statement::Ascii(_)
+        | Statement::Motion { .. }
+        | Statement::Equ { .. } => Ok(None),
+    }
+}
+
+/// The bytes of what is neither data nor a text.
+fn code(
+    alloc: Global,
+    statement: &Statement,
+    line: u32,
+    at: u32,
+    names: &Symbols,
+) -> Result<Vec<u8>, LineFault>
+    ensures { MatchResult result (λ v. code (instructions_of names.now line at statement.now) ≡ Ok v.items) (λ e. (e ≡ OutOfMemory) ⊎ (code (instructions_of names.now line at statement.now) ≡ Err e)) }
+{
+    match instructions(statement, line, at, names) {
+        Ok(Some(coded)) => instruction_bytes(alloc, coded),
+        Ok(None) => Ok(Vec::new(alloc)),
+        Err(fault) => Err(fault),
+    }
+}
+
+/// The bytes that the statement of a line places from the location `at` on; none where the line has no statement.
 ///
-/// An instruction is one word, and `.word` one for each of its expressions, the most significant byte first. Encodings
-/// are those of Appendix B. The names have to be all that the source defines.
+/// An instruction is one word, the most significant byte first, and `set` is one or two; encodings are those of Appendix B. The names
+/// and local labels have to be all that the source defines, and `line` is the number of the line, from 1 on, by which local labels
+/// are found.
 ///
 /// # Errors
 ///
-/// `UnknownName` for a name that has no value; `OutOfRange` for a value that its field does not hold, and for a branch
-/// by less than -2^23 or more than 2^23 - 4 bytes; `BadAlignment` for any other branch by no multiple of 4. Of several
-/// faults the one that stands first here. `OutOfMemory` for want of memory, whatever the statement.
+/// `UnknownName` for a name that has no value, or a reference to a local label that no line has; `OutOfRange` for a value that its
+/// field does not hold; `BadAlignment` for a branch or call by no multiple of 4 bytes. Of several faults the least. `OutOfMemory`
+/// for want of memory, whatever the statement.
 #[tactic(auto, unfolding(crate::specs::Code::bytes))]
-pub fn assemble(alloc: Global, stmt: &Stmt, at: u32, names: &Symbols) -> Result<Vec<u8>, LineFault>
+pub fn assemble(
+    alloc: Global,
+    stmt: &Stmt,
+    line: u32,
+    at: u32,
+    names: &Symbols,
+) -> Result<Vec<u8>, LineFault>
     requires { IsOk (size stmt.now at) }
-    ensures { MatchResult result (λ v. bytes stmt.now at names.now ≡ Ok v.items) (λ e. (e ≡ OutOfMemory) ⊎ (bytes stmt.now at names.now ≡ Err e)) }
+    ensures { MatchResult result (λ v. bytes stmt.now line at names.now ≡ Ok v.items) (λ e. (e ≡ OutOfMemory) ⊎ (bytes stmt.now line at names.now ≡ Err e)) }
 {
     match &stmt.statement {
         None => Ok(Vec::new(alloc)),
-        Some(Statement::Word(values)) => words(alloc, values.as_slice(), names),
-        Some(statement) => match instruction(statement, at, names) {
-            Ok(Some(instr)) => encoded(alloc, &instr),
-            Ok(None) => Ok(Vec::new(alloc)),
-            Err(fault) => Err(fault),
-        },
+        Some(Statement::Data { width, values }) => {
+            data_bytes(alloc, *width, values.as_slice(), line, names)
+        }
+        Some(Statement::Ascii(text)) => {
+            let bytes = Vec::from_slice(alloc, text.as_bytes())?;
+            Ok(bytes)
+        }
+        Some(statement) => code(alloc, statement, line, at, names),
     }
 }

@@ -7,13 +7,14 @@
 #![tactic(auto)]
 
 mod code;
+mod instruction;
 pub mod laws;
+
+mod operand;
 mod size;
 mod symbols;
-#[cfg(test)]
-mod tests;
 mod value;
 
 pub use code::assemble;
-pub use size::size_of;
+pub use size::{constant, size_of};
 pub use symbols::Symbols;

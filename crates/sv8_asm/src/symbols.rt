@@ -1,8 +1,8 @@
-//! The names of a source and their values.
+//! The names of a source and its local labels, with what they stand for.
 
-ghost use Rattle.std.specs.Prelude.{◌≡◌, ℕ, ℤ, List, [], ◌∷◌, ◌++◌, map, IsSome, OnOk, OnErr, IfOk, MatchBool, None};
-ghost use Rattle.sv8_asm.specs.Names.{Names, get};
-ghost use Rattle.sv8_asm.specs.Index.{Answers, pair_of};
+ghost use Rattle.std.specs.Prelude.{◌≡◌, ℕ, ℤ, ◌<◌, List, [], ◌∷◌, ◌++◌, map, IsSome, OnOk, OnErr, IfOk, MatchBool, None, Some, option_map};
+ghost use Rattle.sv8_asm.specs.Names.{Names, Reference, no_names, defined, with_name, with_mark, marks_of, last_of, first_behind, reference_of, reference_to, get};
+ghost use Rattle.sv8_asm.specs.Index.{Answers, pair_of, mark_of};
 
 use std::alloc::{AllocError, Global};
 use std::collections::BTreeMap;
@@ -15,23 +15,32 @@ pub struct Symbol {
     value: i64,
 }
 
-/// The names of a source, each with one value, in the order of their definitions. Case counts.
+/// A line that has a local label, and its location.
+#[derive(Drop, Clone, Copy)]
+pub struct LocalLabel {
+    line: u32,
+    location: u32,
+}
+
+/// The names of a source, each with one value, in the order of their definitions, and for each digit the lines whose label it is. Case
+/// counts.
 ///
-/// They are kept as a list, which is what the type stands for, and once more as an index by which they are found.
+/// The names are kept as a list, which is what the type stands for, and once more as an index by which they are found.
 #[derive(Drop)]
 pub struct Symbols {
     entries: Vec<Symbol>,
     index: BTreeMap<Vec<u8>, i64>,
+    labels: [Vec<LocalLabel>; 10],
 }
 
 impl Model for Symbols {
-    ghost use Rattle.std.specs.Prelude.{ℕ, ℤ, List, map};
+    ghost use Rattle.std.specs.Prelude.{List, map};
     ghost use Rattle.sv8_asm.specs.Names.{Names};
-    ghost use Rattle.sv8_asm.specs.Index.{pair_of, Answers};
+    ghost use Rattle.sv8_asm.specs.Index.{pair_of, marks_in, Answers};
 
     ghost Value = { Names };
 
-    ghost view = { λ s. map pair_of s.entries.items };
+    ghost view = { λ s. record { named = map pair_of s.entries.items; marks = marks_in s.labels } };
 
     ghost invariant = { λ s. Answers s.index (map pair_of s.entries.items) };
 }
@@ -39,30 +48,85 @@ impl Model for Symbols {
 /// Puts a name that is not there into the index.
 #[tactic(auto, using(crate::proofs::Keys::answers_push))]
 fn insert(index: &mut BTreeMap<Vec<u8>, i64>, name: Vec<u8>, value: i64) -> Result<(), AllocError>
-    ensures ok { OnOk result ((xs : Names) → Answers index.old xs → get xs name.items ≡ None → Answers index.new (xs ++ (name.items, value) ∷ [])) }
-    ensures err { OnErr result ((xs : Names) → Answers index.old xs → Answers index.new xs) }
+    ensures ok { OnOk result ((xs : List (List ℕ × ℤ)) → Answers index.old xs → defined xs name.items ≡ None → Answers index.new (xs ++ (name.items, value) ∷ [])) }
+    ensures err { OnErr result ((xs : List (List ℕ × ℤ)) → Answers index.old xs → Answers index.new xs) }
 {
     index.insert(name, value)?;
     Ok(())
 }
 
+/// The location of the last of these lines up to and with a line.
+#[tactic(auto, unfolding(crate::specs::Names::last_of))]
+fn last_up_to(line: u32, labels: &[LocalLabel]) -> Option<i64>
+    ensures { result ≡ last_of None line (map mark_of labels.now) }
+{
+    let mut found = None;
+    let mut rest = labels;
+    while let [first, after @ ..] = rest {
+        if first.line <= line {
+            found = Some(i64::from(first.location));
+        }
+        rest = after;
+    }
+    found
+}
+
+/// The location of the first of these lines behind a line.
+#[tactic(auto, unfolding(crate::specs::Names::first_behind))]
+fn first_behind(line: u32, labels: &[LocalLabel]) -> Option<i64>
+    ensures { result ≡ first_behind line (map mark_of labels.now) }
+{
+    let mut rest = labels;
+    while let [first, after @ ..] = rest {
+        if line < first.line {
+            return Some(i64::from(first.location));
+        }
+        rest = after;
+    }
+    None
+}
+
 impl Symbols {
     /// No names.
     pub fn new(alloc: Global) -> Self
-        ensures { result ≡ [] }
+        ensures { result ≡ no_names }
     {
         Symbols {
             entries: Vec::new(alloc),
             index: BTreeMap::new(alloc),
+            labels: [
+                Vec::new(alloc),
+                Vec::new(alloc),
+                Vec::new(alloc),
+                Vec::new(alloc),
+                Vec::new(alloc),
+                Vec::new(alloc),
+                Vec::new(alloc),
+                Vec::new(alloc),
+                Vec::new(alloc),
+                Vec::new(alloc),
+            ],
         }
     }
 
-    /// The value of a name, if it has one.
-    pub fn get(&self, name: &[u8]) -> Option<i64>
-        ensures { result ≡ get self.now name.now }
+    /// The value of a name in the list of names, if it has one.
+    fn defined(&self, name: &[u8]) -> Option<i64>
+        ensures { result ≡ defined self.now.named name.now }
     {
         let _entries = &self.entries;
         self.index.get(name).copied()
+    }
+
+    /// What a name, or a reference to a local label as `1f` or `2b`, stands for in a line, if it stands for anything.
+    #[tactic(auto, unfolding(crate::specs::Names::get))]
+    pub fn get(&self, text: &[u8], line: u32) -> Option<i64>
+        ensures { result ≡ get self.now text.now line }
+    {
+        match text {
+            [digit @ b'0'..=b'9', b'b'] => last_up_to(line, &self.labels[usize::from(*digit - b'0')]),
+            [digit @ b'0'..=b'9', b'f'] => first_behind(line, &self.labels[usize::from(*digit - b'0')]),
+            _ => self.defined(text),
+        }
     }
 
     /// Gives a name its value, unless it has one: then it keeps that, and the answer is `false`.
@@ -71,10 +135,10 @@ impl Symbols {
     ///
     /// Want of memory; the names are then as they were.
     pub fn define(&mut self, alloc: Global, name: &[u8], value: i64) -> Result<bool, AllocError>
-        ensures ok { IfOk result (λ added. MatchBool added ((get self.old name.now ≡ None) × (self.new ≡ self.old ++ (name.now, value) ∷ [])) (IsSome (get self.old name.now) × (self.new ≡ self.old))) }
+        ensures ok { IfOk result (λ added. MatchBool added ((defined self.old.named name.now ≡ None) × (self.new ≡ with_name name.now value self.old)) (IsSome (defined self.old.named name.now) × (self.new ≡ self.old))) }
         ensures err { OnErr result (self.new ≡ self.old) }
     {
-        if self.get(name).is_some() {
+        if self.defined(name).is_some() {
             return Ok(false);
         }
         let first = Vec::from_slice(alloc, name)?;
@@ -86,5 +150,20 @@ impl Symbols {
             value,
         })?;
         Ok(true)
+    }
+
+    /// Gives a line a local label. The lines of a digit come in their order.
+    ///
+    /// # Errors
+    ///
+    /// Want of memory; the labels are then as they were.
+    pub fn define_local(&mut self, digit: u8, line: u32, location: u32) -> Result<(), AllocError>
+        requires { digit < 10 }
+        ensures ok { OnOk result (self.new ≡ with_mark digit line location self.old) }
+        ensures err { OnErr result (self.new ≡ self.old) }
+    {
+        let labels = &mut self.labels[usize::from(digit)];
+        labels.push(LocalLabel { line, location })?;
+        Ok(())
     }
 }

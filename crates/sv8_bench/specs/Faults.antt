@@ -1,10 +1,10 @@
 -- The refusals.
-use Rattle.std.specs.Prelude.{ℕ, List, Option, option_map}
+use Rattle.std.specs.Prelude.{◌≡◌, ℕ, ◌⊎◌, List, Option, Some, None, option_map, nat_le, if◌then◌else◌}
 use Rattle.sv8_source.specs.declared.fault.SourceFault.{SourceFault}
 use Rattle.sv8_source.specs.declared.fault.SourceFault.TheVariants as source
 use Rattle.sv8_source.specs.Text.{edit_fault}
 use Rattle.sv8_bench.specs.declared.fault.BenchFault.{BenchFault}
-use Rattle.sv8_bench.specs.declared.fault.BenchFault.TheVariants.{OutOfMemory, NoSuchLine, TooManyLines, LineTooLong, NotAscii, Syntax, UnknownName, DuplicateLabel, OutOfRange, BadAlignment, OrgBackwards, ImageTooLarge}
+use Rattle.sv8_bench.specs.declared.fault.BenchFault.TheVariants.{OutOfMemory, NoSuchLine, TooManyLines, LineTooLong, NotAscii, Syntax, UnknownName, DuplicateLabel, OutOfRange, BadAlignment, OrgBackwards, ImageTooLarge, StepTooLarge}
 use Rattle.sv8_bench.specs.Kept.{Kept}
 
 -- the refusal of the source, as the workbench's own
@@ -25,3 +25,15 @@ of_source (source.ImageTooLarge line) = ImageTooLarge line
 -- why the lines first to last cannot be replaced by these, or none
 abbrev pub edit_refusal : ℕ → ℕ → List (List ℕ) → Kept → Option BenchFault
 edit_refusal first last lines k = option_map of_source (edit_fault first last lines k.source)
+
+-- the last step that is shown
+abbrev pub last_step : ℕ
+last_step = 1000000
+
+-- why a step is not shown, or none
+unfoldable pub step_refusal : ℕ → Option BenchFault
+step_refusal step = if nat_le step last_step then None else Some StepTooLarge
+
+-- the fault of a query: its refusal, or want of memory where it has none
+abbrev pub IsQueryFault : Option BenchFault → BenchFault → Type 0
+IsQueryFault refusal fault = (refusal ≡ Some fault) ⊎ ((refusal ≡ None) × (fault ≡ OutOfMemory))

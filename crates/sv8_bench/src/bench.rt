@@ -6,7 +6,7 @@ ghost use Rattle.sv8_source.specs.Listing.{listing, numbered};
 ghost use Rattle.sv8_source.specs.View.{shown_of};
 ghost use Rattle.sv8_cpu.specs.State.{reset_state};
 ghost use Rattle.sv8_cpu.specs.Step.{steps, state_at};
-ghost use Rattle.sv8_bench.specs.Faults.{edit_refusal};
+ghost use Rattle.sv8_bench.specs.Faults.{edit_refusal, step_refusal, IsQueryFault};
 ghost use Rattle.sv8_bench.specs.Kept.{empty, edited};
 ghost use Rattle.sv8_bench.specs.Shown.{shown_at};
 
@@ -41,7 +41,8 @@ impl<const NW: usize, const PAGES: usize, const K: u32> Model for Bench<NW, PAGE
 
     ghost view = { λ b. record { windows = NW; pages = PAGES; source = b.source; timeline = b.timeline } };
 
-    ghost invariant = { λ b. (2 ≤ NW) × (NW ≤ 32) × (PAGES ≤ 65536) × (b.source.limit ≡ 4096 * PAGES) × (b.timeline.limit ≡ 4096 * PAGES) };
+    ghost invariant = { λ b. (2 ≤ NW) × (NW ≤ 32) × (1 ≤ PAGES) × (PAGES ≤ 65536) × (1 ≤ K) × (K ≤ 1000000)
+        × (b.source.limit ≡ 4096 * PAGES) × (b.timeline.limit ≡ 4096 * PAGES) };
 }
 
 impl<const NW: usize, const PAGES: usize, const K: u32> Bench<NW, PAGES, K> {
@@ -53,7 +54,10 @@ impl<const NW: usize, const PAGES: usize, const K: u32> Bench<NW, PAGES, K> {
     pub fn new(alloc: Global) -> Result<Self, AllocError>
         requires some_windows { 2 ≤ NW }
         requires few_windows { NW ≤ 32 }
+        requires some_pages { 1 ≤ PAGES }
         requires few_pages { PAGES ≤ 65536 }
+        requires some_steps { 1 ≤ K }
+        requires few_steps { K ≤ 1000000 }
         ensures { IfOk result (λ b. b ≡ empty NW PAGES) }
     {
         let ram_size = 4096 * PAGES as u32;
@@ -109,10 +113,12 @@ impl<const NW: usize, const PAGES: usize, const K: u32> Bench<NW, PAGES, K> {
     /// # Errors
     ///
     /// `StepTooLarge` for a step above 1,000,000, else `OutOfMemory`.
-    pub fn regs_at(&self, step: u32) -> Result<Shown, BenchFault>
-        ensures shown { IfOk result (λ s. s ≡ shown_at self.now step) }
-        ensures within { OnOk result (step ≤ 1000000) }
-        ensures refused { IfErr result (λ e. ((e ≡ BenchFault.StepTooLarge) × (1000000 < step)) ⊎ ((e ≡ BenchFault.OutOfMemory) × (step ≤ 1000000))) }
+    #[tactic(auto, unfolding(crate::specs::Faults::step_refusal))]
+    pub fn regs_at(&mut self, step: u32) -> Result<Shown, BenchFault>
+        ensures shown { IfOk result (λ s. s ≡ shown_at self.old step) }
+        ensures within { OnOk result (step_refusal step ≡ None) }
+        ensures refused { IfErr result (IsQueryFault (step_refusal step)) }
+        ensures unchanged { self.new ≡ self.old }
     {
         if LAST_STEP < step {
             return Err(BenchFault::StepTooLarge);

@@ -6,6 +6,33 @@ use super::*;
 use std::alloc::Global;
 use std::test::Fail;
 
+/// A loop whose branch annuls its delay slot.
+const LOOP: &[&[u8]] = &[b"loop: ba,a loop", b".word 0"];
+
+/// A loop that sets three registers.
+const COUNT: &[&[u8]] = &[
+    b"start: mov 5, %g1",
+    b"add %g1, 1, %g2",
+    b"mov 9, %i7",
+    b"ba start",
+    b"nop",
+];
+
+/// What a workbench is asked.
+#[derive(Drop, Clone, Copy)]
+enum Question {
+    /// Whether it has no lines, and its machine starts at rest and stops at step 1.
+    IsNew,
+    /// Whether the machine of `COUNT` is shown as it is after each of five steps.
+    Counts,
+    /// Whether the machine of `LOOP` is shown up to the last step, and no further.
+    LoopsToTheEnd,
+    /// Whether this edit of `LOOP` is refused with this fault, and listing and machine are as before.
+    Refuses(u32, u32, &'static [u8], BenchFault),
+    /// Whether the machine of `LOOP` follows its lines as they are edited.
+    FollowsEdits,
+}
+
 /// The lines of these texts.
 fn lines_of(alloc: Global, texts: &[&[u8]]) -> Result<Vec<Vec<u8>>, Fail> {
     let mut lines = Vec::new(alloc);
@@ -15,34 +42,23 @@ fn lines_of(alloc: Global, texts: &[&[u8]]) -> Result<Vec<Vec<u8>>, Fail> {
     Ok(lines)
 }
 
-/// A workbench over a source of these lines.
-fn bench_of<const NW: usize, const K: u32>(
+/// Edits a workbench; tells how many lines it has then.
+fn edited<const NW: usize, const K: u32>(
+    bench: &mut Bench<NW, 1, K>,
     alloc: Global,
+    first: u32,
+    last: u32,
     texts: &[&[u8]],
-) -> Result<Bench<NW, 1, K>, Fail>
-    requires some_windows { 2 ≤ NW }
-    requires few_windows { NW ≤ 32 }
-{
+) -> Result<usize, Fail> {
     let lines = lines_of(alloc, texts)?;
-    let mut bench = Bench::new(alloc)?;
-    bench.replace_lines(1, 0, &lines)?;
-    Ok(bench)
+    bench.replace_lines(first, last, &lines)?;
+    Ok(bench.line_count())
 }
 
 /// PC, nPC, whether the next instruction is annulled, and whether the machine runs.
 fn control(shown: &Shown) -> (u32, u32, bool, bool) {
     (shown.pc, shown.npc, shown.annul, shown.running)
 }
-
-const LOOP: &[&[u8]] = &[b"loop: ba,a loop", b".word 0"];
-
-const COUNT: &[&[u8]] = &[
-    b"start: mov 5, %g1",
-    b"add %g1, 1, %g2",
-    b"mov 9, %i7",
-    b"ba start",
-    b"nop",
-];
 
 /// Whether a machine is shown with all its parts but the control of reset at zero, and S set in the PSR.
 fn is_at_rest(shown: &Shown) -> bool {
@@ -55,33 +71,24 @@ fn is_at_rest(shown: &Shown) -> bool {
         && (shown.pending, shown.waiting) == (0, 0)
 }
 
-/// Whether the machine of a workbench is shown at rest at a step, and running or not.
-fn rests(bench: &Bench<8, 1, 256>, step: u32, running: bool) -> Result<bool, Fail> {
+/// Whether the machine is shown at rest at a step, and running or not.
+fn rests<const NW: usize, const K: u32>(
+    bench: &mut Bench<NW, 1, K>,
+    step: u32,
+    running: bool,
+) -> Result<bool, Fail> {
     let shown = bench.regs_at(step)?;
     Ok(is_at_rest(&shown) && control(&shown) == (0, 4, false, running))
 }
 
-/// Whether a workbench has no lines, and its machine starts at rest.
-fn is_new(bench: &Bench<8, 1, 256>) -> Result<bool, Fail> {
+fn is_new<const NW: usize, const K: u32>(bench: &mut Bench<NW, 1, K>) -> Result<bool, Fail> {
     let has_lines = bench.line_count() != 0
         || bench.listing(0).is_some()
         || bench.listing(1).is_some();
     Ok(!has_lines && rests(bench, 0, true)? && rests(bench, 1, false)? && rests(bench, 2, false)?)
 }
 
-fn starts_at_rest(alloc: Global) -> Result<bool, Fail> {
-    let bench = Bench::<8, 1, 256>::new(alloc)?;
-    is_new(&bench)
-}
-
-#[test]
-fn a_new_workbench(rt: HostRuntime) -> Result<(), Fail> {
-    assert!(rt; starts_at_rest(rt.alloc())?);
-    Ok(())
-}
-
-/// Whether the machine of `COUNT` is shown as it is after so many steps.
-fn shows_the_count<const NW: usize, const K: u32>(bench: &Bench<NW, 1, K>) -> Result<bool, Fail> {
+fn counts<const NW: usize, const K: u32>(bench: &mut Bench<NW, 1, K>) -> Result<bool, Fail> {
     let mut holds = true;
     for (step, pc, npc, values) in [
         (0, 0, 4, [0, 0, 0]),
@@ -98,26 +105,12 @@ fn shows_the_count<const NW: usize, const K: u32>(bench: &Bench<NW, 1, K>) -> Re
     Ok(holds)
 }
 
-/// The same for this number of windows and distance of checkpoints.
-fn counts<const NW: usize, const K: u32>(alloc: Global) -> Result<bool, Fail>
-    requires some_windows { 2 ≤ NW }
-    requires few_windows { NW ≤ 32 }
-{
-    let bench = bench_of::<NW, K>(alloc, COUNT)?;
-    shows_the_count(&bench)
-}
-
-#[test]
-fn steps_are_shown(rt: HostRuntime) -> Result<(), Fail> {
-    assert!(rt; counts::<2, 1>(rt.alloc())?);
-    assert!(rt; counts::<2, 256>(rt.alloc())?);
-    assert!(rt; counts::<8, 1>(rt.alloc())?);
-    assert!(rt; counts::<8, 256>(rt.alloc())?);
-    Ok(())
-}
-
 /// Whether `LOOP` is in its branch at a step, or on the way over its annulled delay slot.
-fn loops(bench: &Bench<8, 1, 256>, step: u32, in_slot: bool) -> Result<bool, Fail> {
+fn loops<const NW: usize, const K: u32>(
+    bench: &mut Bench<NW, 1, K>,
+    step: u32,
+    in_slot: bool,
+) -> Result<bool, Fail> {
     let shown = bench.regs_at(step)?;
     let wanted = if in_slot {
         (4, 0, true, true)
@@ -127,33 +120,25 @@ fn loops(bench: &Bench<8, 1, 256>, step: u32, in_slot: bool) -> Result<bool, Fai
     Ok(control(&shown) == wanted)
 }
 
-/// Whether the machine of `LOOP` is shown up to the last step, and no further.
-fn loops_to_the_end(bench: &Bench<8, 1, 256>) -> Result<bool, Fail> {
-    let further = [1_000_001, u32::MAX].iter().all(|step| matches!(
-        bench.regs_at(*step),
-        Err(BenchFault::StepTooLarge)
-    ));
+/// Whether a step is refused as too large.
+fn is_beyond<const NW: usize, const K: u32>(bench: &mut Bench<NW, 1, K>, step: u32) -> bool {
+    matches!(bench.regs_at(step), Err(BenchFault::StepTooLarge))
+}
+
+fn loops_to_the_end<const NW: usize, const K: u32>(
+    bench: &mut Bench<NW, 1, K>,
+) -> Result<bool, Fail> {
     Ok(
-        further
+        is_beyond(bench, 1_000_001)
+            && is_beyond(bench, u32::MAX)
             && loops(bench, 1000, false)?
             && loops(bench, 1001, true)?
             && loops(bench, 1_000_000, false)?,
     )
 }
 
-fn ends_at_the_last_step(alloc: Global) -> Result<bool, Fail> {
-    let bench = bench_of::<8, 256>(alloc, LOOP)?;
-    loops_to_the_end(&bench)
-}
-
-#[test]
-fn the_last_step(rt: HostRuntime) -> Result<(), Fail> {
-    assert!(rt; ends_at_the_last_step(rt.alloc())?);
-    Ok(())
-}
-
 /// Whether the listing is that of `LOOP`.
-fn lists_the_loop(bench: &Bench<8, 1, 256>) -> bool {
+fn lists_the_loop<const NW: usize, const K: u32>(bench: &Bench<NW, 1, K>) -> bool {
     match (bench.listing(1), bench.listing(2)) {
         (Some(first), Some(second)) => {
             bench.line_count() == 2
@@ -169,9 +154,8 @@ fn lists_the_loop(bench: &Bench<8, 1, 256>) -> bool {
     }
 }
 
-/// Whether an edit of `LOOP` is refused with this fault, and listing and machine are as before.
-fn is_refused(
-    bench: &mut Bench<8, 1, 256>,
+fn refuses<const NW: usize, const K: u32>(
+    bench: &mut Bench<NW, 1, K>,
     first: u32,
     last: u32,
     lines: &[Vec<u8>],
@@ -182,17 +166,75 @@ fn is_refused(
     Ok(answer == Err(fault) && lists_the_loop(bench) && in_slot)
 }
 
-/// The same for a line of this text.
-fn refuses(
-    alloc: Global,
-    first: u32,
-    last: u32,
-    text: &[u8],
-    fault: BenchFault,
+/// Whether the machine is at the start of a loop after two steps, with this value in %g4, and runs or not.
+fn comes_back<const NW: usize, const K: u32>(
+    bench: &mut Bench<NW, 1, K>,
+    g4: u32,
+    running: bool,
 ) -> Result<bool, Fail> {
-    let lines = lines_of(alloc, &[text])?;
-    let mut bench = bench_of::<8, 256>(alloc, LOOP)?;
-    is_refused(&mut bench, first, last, &lines, fault)
+    let shown = bench.regs_at(2)?;
+    Ok(control(&shown) == (0, 4, false, running) && shown.registers[4] == g4)
+}
+
+fn follows_edits<const NW: usize, const K: u32>(
+    bench: &mut Bench<NW, 1, K>,
+    alloc: Global,
+) -> Result<bool, Fail> {
+    let inserted = edited(bench, alloc, 2, 1, &[b"mov 3, %g4"])?;
+    let replaced = edited(bench, alloc, 1, 1, &[b"loop: ba loop"])?;
+    let with_lines = comes_back(bench, 3, true)?;
+    let emptied = edited(bench, alloc, 1, 3, &[])?;
+    let without = comes_back(bench, 0, false)?;
+    Ok([inserted, replaced, emptied] == [3, 3, 0] && with_lines && without)
+}
+
+/// Whether a workbench answers yes.
+fn answers<const NW: usize, const K: u32>(
+    bench: &mut Bench<NW, 1, K>,
+    alloc: Global,
+    question: Question,
+) -> Result<bool, Fail> {
+    match question {
+        Question::IsNew => is_new(bench),
+        Question::Counts => counts(bench),
+        Question::LoopsToTheEnd => loops_to_the_end(bench),
+        Question::Refuses(first, last, text, fault) => {
+            let lines = lines_of(alloc, &[text])?;
+            refuses(bench, first, last, &lines, fault)
+        }
+        Question::FollowsEdits => follows_edits(bench, alloc),
+    }
+}
+
+/// Whether a workbench over a source of these lines answers yes.
+fn holds<const NW: usize, const K: u32>(
+    alloc: Global,
+    texts: &[&[u8]],
+    question: Question,
+) -> Result<bool, Fail>
+    requires some_windows { 2 ≤ NW }
+    requires few_windows { NW ≤ 32 }
+    requires some_steps { 1 ≤ K }
+    requires few_steps { K ≤ 1000000 }
+{
+    let mut bench = Bench::<NW, 1, K>::new(alloc)?;
+    edited(&mut bench, alloc, 1, 0, texts)?;
+    answers(&mut bench, alloc, question)
+}
+
+#[test]
+fn machines_are_shown(rt: HostRuntime) -> Result<(), Fail> {
+    assert!(rt; holds::<8, 256>(rt.alloc(), &[], Question::IsNew)?);
+    assert!(rt; holds::<2, 1>(rt.alloc(), COUNT, Question::Counts)?);
+    assert!(rt; holds::<8, 256>(rt.alloc(), COUNT, Question::Counts)?);
+    assert!(rt; holds::<8, 256>(rt.alloc(), LOOP, Question::LoopsToTheEnd)?);
+    Ok(())
+}
+
+#[test]
+fn edits_change_the_program(rt: HostRuntime) -> Result<(), Fail> {
+    assert!(rt; holds::<8, 256>(rt.alloc(), LOOP, Question::FollowsEdits)?);
+    Ok(())
 }
 
 #[test]
@@ -207,47 +249,13 @@ fn a_refused_edit_changes_nothing(rt: HostRuntime) -> Result<(), Fail> {
         (4, 3, b"nop", BenchFault::NoSuchLine),
     ];
     for (first, last, text, fault) in refused {
-        assert!(rt; refuses(rt.alloc(), first, last, text, fault)?);
+        assert!(rt;
+            holds::<8, 256>(
+                rt.alloc(),
+                LOOP,
+                Question::Refuses(first, last, text, fault)
+            )?
+        );
     }
-    Ok(())
-}
-
-/// Edits a workbench; tells how many lines it has then.
-fn edited(
-    bench: &mut Bench<8, 1, 256>,
-    alloc: Global,
-    first: u32,
-    last: u32,
-    texts: &[&[u8]],
-) -> Result<usize, Fail> {
-    let lines = lines_of(alloc, texts)?;
-    bench.replace_lines(first, last, &lines)?;
-    Ok(bench.line_count())
-}
-
-/// Whether the machine of a workbench is at the start of a loop after two steps, with this value in %g4, and runs or not.
-fn comes_back(bench: &Bench<8, 1, 256>, g4: u32, running: bool) -> Result<bool, Fail> {
-    let shown = bench.regs_at(2)?;
-    Ok(control(&shown) == (0, 4, false, running) && shown.registers[4] == g4)
-}
-
-/// Whether the machine of `LOOP` follows its lines as they are edited.
-fn follows_edits(bench: &mut Bench<8, 1, 256>, alloc: Global) -> Result<bool, Fail> {
-    let inserted = edited(bench, alloc, 2, 1, &[b"mov 3, %g4"])?;
-    let replaced = edited(bench, alloc, 1, 1, &[b"loop: ba loop"])?;
-    let with_lines = comes_back(bench, 3, true)?;
-    let emptied = edited(bench, alloc, 1, 3, &[])?;
-    let without = comes_back(bench, 0, false)?;
-    Ok([inserted, replaced, emptied] == [3, 3, 0] && with_lines && without)
-}
-
-fn is_edited(alloc: Global) -> Result<bool, Fail> {
-    let mut bench = bench_of::<8, 256>(alloc, LOOP)?;
-    follows_edits(&mut bench, alloc)
-}
-
-#[test]
-fn edits_change_the_program(rt: HostRuntime) -> Result<(), Fail> {
-    assert!(rt; is_edited(rt.alloc())?);
     Ok(())
 }

@@ -1,71 +1,76 @@
--- Lemmas on single answers.
-use Rattle.std.proofs.Common.{◌≡◌, ℕ, ◌-◌, ◌<◌, ◌≤◌, ◌⊎◌, Bool, true, false, List, ◌++◌, length, take, drop, Option, Some, None, refl, sym, ap, ◌∙◌, subst, arith, tests, leb, ltb, cond, inl, inr, length-take, length-append, option_map}
+-- Lemmas on answers.
+use Rattle.std.proofs.Common.{◌≡◌, ℕ, ◌-◌, ◌<◌, ◌≤◌, ◌⊎◌, Bool, true, false, List, ◌++◌, length, take, drop, Option, Some, None, Result, refl, sym, ap, ◌∙◌, subst, arith, tests, leb, ltb, cond, inl, inr, length-take, length-append, option_map}
 use Rattle.std.proofs.lemmas.List.{take_all}
 use Rattle.sv8_bench.specs.declared.fault.BenchFault.{BenchFault}
-use Rattle.sv8_bench.specs.declared.fault.BenchFault.TheVariants.{OutOfMemory, StepTooLarge}
+use Rattle.sv8_bench.specs.declared.fault.BenchFault.TheVariants.{OutOfMemory}
 use Rattle.sv8_bench.specs.Kept.{edited}
-use Rattle.sv8_bench.specs.Faults.{edit_refusal}
-use Rattle.sv8_source.specs.Text.{Text, replaced, is_range, text_fault}
-use Rattle.sv8_source.specs.Listing.{listing}
+use Rattle.sv8_bench.specs.Faults.{edit_refusal, of_source, IsQueryFault}
+use Rattle.sv8_source.specs.declared.fault.SourceFault.{SourceFault}
 use Rattle.sv8_source.specs.declared.fault.SourceFault.TheVariants as source
-use Rattle.sv8_bench.specs.Shown.{shown_at}
-use Rattle.sv8_bench.specs.declared.shown.Shown.{Shown}
-use Rattle.sv8_bench.specs.Faults.{of_source}
-use Rattle.sv8_shell.specs.Text.{ok_line, bad_line, fault_line, listing_text, regs_text}
-use Rattle.sv8_shell.specs.Script.{Order, edit, list, regs, quit, bad}
-use Rattle.sv8_shell.specs.Session.{State, Answer, edit_answer, answer, may_lack_memory, Answers, told, refused}
+use Rattle.sv8_source.specs.Text.{Text, replaced, is_range, text_fault, edit_fault}
+use Rattle.sv8_shell.specs.Refusal.{refusal_of, bad_command}
+use Rattle.sv8_shell.specs.Text.{ok_line, refusal_line}
+use Rattle.sv8_shell.specs.Outcome.{Outcome, changed, refused, unless_refused, may_lack_memory, answer_to, Answers, due, lacking}
+use Rattle.sv8_shell.specs.Commands.{edit_outcome}
+use Rattle.sv8_shell.specs.Script.{edit, bad}
+use Rattle.sv8_shell.specs.Session.{State, outcome}
+use Rattle.sv8_shell.specs.Put.{Puts, Replies}
 
--- the answer, under other names
-pub Answers-told : (s : State) (o : Order) (t : List ℕ) (l : State) → (answer s o).text ≡ t → (answer s o).next ≡ l → Answers s o t l
-Answers-told s o t l p q = subst (λ (v : List ℕ). Answers s o v l) p (subst (λ (v : State). Answers s o (answer s o).text v) q told)
+-- the answer that is due, under other names
+answers-due : (s : State) (o : Outcome) (t : List ℕ) (l : State) → (answer_to s o).text ≡ t → (answer_to s o).next ≡ l → Answers s o t l
+answers-due s o t l p q = subst (λ (v : List ℕ). Answers s o v l) p (subst (λ (v : State). Answers s o (answer_to s o).text v) q due)
 
-pub Answers-refused : (s : State) (o : Order) (l : State) → may_lack_memory o ≡ true → l ≡ s → Answers s o (fault_line OutOfMemory) l
-Answers-refused s o l h e = subst (λ (v : State). Answers s o (fault_line OutOfMemory) v) (sym e) (refused h)
+-- an answer that is due
+pub reply-due : {A E : Type 0} (r : Result A E) (a b : Option (List ℕ)) (s : State) (o : Outcome) → Puts r a b (answer_to s o).text → Replies r a b s o (answer_to s o).next
+reply-due r a b s o put = record { text = (answer_to s o).text; answers = due; put = put }
 
-module _ (s : State) (first last : ℕ) (lines : List (List ℕ)) where
-  pub edit-done : (l : State) → edit_refusal first last lines s ≡ None → l ≡ edited first last lines s → Answers s (edit first last lines) ok_line l
-  unfolding answer
-  edit-done l h e =
-      let is : answer s (edit first last lines) ≡ edit_answer None s (edited first last lines s) = ap (λ (f : Option BenchFault). edit_answer f s (edited first last lines s)) h in
-      Answers-told s (edit first last lines) ok_line l (ap (λ (a : Answer). a.text) is) (ap (λ (a : Answer). a.next) is ∙ sym e)
+-- a command that is done, whatever it asks
+pub reply-done : {A E : Type 0} (r : Result A E) (a b : Option (List ℕ)) (s l : State) (refusal : Option BenchFault) (o : Outcome) (t : List ℕ) → refusal ≡ None → (answer_to s o).text ≡ t → (answer_to s o).next ≡ l
+    → Puts r a b t → Replies r a b s (unless_refused refusal o) l
+reply-done r a b s l refusal o t h p q put =
+    record { text = t; answers = subst (λ (f : Option BenchFault). Answers s (unless_refused f o) t l) (sym h) (answers-due s o t l p q); put = put }
 
-  pub edit-refused : (f : BenchFault) (l : State) → (f ≡ OutOfMemory) ⊎ (edit_refusal first last lines s ≡ Some f) → l ≡ s → Answers s (edit first last lines) (fault_line f) l
-  unfolding answer may_lack_memory
-  edit-refused f l (inl h) e = subst (λ (g : BenchFault). Answers s (edit first last lines) (fault_line g) l) (sym h) (Answers-refused s (edit first last lines) l refl e)
-  edit-refused f l (inr h) e =
-      let is : answer s (edit first last lines) ≡ edit_answer (Some f) s (edited first last lines s) = ap (λ (f : Option BenchFault). edit_answer f s (edited first last lines s)) h in
-      Answers-told s (edit first last lines) (fault_line f) l (ap (λ (a : Answer). a.text) is) (ap (λ (a : Answer). a.next) is ∙ sym e)
+refused-cases : (s : State) (refusal : Option BenchFault) (o : Outcome) (f : BenchFault) → IsQueryFault refusal f → may_lack_memory o ≡ true → Answers s (unless_refused refusal o) (refusal_line (refusal_of f)) s
+refused-cases s refusal o f (inl h) m = subst (λ (g : Option BenchFault). Answers s (unless_refused g o) (refusal_line (refusal_of f)) s) (sym h) due
+refused-cases s refusal o f (inr (h, e)) m =
+    subst (λ (g : Option BenchFault). Answers s (unless_refused g o) (refusal_line (refusal_of f)) s) (sym h)
+    (subst (λ (g : BenchFault). Answers s o (refusal_line (refusal_of g)) s) (sym e) (lacking m))
 
-  pub edit-lost : Answers s (edit first last lines) (fault_line OutOfMemory) s
-  unfolding may_lack_memory
-  edit-lost = refused refl
+-- a command that is refused, whatever it asks
+pub reply-refused : {A E : Type 0} (r : Result A E) (a b : Option (List ℕ)) (s l : State) (refusal : Option BenchFault) (o : Outcome) (f : BenchFault) → IsQueryFault refusal f → may_lack_memory o ≡ true → l ≡ s
+    → Puts r a b (refusal_line (refusal_of f)) → Replies r a b s (unless_refused refusal o) l
+reply-refused r a b s l refusal o f h m n put =
+    subst (λ (v : State). Replies r a b s (unless_refused refusal o) v) (sym n) (record { text = refusal_line (refusal_of f); answers = refused-cases s refusal o f h m; put = put })
 
-pub list-done : (s : State) → Answers s list (listing_text (listing s.source) ++ ok_line) s
-unfolding answer
-list-done s = told
+pub reply-bad : {A E : Type 0} (r : Result A E) (a b : Option (List ℕ)) (s : State) → Puts r a b (refusal_line bad_command) → Replies r a b s (outcome s bad) s
+unfolding outcome
+reply-bad r a b s put = record { text = refusal_line bad_command; answers = due; put = put }
 
-pub quit-done : (s : State) → Answers s quit ok_line s
-unfolding answer
-quit-done s = told
+-- ---- an edit of the source, in whose refusal's place want of memory may stand
 
-pub bad-done : (s : State) → Answers s bad bad_line s
-unfolding answer
-bad-done s = told
+lacks : (e : SourceFault) → may_lack_memory (refused (refusal_of (of_source e))) ≡ true
+lacks source.OutOfMemory = refl
+lacks source.NoSuchLine = refl
+lacks source.TooManyLines = refl
+lacks (source.LineTooLong line) = refl
+lacks (source.NotAscii line) = refl
+lacks (source.Syntax line) = refl
+lacks (source.UnknownName line) = refl
+lacks (source.DuplicateLabel line) = refl
+lacks (source.OutOfRange line) = refl
+lacks (source.BadAlignment line) = refl
+lacks (source.OrgBackwards line) = refl
+lacks (source.ImageTooLarge line) = refl
 
-pub regs-done : (s : State) (n : ℕ) (shown : Shown) → n ≤ 1000000 → shown ≡ shown_at s n → Answers s (regs n) (regs_text n shown ++ ok_line) s
-unfolding answer
-regs-done s n word h e =
-    let test : leb n 1000000 ≡ true = search (arith, tests) in
-    Answers-told s (regs n) (regs_text n word ++ ok_line) s (rw (test, e) refl) (rw test refl)
+edit_lacks : (fault : Option SourceFault) (next : State) → may_lack_memory (unless_refused (option_map of_source fault) (changed next)) ≡ true
+edit_lacks None next = refl
+edit_lacks (Some e) next = lacks e
 
-pub regs-refused : (s : State) (n : ℕ) (f : BenchFault) → ((f ≡ StepTooLarge) × (1000000 < n)) ⊎ ((f ≡ OutOfMemory) × (n ≤ 1000000)) → Answers s (regs n) (fault_line f) s
-unfolding answer may_lack_memory
-regs-refused s n f (inl (e, h)) =
-    let test : leb n 1000000 ≡ false = search (arith, tests) in
-    Answers-told s (regs n) (fault_line f) s (rw (test, e) refl) (rw test refl)
-regs-refused s n f (inr (e, h)) =
-    let test : leb n 1000000 ≡ true = search (arith, tests) in
-    subst (λ (g : BenchFault). Answers s (regs n) (fault_line g) s) (sym e) (Answers-refused s (regs n) s test refl)
+pub reply-lost : {A E : Type 0} (r : Result A E) (a b : Option (List ℕ)) (s : State) (first last : ℕ) (lines : List (List ℕ)) → Puts r a b (refusal_line (refusal_of OutOfMemory))
+    → Replies r a b s (outcome s (edit first last lines)) s
+unfolding outcome
+reply-lost r a b s first last lines put =
+    record { text = refusal_line (refusal_of OutOfMemory); answers = lacking (edit_lacks (edit_fault first last lines s.source) (edited first last lines s)); put = put }
 
 -- ---- an edit of which at most 65,537 lines were kept
 
@@ -104,18 +109,27 @@ many_refused : (first last : ℕ) (lines : List (List ℕ)) (k : State) (r : Boo
 many_refused first last lines k true e p h = let g = sym (many_refusal first last lines k true e p) ∙ h in cc
 many_refused first last lines k false e p h = let g = sym (many_refusal first last lines k false e p) ∙ h in cc
 
-edit-cases : (s : State) (first last : ℕ) (lines kept : List (List ℕ)) (l : State) → SameOrMany lines kept → edit_refusal first last lines s ≡ None → l ≡ edited first last lines s
-    → Answers s (edit first last kept) ok_line l
+done_cases : (s : State) (first last : ℕ) (lines kept : List (List ℕ)) → SameOrMany lines kept → edit_refusal first last lines s ≡ None → lines ≡ kept
 unfolding SameOrMany
-edit-cases s first last lines kept l (inl same) h r = subst (λ (k : List (List ℕ)). Answers s (edit first last k) ok_line l) same (edit-done s first last lines l h r)
-edit-cases s first last lines kept l (inr m) h r = absurd (many_refused first last lines s (is_range first last (length s.source.lines)) refl m.0 h)
+done_cases s first last lines kept (inl same) h = same
+done_cases s first last lines kept (inr m) h = absurd (many_refused first last lines s (is_range first last (length s.source.lines)) refl m.0 h)
 
-pub edit-kept : (s : State) (first last : ℕ) (lines kept : List (List ℕ)) (l : State) → lines ≡ take 65537 kept → edit_refusal first last lines s ≡ None → l ≡ edited first last lines s
-    → Answers s (edit first last kept) ok_line l
-edit-kept s first last lines kept l e h r = edit-cases s first last lines kept l (kept_cases lines kept e (leb (length kept) 65537) refl) h r
+pub reply-edited : {A E : Type 0} (r : Result A E) (a b : Option (List ℕ)) (s l : State) (first last : ℕ) (lines kept : List (List ℕ)) → lines ≡ take 65537 kept → edit_refusal first last lines s ≡ None
+    → l ≡ edited first last lines s → Puts r a b ok_line → Replies r a b s (edit_outcome first last kept s) l
+reply-edited r a b s l first last lines kept e h n put =
+    let same : lines ≡ kept = done_cases s first last lines kept (kept_cases lines kept e (leb (length kept) 65537) refl) h in
+    subst (λ (k : List (List ℕ)). Replies r a b s (edit_outcome first last k s) l) same
+    (reply-done r a b s l (edit_refusal first last lines s) (changed (edited first last lines s)) ok_line h refl (sym n) put)
 
-pub edit-refused-kept : (s : State) (first last : ℕ) (lines kept : List (List ℕ)) (f : BenchFault) (l : State) → lines ≡ take 65537 kept → (f ≡ OutOfMemory) ⊎ (edit_refusal first last lines s ≡ Some f) → l ≡ s
-    → Answers s (edit first last kept) (fault_line f) l
-edit-refused-kept s first last lines kept f l e (inl h) r = edit-refused s first last kept f l (inl h) r
-edit-refused-kept s first last lines kept f l e (inr h) r =
-    edit-refused s first last kept f l (inr (sym (edit_refusal-cases first last s lines kept (kept_cases lines kept e (leb (length kept) 65537) refl)) ∙ h)) r
+not_edited : (s : State) (first last : ℕ) (kept : List (List ℕ)) (f : BenchFault) → (f ≡ OutOfMemory) ⊎ (edit_refusal first last kept s ≡ Some f) → Answers s (edit_outcome first last kept s) (refusal_line (refusal_of f)) s
+not_edited s first last kept f (inl e) =
+    subst (λ (g : BenchFault). Answers s (edit_outcome first last kept s) (refusal_line (refusal_of g)) s) (sym e) (lacking (edit_lacks (edit_fault first last kept s.source) (edited first last kept s)))
+not_edited s first last kept f (inr h) =
+    subst (λ (g : Option BenchFault). Answers s (unless_refused g (changed (edited first last kept s))) (refusal_line (refusal_of f)) s) (sym h) due
+
+pub reply-not-edited : {A E : Type 0} (r : Result A E) (a b : Option (List ℕ)) (s l : State) (first last : ℕ) (lines kept : List (List ℕ)) (f : BenchFault) → lines ≡ take 65537 kept
+    → (f ≡ OutOfMemory) ⊎ (edit_refusal first last lines s ≡ Some f) → l ≡ s → Puts r a b (refusal_line (refusal_of f)) → Replies r a b s (edit_outcome first last kept s) l
+reply-not-edited r a b s l first last lines kept f e h n put =
+    let same = edit_refusal-cases first last s lines kept (kept_cases lines kept e (leb (length kept) 65537) refl) in
+    let why : (f ≡ OutOfMemory) ⊎ (edit_refusal first last kept s ≡ Some f) = elim h [ inl m ↦ inl m | inr g ↦ inr (sym same ∙ g) ] in
+    subst (λ (v : State). Replies r a b s (edit_outcome first last kept s) v) (sym n) (record { text = refusal_line (refusal_of f); answers = not_edited s first last kept f why; put = put })

@@ -1,5 +1,6 @@
 pub mod PutLemmas
-pub mod ParseLemmas
+pub mod NumberedLemmas
+pub mod WordLemmas
 pub mod SessionLemmas
 pub mod AnswerLemmas
 pub mod KeepLemmas
@@ -7,5 +8,3 @@ pub mod GatherLemmas
 pub mod ScriptLemmas
 pub mod ProgressLemmas
 pub mod RunLemmas
-pub mod LawLemmas
-pub mod NumberedLemmas

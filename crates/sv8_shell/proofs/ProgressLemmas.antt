@@ -9,16 +9,19 @@ use Rattle.sv8_shell.specs.declared.gathering.Pending.{Pending}
 use Rattle.sv8_shell.specs.declared.place.Place.{Place}
 use Rattle.sv8_shell.specs.declared.driver.RunFault.{RunFault}
 use Rattle.sv8_shell.specs.declared.driver.RunFault.TheVariants.{Read, Write, TooManyCommands}
-use Rattle.sv8_shell.specs.Script.{Order, bad, Stage, idle, taking, over, is_nil, orders_at_end, orders_of, Step, step, kept_with, left_from, ended_lines, stage_from, orders_in}
-use Rattle.sv8_shell.specs.Session.{State, Answered, Cut, Does}
-use Rattle.sv8_shell.specs.Gathers.{IsAt, Stepped}
+use Rattle.sv8_shell.specs.Script.{Order, bad, Stage, idle, taking, over, is_nil, orders_at_end, orders_of, Step, step, kept_with, left_from, ended_lines, stage_from, orders_in, EndsByQuit, HasNoQuit}
+use Rattle.sv8_shell.specs.Session.{State, Answered, Cut}
+use Rattle.sv8_shell.specs.Put.{Does}
+use Rattle.sv8_shell.specs.Gathers.{IsAt, Stepped, is_over}
 use Rattle.sv8_shell.specs.Progress.{Progress, Stopped, Stops, Taken}
+use Rattle.sv8_shell.proofs.GatherLemmas.{still-open}
 use Rattle.sv8_shell.proofs.SessionLemmas.{Answered-none, Answered-append, Cut-after, Cut-longer, Does-after}
 use Rattle.sv8_shell.proofs.ScriptLemmas.{ended-letter, left-letter, ended-feed, left-feed, orders-line, stage-line, orders_in-split, orders_of-end, rest_orders-none, rest_orders-line}
 
 pub stopped-byte : (old now : Option (List ℕ)) (source last : State) (given : List ℕ) (b : ℕ) (place : Place) (g : Gathering) → Progress old now source last given place g → place.lines ≤ 1000000 → place.bytes ≤ 268435456
-    → (place.lines ≡ 1000000) ⊎ (place.bytes ≡ 268435456) → Stopped old now source last given (b ∷ [])
-stopped-byte old now source last given b place g p few_lines few_bytes full =
+    → (place.lines ≡ 1000000) ⊎ (place.bytes ≡ 268435456) → is_over g ≡ false → Stopped old now source last given (b ∷ [])
+unfolding HasNoQuit EndsByQuit
+stopped-byte old now source last given b place g p few_lines few_bytes full going =
     let r = p.reached in
     let lines : length (ended_lines given) ≡ place.lines = sym r.lines_is in
     let bytes : length given ≡ place.bytes = sym r.bytes_is in
@@ -31,6 +34,7 @@ stopped-byte old now source last given b place g p few_lines few_bytes full =
       few_bytes = rw (append-nil given) (omega arith);
       full = rw (append-nil given) (elim full [ inl h ↦ inl (lines ∙ h) | inr h ↦ inr (bytes ∙ h) ]);
       answered = rw (append-nil given) p.answered;
+      no_quit = rw (append-nil given) (still-open g (stage_from idle (ended_lines given)) going r.stage_is);
     }
 
 pub letter : (old now : Option (List ℕ)) (source last : State) (given : List ℕ) (b : ℕ) (place next : Place) (g : Gathering) → eqb b 10 ≡ false → (place.lines ≡ 1000000 → ⊥) → next.line ≡ kept_with place.line b
@@ -96,13 +100,13 @@ taken-whole old now source last given piece place g n h p =
     let all : take n piece ≡ piece = take_all n piece h in
     record { front = take n piece; first = record { rest = []; is = sym (append-nil (take n piece) ∙ all) }; progress = p; whole = λ _. all }
 
-pub taken-front : (old now : Option (List ℕ)) (source last : State) (given piece : List ℕ) (place : Place) (i : ℕ) → i < length piece → Progress old now source last ((given ++ take i piece) ++ get_or piece i 0 ∷ []) place Over
-    → Taken old now source last given piece place Over
-taken-front old now source last given piece place i h p = record {
+pub taken-front : (old now : Option (List ℕ)) (source last : State) (given piece : List ℕ) (place : Place) (g : Gathering) (i : ℕ) → i < length piece → is_over g ≡ true
+    → Progress old now source last ((given ++ take i piece) ++ get_or piece i 0 ∷ []) place g → Taken old now source last given piece place g
+taken-front old now source last given piece place g i h ended p = record {
   front = take (i + 1) piece;
   first = record { rest = drop (i + 1) piece; is = sym (take-append-drop (i + 1) piece) };
   progress = rw (next_byte given piece i h) at p;
-  whole = λ e. absurd (true≢false e);
+  whole = λ e. absurd (true≢false (sym ended ∙ e));
 }
 
 pub stops-piece : (f : RunFault) (old now : Option (List ℕ)) (source last : State) (given piece : List ℕ) (i : ℕ) → i < length piece → Stops f old now source last (given ++ take i piece) (get_or piece i 0 ∷ [])
@@ -126,6 +130,7 @@ stops-piece TooManyCommands old now source last given piece i h s =
       few_bytes = rw joined at s.few_bytes;
       full = rw joined at s.full;
       answered = rw joined at s.answered;
+      no_quit = rw joined at s.no_quit;
     }
 
 -- ---- the end of the input

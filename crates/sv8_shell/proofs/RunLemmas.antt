@@ -8,11 +8,12 @@ use Rattle.sv8_shell.specs.declared.gathering.Gathering.TheVariants.{Idle, Takin
 use Rattle.sv8_shell.specs.declared.place.Place.{Place}
 use Rattle.sv8_shell.specs.declared.driver.RunFault.{RunFault}
 use Rattle.sv8_shell.specs.declared.driver.RunFault.TheVariants.{Read, Write, TooManyCommands}
-use Rattle.sv8_shell.specs.Script.{Order, Stage, idle, taking, over, ended_lines, stage_from, orders_in, orders_of, IsTooLong, lines_within, EndsByQuit}
+use Rattle.sv8_shell.specs.Script.{Order, Stage, idle, taking, over, ended_lines, stage_from, orders_in, orders_of, IsTooLong, lines_within, EndsByQuit, HasNoQuit}
 use Rattle.sv8_shell.specs.Session.{State, Answered, Cut}
 use Rattle.sv8_shell.specs.Gathers.{IsAt, is_over}
 use Rattle.sv8_shell.specs.Progress.{Reached, Progress, Stopped, Stops, Taken}
 use Rattle.sv8_shell.specs.Run.{OnRead, OnWrite, OnTooMany, AnsweredGiven}
+use Rattle.sv8_shell.proofs.GatherLemmas.{still-open}
 use Rattle.sv8_shell.proofs.SessionLemmas.{Answered-none, Cut-longer}
 use Rattle.sv8_shell.proofs.ScriptLemmas.{orders_of-split, orders_of-over, too_long-lines, too_long-bytes, within-lines, within-bytes, not_too_long, quit-within}
 
@@ -22,10 +23,11 @@ pub record Ran (known left written now : Option (List ℕ)) (source last : State
   pub consumed : Consumes known left given
   pub progress : Progress written now source last given place g
   pub turned : turns ≤ length given
+  pub going : is_over g ≡ false
 
 pub Ran-start : (known written : Option (List ℕ)) (s : State) (place : Place) → Reached [] place Idle → Ran known known written written s s place Idle 0
 unfolding orders_in ended_lines
-Ran-start known written s place r = record { given = []; consumed = Consumes-nil known; progress = record { reached = r; answered = Answered-none written s }; turned = omega arith }
+Ran-start known written s place r = record { given = []; consumed = Consumes-nil known; progress = record { reached = r; answered = Answered-none written s }; turned = omega arith; going = refl }
 
 -- what a known reader began with, of which these bytes were given
 IfSome-front : (a b : Option (List ℕ)) (bs : List ℕ) (P : List ℕ → Type 0) → Consumes a b bs → ((more : List ℕ) → P (bs ++ more)) → IfSome a P
@@ -42,6 +44,7 @@ Ran-more known left after written mid now source m last place next g f turns pie
       consumed = Consumes-trans known left after r.given piece r.consumed c;
       progress = rw (t.whole h) at t.progress;
       turned = omega (arith, length-append r.given piece);
+      going = h;
     }
 
 -- the input has ended
@@ -53,7 +56,13 @@ run-end known left after written mid source m place g turns n buffer P r c e end
 
 pub run-read : (known left after written now : Option (List ℕ)) (source last : State) (place : Place) (g : Gathering) (turns : ℕ) → Ran known left written now source last place g turns → Keeps left after
     → AnsweredGiven known after written now source last
-run-read known left after written now source last place g turns r k = record { given = r.given; consumed = Consumes-kept known left after r.given r.consumed k; answered = r.progress.answered }
+unfolding HasNoQuit EndsByQuit
+run-read known left after written now source last place g turns r k = record {
+  given = r.given;
+  consumed = Consumes-kept known left after r.given r.consumed k;
+  answered = r.progress.answered;
+  no_quit = still-open g (stage_from idle (ended_lines r.given)) r.going r.progress.reached.stage_is;
+}
 
 IsAt-over : (g : Gathering) (stage : Stage) → is_over g ≡ true → IsAt g stage → stage ≡ over
 IsAt-over Idle stage e h = absurd (false≢true e)
@@ -108,6 +117,13 @@ module _ (known left after written mid now : Option (List ℕ)) (source m last :
   stop-too_many TooManyCommands s =
       IfSome-front known after (r.given ++ piece) (λ (input : List ℕ). Answered written now source (orders_in (lines_within input)) last) (Consumes-trans known left after r.given piece r.consumed c)
       (λ more. subst (λ (l : List (List ℕ)). Answered written now source (orders_in l) last) (sym (stop_within s more)) s.answered)
+
+  pub stop-no_quit : (f : RunFault) → Stops f written now source last r.given piece → OnTooMany {A = Unit {0}} (Err f) (IfSome known (λ input. HasNoQuit (lines_within input)))
+  stop-no_quit Read s = tt
+  stop-no_quit Write s = tt
+  stop-no_quit TooManyCommands s =
+      IfSome-front known after (r.given ++ piece) (λ (input : List ℕ). HasNoQuit (lines_within input)) (Consumes-trans known left after r.given piece r.consumed c)
+      (λ more. subst HasNoQuit (sym (stop_within s more)) s.no_quit)
 
   pub stop-read : (f : RunFault) → Stops f written now source last r.given piece → OnRead {A = Unit {0}} (Err f) (AnsweredGiven known after written now source last)
   stop-read Read s = absurd s

@@ -1,9 +1,10 @@
 -- Lemmas on sessions, and on what reaches the writer of one.
 use Rattle.std.proofs.Common.{ℕ, List, [], ◌∷◌, ◌++◌, Option, Result, Ok, Err, sym, append_assoc, append-nil, subst}
 use Rattle.std.proofs.KnownBytes.{Appends-nil, Appends-trans}
-use Rattle.sv8_shell.specs.Put.{AppendsPart, Puts}
+use Rattle.sv8_shell.specs.Put.{Does, Replies}
 use Rattle.sv8_shell.specs.Script.{Order}
-use Rattle.sv8_shell.specs.Session.{State, Answers, Session, none, more, CutSession, here, later, Answered, Cut, Does}
+use Rattle.sv8_shell.specs.Outcome.{Answers}
+use Rattle.sv8_shell.specs.Session.{State, outcome, Session, none, more, CutSession, here, later, Answered, Cut}
 
 pub Session-append : {s m l : State} {xs ys : List Order} {t u : List ℕ} → Session s xs t m → Session m ys u l → Session s (xs ++ ys) (t ++ u) l
 Session-append none q = q
@@ -46,12 +47,9 @@ Does-after (Ok _) a b c s m l xs ys p q = Answered-append a b c s m l xs ys p q
 Does-after (Err _) a b c s m l xs ys p q = Cut-after a b c s m l xs ys p q
 
 -- one answer
-one_session : {s l : State} {o : Order} {t : List ℕ} → Answers s o t l → Session s (o ∷ []) t l
+one_session : {s l : State} {o : Order} {t : List ℕ} → Answers s (outcome s o) t l → Session s (o ∷ []) t l
 one_session {s} {l} {o} {t} h = subst (λ (v : List ℕ). Session s (o ∷ []) v l) (append-nil t) (more h none)
 
-pub Does-one : {A E : Type 0} (r : Result A E) (a b : Option (List ℕ)) (s l : State) (o : Order) (t : List ℕ) → Answers s o t l → Puts r a b t → Does r a b s (o ∷ []) l
-Does-one (Ok _) a b s l o t h p = record { text = t; session = one_session h; gained = p }
-Does-one (Err _) a b s l o t h p = record { text = p.part; session = here h p.first; gained = p.gained }
-
-pub Cut-one : (a b : Option (List ℕ)) (s l : State) (o : Order) (t : List ℕ) → Answers s o t l → AppendsPart a b t → Cut a b s (o ∷ []) l
-Cut-one a b s l o t h p = record { text = p.part; session = here h p.first; gained = p.gained }
+pub Does-one : {A E : Type 0} (r : Result A E) (a b : Option (List ℕ)) (s l : State) (o : Order) → Replies r a b s (outcome s o) l → Does r a b s (o ∷ []) l
+Does-one (Ok _) a b s l o h = record { text = h.text; session = one_session h.answers; gained = h.put }
+Does-one (Err _) a b s l o h = record { text = h.put.part; session = here h.answers h.put.first; gained = h.put.gained }

@@ -34,6 +34,11 @@ is_over Idle = false
 is_over (Taking pending) = false
 is_over Over = true
 
+abbrev pub is_taking : Gathering → Bool
+is_taking Idle = false
+is_taking (Taking pending) = true
+is_taking Over = false
+
 abbrev pub idle_after : {A E : Type 0} → Result A E → Result Gathering E
 idle_after (Ok _) = Ok Idle
 idle_after (Err e) = Err e

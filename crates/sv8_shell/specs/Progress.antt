@@ -4,9 +4,8 @@ use Rattle.sv8_shell.specs.declared.gathering.Gathering.{Gathering}
 use Rattle.sv8_shell.specs.declared.place.Place.{Place}
 use Rattle.sv8_shell.specs.declared.driver.RunFault.{RunFault}
 use Rattle.sv8_shell.specs.declared.driver.RunFault.TheVariants.{Read, Write, TooManyCommands}
-use Rattle.sv8_shell.specs.Put.{IsPrefix}
-use Rattle.sv8_shell.specs.Script.{idle, ended_lines, left_from, stage_from, orders_in}
-use Rattle.sv8_shell.specs.Session.{State, Answered, Cut}
+use Rattle.sv8_shell.specs.Script.{idle, ended_lines, left_from, stage_from, orders_in, HasNoQuit}
+use Rattle.sv8_shell.specs.Session.{State, IsPrefix, Answered, Cut}
 use Rattle.sv8_shell.specs.Gathers.{IsAt, is_over}
 
 -- the place and what waits are those after these bytes
@@ -32,6 +31,7 @@ pub record Stopped (old now : Option (List ℕ)) (start last : State) (given mor
   pub few_bytes : length (given ++ front) ≤ 268435456
   pub full : (length (ended_lines (given ++ front)) ≡ 1000000) ⊎ (length (given ++ front) ≡ 268435456)
   pub answered : Answered old now start (orders_in (ended_lines (given ++ front))) last
+  pub no_quit : HasNoQuit (ended_lines (given ++ front))
 
 -- how a run stops among more bytes
 abbrev pub Stops : RunFault → Option (List ℕ) → Option (List ℕ) → State → State → List ℕ → List ℕ → Type 0

@@ -3,7 +3,7 @@ use Rattle.std.specs.Prelude.{ℕ, List, Option, Result, Ok, Err, ⊤}
 use Rattle.std.specs.Io.KnownBytes.{Consumes}
 use Rattle.sv8_shell.specs.declared.driver.RunFault.{RunFault}
 use Rattle.sv8_shell.specs.declared.driver.RunFault.TheVariants.{Read, Write, TooManyCommands}
-use Rattle.sv8_shell.specs.Script.{ended_lines, orders_in}
+use Rattle.sv8_shell.specs.Script.{ended_lines, orders_in, HasNoQuit}
 use Rattle.sv8_shell.specs.Session.{State, Answered}
 
 abbrev pub OnRead : {A : Type 0} → Result A RunFault → Type 0 → Type 0
@@ -24,8 +24,9 @@ OnTooMany (Err Read) P = ⊤
 OnTooMany (Err Write) P = ⊤
 OnTooMany (Err TooManyCommands) P = P
 
--- the reader has given some bytes, and the orders in the lines that ended in them were answered
+-- the reader has given some bytes, no line that ended in them is a `quit`, and the orders in these lines were answered
 pub record AnsweredGiven (known left written now : Option (List ℕ)) (start last : State) : Type 0 where
   pub given : List ℕ
   pub consumed : Consumes known left given
   pub answered : Answered written now start (orders_in (ended_lines given)) last
+  pub no_quit : HasNoQuit (ended_lines given)

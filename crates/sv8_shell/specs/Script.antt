@@ -1,8 +1,9 @@
 -- A script: its lines, and the orders that they make.
 use Rattle.std.specs.Prelude.{◌≡◌, ℕ, Bool, true, false, ◌-◌, ◌<◌, ◌⊎◌, List, [], ◌∷◌, ◌++◌, length, take, slice_index, Option, Some, None, nat_lt, ◌==◌, if◌then◌else◌}
 use Rattle.sv8_shell.specs.declared.command.Command.{Command}
-use Rattle.sv8_shell.specs.declared.command.Command.TheVariants.{Edit, Listing, Regs, Quit}
-use Rattle.sv8_shell.specs.Parse.{words_of, command_of}
+use Rattle.sv8_shell.specs.declared.command.Command.TheVariants.{Edit, Quit}
+use Rattle.sv8_shell.specs.Words.{words_of}
+use Rattle.sv8_shell.specs.Commands.{command_of}
 
 -- ---- lines
 
@@ -51,12 +52,10 @@ text_of line = if slice_index line (length line - 1) == 13 then take (length lin
 
 -- ---- orders
 
--- a command with its lines, or a line that is none
+-- an edit with its lines, a command that takes none, or a line that is no command
 pub data Order : Type 0 where
   edit : ℕ → ℕ → List (List ℕ) → Order
-  list : Order
-  regs : ℕ → Order
-  quit : Order
+  command : Command → Order
   bad : Order
 
 -- between lines: nothing waits, an edit waits for more lines, or the run has ended
@@ -70,13 +69,20 @@ pub record Step : Type 0 where
   pub orders : List Order
   pub stage : Stage
 
+-- the stage after a command: an edit of some lines waits for them, and `quit` ends the run
+abbrev pub stage_after : Command → Stage
+stage_after (Edit first last count) = if count == 0 then idle else taking first last count []
+stage_after Quit = over
+stage_after c = idle
+
+-- a command is an order where no line is waited for
+abbrev pub step_to : Stage → Command → Step
+step_to (taking first last left lines) c = record { orders = []; stage = taking first last left lines }
+step_to stage c = record { orders = command c ∷ []; stage = stage }
+
 abbrev pub step_of_command : Option Command → Step
 step_of_command None = record { orders = bad ∷ []; stage = idle }
-step_of_command (Some (Edit first last count)) =
-    if count == 0 then record { orders = edit first last [] ∷ []; stage = idle } else record { orders = []; stage = taking first last count [] }
-step_of_command (Some Listing) = record { orders = list ∷ []; stage = idle }
-step_of_command (Some (Regs n)) = record { orders = regs n ∷ []; stage = idle }
-step_of_command (Some Quit) = record { orders = quit ∷ []; stage = over }
+step_of_command (Some c) = step_to (stage_after c) c
 
 -- a blank line does nothing
 abbrev pub step_of_words : List (List ℕ) → Step
@@ -122,3 +128,7 @@ orders_of bytes = orders_from idle (all_lines bytes) ++ orders_at_end (stage_fro
 -- the script ends by a `quit` among these lines
 unfoldable pub EndsByQuit : List (List ℕ) → Type 0
 EndsByQuit lines = stage_from idle lines ≡ over
+
+-- none of these lines ends it by a `quit`
+unfoldable pub HasNoQuit : List (List ℕ) → Type 0
+HasNoQuit lines = EndsByQuit lines → ⊥

@@ -2,8 +2,7 @@
 use Rattle.std.specs.Prelude.{ℕ, ◌+◌, ◌/◌, ◌%◌, ◌==◌, Bool, List, [], ◌∷◌, ◌++◌, take, drop, flat_map, Option, Some, None, nat_lt, if◌then◌else◌, codes, decimal}
 use Rattle.sv8_source.specs.Listing.{ListedLine}
 use Rattle.sv8_bench.specs.declared.shown.Shown.{Shown}
-use Rattle.sv8_bench.specs.declared.fault.BenchFault.{BenchFault}
-use Rattle.sv8_shell.specs.Refusal.{number_of, name_of, line_of}
+use Rattle.sv8_shell.specs.Refusal.{Refusal}
 
 -- ---- numbers
 
@@ -38,16 +37,8 @@ abbrev pub at_line : Option ℕ → List ℕ
 at_line None = []
 at_line (Some line) = codes " line " ++ decimal line
 
-unfoldable pub refusal : ℕ → List ℕ → Option ℕ → List ℕ
-refusal number name line = (codes "refused " ++ decimal number ++ codes " " ++ name) ++ (at_line line ++ codes "\n")
-
--- the line of a refusal by the workbench
-unfoldable pub fault_line : BenchFault → List ℕ
-fault_line fault = refusal (number_of fault) (name_of fault) (line_of fault)
-
--- the line of a text that is no command
-unfoldable pub bad_line : List ℕ
-bad_line = refusal 18 (codes "BadCommand") None
+unfoldable pub refusal_line : Refusal → List ℕ
+refusal_line r = codes "refused " ++ decimal r.number ++ codes " " ++ r.name ++ at_line r.line ++ codes "\n"
 
 -- ---- the listing
 
@@ -57,11 +48,7 @@ listed_byte i b = (if i % 4 == 0 then codes " " else []) ++ hex_byte b
 
 -- the line of the listing for line i: its address, its bytes in groups of up to four, and its text
 unfoldable pub listing_line : ℕ → ListedLine → List ℕ
-listing_line i l = (decimal i ++ codes " " ++ hex_word l.address) ++ (numbered_text listed_byte 0 l.bytes ++ codes " |" ++ l.text ++ codes "\n")
-
--- what stands for a line where there is none
-abbrev pub no_line : ListedLine
-no_line = record { address = 0; bytes = []; text = [] }
+listing_line i l = (decimal i ++ codes " " ++ hex_word l.address) ++ (numbered_text listed_byte 0 l.bytes ++ (codes " |" ++ l.text ++ codes "\n"))
 
 -- the lines of the listing, from 1 on
 abbrev pub listing_text : List ListedLine → List ℕ
@@ -71,7 +58,7 @@ listing_text lines = numbered_text listing_line 1 lines
 
 -- words behind a name
 unfoldable pub words_line : List ℕ → List ℕ → List ℕ
-words_line name words = name ++ (flat_map (λ w. codes " " ++ hex_word w) words ++ codes "\n")
+words_line name words = name ++ flat_map (λ w. codes " " ++ hex_word w) words ++ codes "\n"
 
 abbrev pub mode_name : Bool → List ℕ
 mode_name running = if running then codes "run" else codes "error"
@@ -88,17 +75,13 @@ counters_text s = codes "pc " ++ hex_word s.pc ++ codes " npc " ++ hex_word s.np
 unfoldable pub control_text : Shown → List ℕ
 control_text s = codes "psr " ++ hex_word s.psr ++ codes " wim " ++ hex_word s.wim ++ codes " tbr " ++ hex_word s.tbr ++ codes " y " ++ hex_word s.y ++ codes "\n"
 
--- globals and outs, the first 16 registers
-unfoldable pub low_text : List ℕ → List ℕ
-low_text r = words_line (codes "g") (take 8 r) ++ words_line (codes "o") (drop 8 r)
+-- eight registers from this one on
+abbrev pub eight : ℕ → List ℕ → List ℕ
+eight first registers = take 8 (drop first registers)
 
--- locals and ins, the other 16
-unfoldable pub high_text : List ℕ → List ℕ
-high_text r = words_line (codes "l") (take 8 r) ++ words_line (codes "i") (drop 8 r)
-
--- the registers of the current window
+-- the registers of the current window: globals, outs, locals and ins
 unfoldable pub window_text : List ℕ → List ℕ
-window_text r = low_text (take 16 r) ++ high_text (drop 16 r)
+window_text r = words_line (codes "g") (eight 0 r) ++ words_line (codes "o") (eight 8 r) ++ words_line (codes "l") (eight 16 r) ++ words_line (codes "i") (eight 24 r)
 
 -- the memory management unit, and the devices
 unfoldable pub units_text : Shown → List ℕ
@@ -108,4 +91,4 @@ units_text s =
 
 -- the nine lines of `regs`
 unfoldable pub regs_text : ℕ → Shown → List ℕ
-regs_text n s = step_text n s ++ (counters_text s ++ (control_text s ++ (window_text s.registers ++ units_text s)))
+regs_text n s = step_text n s ++ counters_text s ++ control_text s ++ window_text s.registers ++ units_text s

@@ -1,18 +1,18 @@
 //! What each byte of a script does.
-ghost use Rattle.std.specs.Prelude.{◌≡◌, ℕ, ◌+◌, ◌<◌, ◌≤◌, ◌++◌, ◌∷◌, [], List, Option, length};
+ghost use Rattle.std.specs.Prelude.{◌≡◌, ℕ, ◌+◌, ◌<◌, ◌≤◌, ◌++◌, ◌∷◌, [], List, Option, length, false};
 ghost use Rattle.sv8_bench.specs.Kept.{Kept};
 ghost use Rattle.sv8_shell.specs.Script.{Stage, orders_at_end, orders_of};
-ghost use Rattle.sv8_shell.specs.Session.{Does};
-ghost use Rattle.sv8_shell.specs.Gathers.{IsAt};
+ghost use Rattle.sv8_shell.specs.Put.{Does};
+ghost use Rattle.sv8_shell.specs.Gathers.{IsAt, is_over};
 ghost use Rattle.sv8_shell.specs.Progress.{Progress, Reached, TakesByte, TakesPiece};
 ghost use Rattle.sv8_shell.specs.declared.gathering.Gathering.TheVariants.{Idle};
 
-use crate::answers::answer_bad;
 use crate::driver::RunFault;
 use crate::gathering::Gathering;
 use crate::line::Line;
 use crate::place::Place;
-use crate::put::WriteFault;
+use crate::put::{WriteFault, refuse};
+use crate::refusal::bad_command;
 use crate::script::take_line;
 use std::alloc::Global;
 use std::io::Write;
@@ -42,6 +42,7 @@ fn take_byte<const NW: usize, const PAGES: usize, const K: u32, W: Write>(
     writer: &mut W,
     b: u8,
 ) -> Result<Gathering, RunFault>
+    requires { is_over gathering ≡ false }
     ensures { (old : Option (List ℕ)) (start : Kept) (given : List ℕ) →
         Progress old (W.contents writer.old) start bench.old given place.old gathering →
         TakesByte result old (W.contents writer.new) start bench.new given b place.new }
@@ -76,6 +77,7 @@ pub fn take_piece<const NW: usize, const PAGES: usize, const K: u32, W: Write>(
     writer: &mut W,
     piece: &[u8],
 ) -> Result<Gathering, RunFault>
+    requires { is_over gathering ≡ false }
     ensures { (old : Option (List ℕ)) (start : Kept) (given : List ℕ) →
         Progress old (W.contents writer.old) start bench.old given place.old gathering →
         TakesPiece result old (W.contents writer.new) start bench.new given piece.now place.new }
@@ -83,8 +85,12 @@ pub fn take_piece<const NW: usize, const PAGES: usize, const K: u32, W: Write>(
     let mut gathering = gathering;
     for b in piece {
         match take_byte(alloc, place, gathering, bench, writer, *b) {
-            Ok(Gathering::Over) => return Ok(Gathering::Over),
-            Ok(taken) => gathering = taken,
+            Ok(taken) => {
+                if taken.is_over() {
+                    return Ok(taken);
+                }
+                gathering = taken;
+            }
             Err(fault) => return Err(fault),
         }
     }
@@ -104,28 +110,23 @@ pub fn finish<const NW: usize, const PAGES: usize, const K: u32, W: Write>(
         Does result old (W.contents writer.new) start (orders_of given) bench.new }
 {
     if place.line.is_empty() {
-        return finish_edit(gathering, bench, writer);
+        return finish_edit(gathering, writer);
     }
     match take_line(alloc, gathering, bench, writer, place.line.as_slice()) {
-        Ok(gathering) => finish_edit(gathering, bench, writer),
+        Ok(gathering) => finish_edit(gathering, writer),
         Err(fault) => Err(fault),
     }
 }
 
 /// An edit whose lines are not all there.
-fn finish_edit<const NW: usize, const PAGES: usize, const K: u32, W: Write>(
-    gathering: Gathering,
-    bench: &mut Bench<NW, PAGES, K>,
-    writer: &mut W,
-) -> Result<(), WriteFault>
-    ensures { (stage : Stage) → IsAt gathering stage →
-        Does result (W.contents writer.old) (W.contents writer.new) bench.old
-        (orders_at_end stage) bench.new }
+fn finish_edit<W: Write>(gathering: Gathering, writer: &mut W) -> Result<(), WriteFault>
+    ensures { (stage : Stage) (kept : Kept) → IsAt gathering stage →
+        Does result (W.contents writer.old) (W.contents writer.new) kept (orders_at_end stage) kept }
 {
     match gathering {
         Gathering::Idle => return Ok(()),
         Gathering::Taking(_) => {}
         Gathering::Over => return Ok(()),
     }
-    answer_bad(bench, writer)
+    refuse(writer, bad_command())
 }

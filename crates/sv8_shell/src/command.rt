@@ -1,16 +1,17 @@
 //! Commands, and how a line reads as one.
 ghost use Rattle.std.specs.Prelude.{true, ◌≡◌, ℕ, ◌+◌, ◌-◌, ◌*◌, ◌<◌, ◌≤◌, ◌++◌, ◌∷◌, [], List, length, drop, Some, None, IsTrue, MatchOption, MatchResult};
-ghost use Rattle.sv8_shell.specs.Parse.{is_gap, words_of, number_of_word, first_number, command_of, edit_of, regs_of, alone, starts_word};
+ghost use Rattle.sv8_shell.specs.Words.{is_gap, words_of, number_of_word, first_number, starts_word};
+ghost use Rattle.sv8_shell.specs.Commands.{command_of, edit_of, regs_of, alone};
 
 /// A command, as one line gives it.
-#[derive(Debug, Drop, Clone, Copy)]
+#[derive(Debug, Drop)]
 pub enum Command {
     /// `edit A B COUNT`: lines A to B are replaced by the COUNT lines that follow.
     Edit { first: u32, last: u32, count: u32 },
     /// `list`: the listing.
     Listing,
     /// `regs N`: the machine at step N.
-    Regs(u32),
+    Regs { step: u32 },
     /// `quit`: the end of the run.
     Quit,
 }
@@ -34,7 +35,7 @@ pub fn parse_command(text: &[u8]) -> Result<Command, BadCommand>
     }
 }
 
-#[tactic(auto, unfolding(crate::specs::Parse::command_of))]
+#[tactic(auto, unfolding(crate::specs::Commands::command_of))]
 fn named(name: &[u8], rest: &[u8]) -> Result<Command, BadCommand>
     ensures { MatchResult result (λ c. command_of (name.now ∷ words_of rest.now) ≡ Some c)
         (λ _. command_of (name.now ∷ words_of rest.now) ≡ None) }
@@ -52,7 +53,7 @@ fn named(name: &[u8], rest: &[u8]) -> Result<Command, BadCommand>
     }
 }
 
-#[tactic(auto, unfolding(crate::specs::Parse::alone))]
+#[tactic(auto, unfolding(crate::specs::Commands::alone))]
 fn read_alone(command: Command, rest: &[u8]) -> Result<Command, BadCommand>
     ensures { MatchResult result (λ c. alone command (words_of rest.now) ≡ Some c)
         (λ _. alone command (words_of rest.now) ≡ None) }
@@ -63,7 +64,7 @@ fn read_alone(command: Command, rest: &[u8]) -> Result<Command, BadCommand>
     }
 }
 
-#[tactic(auto, unfolding(crate::specs::Parse::edit_of))]
+#[tactic(auto, unfolding(crate::specs::Commands::edit_of))]
 fn read_edit(rest: &[u8]) -> Result<Command, BadCommand>
     ensures { MatchResult result (λ c. edit_of (words_of rest.now) ≡ Some c)
         (λ _. edit_of (words_of rest.now) ≡ None) }
@@ -74,16 +75,16 @@ fn read_edit(rest: &[u8]) -> Result<Command, BadCommand>
     read_alone(Command::Edit { first, last, count }, rest)
 }
 
-#[tactic(auto, unfolding(crate::specs::Parse::regs_of))]
+#[tactic(auto, unfolding(crate::specs::Commands::regs_of))]
 fn read_regs(rest: &[u8]) -> Result<Command, BadCommand>
     ensures { MatchResult result (λ c. regs_of (words_of rest.now) ≡ Some c)
         (λ _. regs_of (words_of rest.now) ≡ None) }
 {
     let (step, rest) = read_number(rest)?;
-    read_alone(Command::Regs(step), rest)
+    read_alone(Command::Regs { step }, rest)
 }
 
-#[tactic(auto, unfolding(crate::specs::Parse::first_number))]
+#[tactic(auto, unfolding(crate::specs::Words::first_number))]
 fn read_number(text: &[u8]) -> Result<(u32, &[u8]), BadCommand>
     ensures { MatchResult result
         (λ r. first_number (words_of text.now) ≡ Some (r.0, words_of r.1.now))
@@ -98,7 +99,7 @@ fn read_number(text: &[u8]) -> Result<(u32, &[u8]), BadCommand>
     }
 }
 
-#[tactic(auto, unfolding(crate::specs::Parse::number_of_word))]
+#[tactic(auto, unfolding(crate::specs::Words::number_of_word))]
 fn number(word: &[u8]) -> Option<u32>
     ensures { result ≡ number_of_word word.now }
 {

@@ -1,7 +1,7 @@
 //! A run: reads a script to its end, and writes the answers.
 ghost use Rattle.std.specs.Prelude.{◌≡◌, ℕ, ◌+◌, ◌<◌, ◌≤◌, ◌++◌, ◌∷◌, [], List, Option, length, OnOk, IfSome};
 ghost use Rattle.sv8_bench.specs.Kept.{Kept};
-ghost use Rattle.sv8_shell.specs.Script.{orders_in, orders_of, lines_within, IsTooLong, EndsByQuit};
+ghost use Rattle.sv8_shell.specs.Script.{orders_in, orders_of, lines_within, IsTooLong, EndsByQuit, HasNoQuit};
 ghost use Rattle.sv8_shell.specs.Session.{Answered, Cut};
 ghost use Rattle.sv8_shell.specs.Run.{OnRead, OnWrite, OnTooMany, AnsweredGiven};
 
@@ -58,6 +58,9 @@ pub fn run<const NW: usize, const PAGES: usize, const K: u32, R: Read, W: Write>
     ensures too_many { OnTooMany result (IfSome (R.remaining reader.old) (λ input.
         Answered (W.contents writer.old) (W.contents writer.new) bench.old
         (orders_in (lines_within input)) bench.new)) }
+
+    // No `quit` was answered before it, as after a read fault.
+    ensures no_quit { OnTooMany result (IfSome (R.remaining reader.old) (λ input. HasNoQuit (lines_within input))) }
 {
     let mut place = start();
     let mut gathering = Gathering::Idle;

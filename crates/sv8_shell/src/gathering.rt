@@ -21,13 +21,23 @@ pub enum Gathering {
 }
 
 impl Gathering {
-    ghost use Rattle.sv8_shell.specs.Gathers.{is_over};
+    ghost use Rattle.sv8_shell.specs.Gathers.{is_over, is_taking};
 
     pub fn is_over(&self) -> bool
         ensures { result ≡ is_over self.now }
     {
         match self {
             Gathering::Over => true,
+            _ => false,
+        }
+    }
+
+    /// Whether lines of an edit are waited for.
+    pub fn is_taking(&self) -> bool
+        ensures { result ≡ is_taking self.now }
+    {
+        match self {
+            Gathering::Taking(_) => true,
             _ => false,
         }
     }

@@ -6,11 +6,14 @@ mod bytes;
 mod command;
 mod driver;
 mod gathering;
+pub mod laws;
 mod line;
+mod listing;
 mod place;
 mod put;
 mod refusal;
 mod script;
+mod text;
 mod texts;
 
 pub use command::{BadCommand, Command, parse_command};

@@ -1,8 +1,12 @@
 //! Bytes to a writer that may fail. Each function says what has reached the writer, also where it fails.
-ghost use Rattle.std.specs.Prelude.{◌≡◌, ℕ, ◌+◌, ◌-◌, ◌*◌, ◌/◌, ◌%◌, ◌<◌, ◌≤◌, ◌++◌, ◌∷◌, [], List, length, codes, decimal, flat_map};
-ghost use Rattle.sv8_shell.specs.Put.{Puts};
-ghost use Rattle.sv8_shell.specs.Text.{hex_digit, hex_byte, hex_word};
+ghost use Rattle.std.specs.Prelude.{◌≡◌, ℕ, ◌+◌, ◌-◌, ◌<◌, ◌≤◌, ◌++◌, ◌∷◌, [], List, length, flat_map, OnOk};
+ghost use Rattle.std.specs.Io.KnownBytes.{Keeps};
+ghost use Rattle.sv8_shell.specs.Put.{Puts, Gains, refusal_in};
+ghost use Rattle.sv8_shell.specs.Text.{ok_line, refusal_line};
 
+use crate::refusal::Refusal;
+use crate::text::{CAPACITY, Text};
+use crate::texts::{add_ok, add_refusal};
 use std::io::Write;
 
 /// A write or a flush failed, or a write took no byte.
@@ -10,7 +14,7 @@ use std::io::Write;
 pub struct WriteFault;
 
 /// Puts all of these bytes, in as many writes as it takes.
-pub fn put<W: Write>(writer: &mut W, bytes: &[u8]) -> Result<(), WriteFault>
+fn put<W: Write>(writer: &mut W, bytes: &[u8]) -> Result<(), WriteFault>
     ensures { Puts result (W.contents writer.old) (W.contents writer.new) bytes.now }
 {
     let mut rest = bytes;
@@ -27,47 +31,111 @@ pub fn put<W: Write>(writer: &mut W, bytes: &[u8]) -> Result<(), WriteFault>
     Ok(())
 }
 
-fn hex_digit(d: u32) -> u8
-    requires { d < 16 }
-    ensures { result ≡ hex_digit d }
+fn flush<W: Write>(writer: &mut W) -> Result<(), WriteFault>
+    ensures { Keeps (W.contents writer.old) (W.contents writer.new) }
 {
-    if d < 10 { 48 + d as u8 } else { 55 + d as u8 }
+    match writer.flush() {
+        Ok(()) => Ok(()),
+        Err(_) => Err(WriteFault),
+    }
 }
 
-#[tactic(auto, unfolding(crate::specs::Text::hex_byte))]
-pub(crate) fn hex_byte(b: u8) -> [u8; 2]
-    ensures { result ≡ hex_byte b }
+/// Puts a text, which is then empty.
+pub fn put_text<W: Write>(writer: &mut W, text: &mut Text) -> Result<(), WriteFault>
+    ensures gained { Puts result (W.contents writer.old) (W.contents writer.new) text.old }
+    ensures empty { OnOk result (text.new ≡ []) }
 {
-    let b = u32::from(b);
-    [hex_digit(b / 16 % 16), hex_digit(b % 16)]
+    match put(writer, text.as_slice()) {
+        Ok(()) => {
+            text.clear();
+            Ok(())
+        }
+        Err(fault) => Err(fault),
+    }
 }
 
-#[tactic(auto, unfolding(crate::specs::Text::hex_word))]
-pub(crate) fn hex_word(w: u32) -> [u8; 8]
-    ensures { result ≡ hex_word w }
+/// Puts the text where it has no room for so many bytes more.
+pub fn make_room<W: Write>(writer: &mut W, text: &mut Text, wanted: usize) -> Result<(), WriteFault>
+    requires { wanted ≤ 4096 }
+    ensures gained { Gains result (W.contents writer.old) (W.contents writer.new) text.old text.new [] }
+    ensures room { OnOk result (length text.new + wanted ≤ 4096) }
 {
-    [
-        hex_digit(w / 268_435_456 % 16),
-        hex_digit(w / 16_777_216 % 16),
-        hex_digit(w / 1_048_576 % 16),
-        hex_digit(w / 65_536 % 16),
-        hex_digit(w / 4_096 % 16),
-        hex_digit(w / 256 % 16),
-        hex_digit(w / 16 % 16),
-        hex_digit(w % 16),
-    ]
+    if text.room() >= wanted {
+        return Ok(());
+    }
+    put_text(writer, text)
 }
 
-/// Puts each piece in turn.
-pub fn put_all<W: Write>(writer: &mut W, pieces: &[&[u8]]) -> Result<(), WriteFault>
-    ensures { Puts result (W.contents writer.old) (W.contents writer.new)
+/// Adds bytes, which are put by themselves where they are more than the buffer holds.
+fn add_long<W: Write>(writer: &mut W, text: &mut Text, bytes: &[u8]) -> Result<(), WriteFault>
+    ensures { Gains result (W.contents writer.old) (W.contents writer.new) text.old text.new bytes.now }
+{
+    match make_room(writer, text, bytes.len().min(CAPACITY)) {
+        Ok(()) => {}
+        Err(fault) => return Err(fault),
+    }
+    if bytes.len() <= text.room() {
+        text.add(bytes);
+        return Ok(());
+    }
+    put(writer, bytes)
+}
+
+/// Adds each piece in turn.
+pub fn add_all<W: Write>(
+    writer: &mut W,
+    text: &mut Text,
+    pieces: &[&[u8]],
+) -> Result<(), WriteFault>
+    ensures { Gains result (W.contents writer.old) (W.contents writer.new) text.old text.new
         (flat_map (λ piece. piece.now) pieces.now) }
 {
     for piece in pieces {
-        match put(writer, piece) {
+        match add_long(writer, text, piece) {
             Ok(()) => {}
             Err(fault) => return Err(fault),
         }
     }
     Ok(())
+}
+
+/// Puts the end of an answer, and flushes.
+fn send<W: Write>(writer: &mut W, text: &mut Text) -> Result<(), WriteFault>
+    ensures { Puts result (W.contents writer.old) (W.contents writer.new) text.old }
+{
+    match put_text(writer, text) {
+        Ok(()) => flush(writer),
+        Err(fault) => Err(fault),
+    }
+}
+
+/// Ends the answer to an accepted command.
+pub fn accept<W: Write>(writer: &mut W, text: &mut Text) -> Result<(), WriteFault>
+    ensures { Puts result (W.contents writer.old) (W.contents writer.new) (text.old ++ ok_line) }
+{
+    match make_room(writer, text, 3) {
+        Ok(()) => {
+            add_ok(text);
+            send(writer, text)
+        }
+        Err(fault) => Err(fault),
+    }
+}
+
+/// The whole answer to a command that is done and tells nothing.
+pub fn done<W: Write>(writer: &mut W) -> Result<(), WriteFault>
+    ensures { Puts result (W.contents writer.old) (W.contents writer.new) ok_line }
+{
+    let mut text = Text::new();
+    accept(writer, &mut text)
+}
+
+/// The whole answer to a refused command.
+pub fn refuse<W: Write>(writer: &mut W, refusal: Refusal) -> Result<(), WriteFault>
+    requires { length refusal.name.now ≤ 16 }
+    ensures { Puts result (W.contents writer.old) (W.contents writer.new) (refusal_line (refusal_in refusal)) }
+{
+    let mut text = Text::new();
+    add_refusal(&mut text, refusal);
+    send(writer, &mut text)
 }

@@ -1,19 +1,18 @@
 //! What each line of a script does.
 ghost use Rattle.std.specs.Prelude.{◌≡◌, ℕ, ◌+◌, ◌-◌, ◌<◌, ◌≤◌, ◌++◌, ◌∷◌, [], List, Option, length, Some, None};
 ghost use Rattle.sv8_bench.specs.Kept.{Kept};
-ghost use Rattle.sv8_shell.specs.Parse.{words_of};
-ghost use Rattle.sv8_shell.specs.Script.{Stage, step, step_of_line, step_of_words, step_of_command, step_of_edit, text_of};
-ghost use Rattle.sv8_shell.specs.Gathers.{IsAt, IsKept, Steps, idle_after};
+ghost use Rattle.sv8_shell.specs.Words.{words_of};
+ghost use Rattle.sv8_shell.specs.Script.{Stage, step, step_of_line, step_of_words, step_of_command, step_of_edit, stage_after, text_of};
+ghost use Rattle.sv8_shell.specs.Gathers.{IsAt, IsKept, Steps, idle_after, is_taking};
 
-use crate::answers::{
-    answer_bad, answer_edit, answer_list, answer_lost_edit, answer_quit, answer_regs,
-};
+use crate::answers::{answer, answer_edit};
 use crate::command::{Command, next_word, parse_command};
 use crate::gathering::{Gathering, Pending};
-use crate::put::WriteFault;
+use crate::put::{WriteFault, refuse};
+use crate::refusal::{bad_command, refusal_of};
 use std::alloc::Global;
 use std::io::Write;
-use sv8_bench::Bench;
+use sv8_bench::{Bench, BenchFault};
 
 /// Takes a line, and answers the order that it completes.
 pub fn take_line<const NW: usize, const PAGES: usize, const K: u32, W: Write>(
@@ -56,22 +55,16 @@ fn begin<const NW: usize, const PAGES: usize, const K: u32, W: Write>(
         (step_of_line line.now) bench.new }
 {
     if line.len() > 4_096 {
-        return begin_bad(bench, writer);
+        return begin_bad(writer);
     }
     begin_text(alloc, bench, writer, without_cr(line))
 }
 
-fn begin_bad<const NW: usize, const PAGES: usize, const K: u32, W: Write>(
-    bench: &mut Bench<NW, PAGES, K>,
-    writer: &mut W,
-) -> Result<Gathering, WriteFault>
-    ensures { Steps result (W.contents writer.old) (W.contents writer.new) bench.old
-        (step_of_command None) bench.new }
+/// A line that is no command.
+fn begin_bad<W: Write>(writer: &mut W) -> Result<Gathering, WriteFault>
+    ensures { (kept : Kept) → Steps result (W.contents writer.old) (W.contents writer.new) kept (step_of_command None) kept }
 {
-    match answer_bad(bench, writer) {
-        Ok(()) => Ok(Gathering::Idle),
-        Err(fault) => Err(fault),
-    }
+    idle(refuse(writer, bad_command()))
 }
 
 fn begin_text<const NW: usize, const PAGES: usize, const K: u32, W: Write>(
@@ -89,7 +82,7 @@ fn begin_text<const NW: usize, const PAGES: usize, const K: u32, W: Write>(
     }
     match parse_command(text) {
         Ok(command) => obey(alloc, bench, writer, command),
-        Err(_) => begin_bad(bench, writer),
+        Err(_) => begin_bad(writer),
     }
 }
 
@@ -102,24 +95,29 @@ fn obey<const NW: usize, const PAGES: usize, const K: u32, W: Write>(
     ensures { Steps result (W.contents writer.old) (W.contents writer.new) bench.old
         (step_of_command (Some command)) bench.new }
 {
+    let next = gathering_after(alloc, &command);
+    if next.is_taking() {
+        return Ok(next);
+    }
+    match answer(bench, writer, command) {
+        Ok(()) => Ok(next),
+        Err(fault) => Err(fault),
+    }
+}
+
+/// What waits after a command.
+fn gathering_after(alloc: Global, command: &Command) -> Gathering
+    ensures { IsAt result (stage_after command.now) }
+{
     match command {
-        Command::Edit { first, last, count } => {
-            if count == 0 {
-                return idle(answer_edit(bench, writer, first, last, &[]));
-            }
-            Ok(Gathering::Taking(Pending {
-                first,
-                last,
-                left: count,
-                lines: Some(Vec::new(alloc)),
-            }))
-        }
-        Command::Listing => idle(answer_list(bench, writer)),
-        Command::Regs(n) => idle(answer_regs(bench, writer, n)),
-        Command::Quit => match answer_quit(bench, writer) {
-            Ok(()) => Ok(Gathering::Over),
-            Err(fault) => Err(fault),
-        },
+        Command::Edit { first, last, count } if *count > 0 => Gathering::Taking(Pending {
+            first: *first,
+            last: *last,
+            left: *count,
+            lines: Some(Vec::new(alloc)),
+        }),
+        Command::Quit => Gathering::Over,
+        _ => Gathering::Idle,
     }
 }
 
@@ -161,7 +159,7 @@ fn go_on<const NW: usize, const PAGES: usize, const K: u32, W: Write>(
     }
     match lines {
         Some(lines) => idle(answer_edit(bench, writer, first, last, &lines)),
-        None => idle(answer_lost_edit(bench, writer)),
+        None => idle(refuse(writer, refusal_of(BenchFault::OutOfMemory))),
     }
 }
 

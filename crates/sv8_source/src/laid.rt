@@ -3,10 +3,11 @@
 //! The layout pass reads each line, gives its names their values and finds the location of each line. The value pass
 //! then assembles each line, now that all names are known, so that a line may use a name that a later one defines.
 
-ghost use Rattle.std.specs.Prelude.{◌≡◌, ℕ, ℤ, ◌+◌, ◌-◌, ◌^◌, ◌<◌, ◌⊎◌, List, [], ◌++◌, ◌∷◌, IsOk, IfOk, OnOk, MatchResult, Ok, Err, vec_items, length, pos, map, All};
+ghost use Rattle.std.specs.Prelude.{◌≡◌, ℕ, ℤ, ◌+◌, ◌-◌, ◌^◌, ◌<◌, ◌⊎◌, List, [], ◌++◌, ◌∷◌, IsOk, IfSome, IfOk, OnOk, MatchResult, Ok, Err, vec_items, length, pos, map, All};
+ghost use Rattle.sv8_syntax.specs.Names.{IsLabel, Defines};
 ghost use Rattle.sv8_asm.specs.Size.{size};
 ghost use Rattle.sv8_asm.specs.Code.{bytes};
-ghost use Rattle.sv8_source.specs.Layout.{define, define_label, moved, admitted, with_stmt, with_line, laid, valued, start, HasSize};
+ghost use Rattle.sv8_source.specs.Layout.{define, define_label, define_equ, moved, admitted, with_stmt, with_line, laid, valued, start, HasSize};
 ghost use Rattle.sv8_source.specs.Spaced.{Spaced, next_at};
 ghost use Rattle.sv8_source.specs.Listing.{shown};
 ghost use Rattle.sv8_source.specs.Image.{Rising};
@@ -15,8 +16,8 @@ ghost use Rattle.sv8_source.specs.Text.{texts, place_texts};
 use crate::fault::{SourceFault, in_line};
 use std::alloc::{AllocError, Global};
 use std::marker::Model;
-use sv8_asm::{Symbols, assemble, size_of};
-use sv8_syntax::{LineFault, Name, Stmt, parse_line};
+use sv8_asm::{Symbols, assemble, constant, size_of};
+use sv8_syntax::{Label, LineFault, Name, Statement, Stmt, parse_line};
 
 /// A line with what it was read as, and the location before its statement.
 #[derive(Drop)]
@@ -82,19 +83,46 @@ fn define(alloc: Global, name: &Name, value: i64, symbols: &mut Symbols) -> Resu
 /// Gives a label the location before its line's statement.
 fn define_label(
     alloc: Global,
-    label: &Option<Name>,
+    label: &Option<Label>,
+    line: u32,
     at: u32,
     symbols: &mut Symbols,
 ) -> Result<(), LineFault>
-    ensures { MatchResult result (λ _. define_label label.now at symbols.old ≡ Ok symbols.new)
-        (λ e. (e ≡ LineFault.OutOfMemory) ⊎ (define_label label.now at symbols.old ≡ Err e)) }
+    requires { IfSome label.now IsLabel }
+    ensures { MatchResult result (λ _. define_label label.now line at symbols.old ≡ Ok symbols.new)
+        (λ e. (e ≡ LineFault.OutOfMemory) ⊎ (define_label label.now line at symbols.old ≡ Err e)) }
 {
     match label {
         None => Ok(()),
-        Some(name) => {
+        Some(Label::Name(name)) => {
             define(alloc, name, i64::from(at), symbols)?;
             Ok(())
         }
+        Some(Label::Local(digit)) => {
+            symbols.define_local(*digit, line, at)?;
+            Ok(())
+        }
+    }
+}
+
+/// Gives the name of `.equ` its number.
+fn define_equ(
+    alloc: Global,
+    statement: &Option<Statement>,
+    symbols: &mut Symbols,
+) -> Result<(), LineFault>
+    ensures { MatchResult result (λ _. define_equ statement.now symbols.old ≡ Ok symbols.new)
+        (λ e. (e ≡ LineFault.OutOfMemory) ⊎ (define_equ statement.now symbols.old ≡ Err e)) }
+{
+    match statement {
+        Some(Statement::Equ { name, value }) => match constant(value) {
+            None => Err(LineFault::UnknownName),
+            Some(value) => {
+                define(alloc, name, value, symbols)?;
+                Ok(())
+            }
+        },
+        _ => Ok(()),
     }
 }
 
@@ -118,16 +146,19 @@ fn moved(limit: u32, at: u32, size: u32) -> Result<u32, LineFault>
 fn admit(
     alloc: Global,
     limit: u32,
+    line: u32,
     at: u32,
     stmt: &Stmt,
     symbols: &mut Symbols,
 ) -> Result<u32, LineFault>
-    ensures value { MatchResult result (λ next. admitted limit at stmt.now symbols.old ≡ Ok (symbols.new, next))
-        (λ e. (e ≡ LineFault.OutOfMemory) ⊎ (admitted limit at stmt.now symbols.old ≡ Err e)) }
+    requires { Defines stmt.now }
+    ensures value { MatchResult result (λ next. admitted limit line at stmt.now symbols.old ≡ Ok (symbols.new, next))
+        (λ e. (e ≡ LineFault.OutOfMemory) ⊎ (admitted limit line at stmt.now symbols.old ≡ Err e)) }
     ensures sized { IfOk result (λ _. IsOk (size stmt.now at)) }
     ensures next { IfOk result (λ next. next ≡ next_at stmt.now at) }
 {
-    define_label(alloc, &stmt.label, at, symbols)?;
+    define_label(alloc, &stmt.label, line, at, symbols)?;
+    define_equ(alloc, &stmt.statement, symbols)?;
     let size = size_of(stmt, at)?;
     let next = moved(limit, at, size)?;
     Ok(next)
@@ -143,7 +174,7 @@ fn code_of(alloc: Global, places: &[Placed], symbols: &Symbols) -> Result<Vec<Ve
     let mut code = Vec::new(alloc);
     let mut number = 1;
     for place in places {
-        match assemble(alloc, &place.stmt, place.at, symbols) {
+        match assemble(alloc, &place.stmt, number, place.at, symbols) {
             Ok(bytes) => code.push(bytes).map_err(AllocError::from)?,
             Err(fault) => return Err(in_line(number, fault)),
         }
@@ -169,13 +200,15 @@ impl Laid {
         &mut self,
         alloc: Global,
         limit: u32,
+        line: u32,
         text: &[u8],
         stmt: Stmt,
     ) -> Result<(), LineFault>
-        ensures { MatchResult result (λ _. with_stmt limit text.now stmt self.old ≡ Ok self.new)
-            (λ e. (e ≡ LineFault.OutOfMemory) ⊎ (with_stmt limit text.now stmt self.old ≡ Err e)) }
+        requires { Defines stmt }
+        ensures { MatchResult result (λ _. with_stmt limit line text.now stmt self.old ≡ Ok self.new)
+            (λ e. (e ≡ LineFault.OutOfMemory) ⊎ (with_stmt limit line text.now stmt self.old ≡ Err e)) }
     {
-        let next = admit(alloc, limit, self.at, &stmt, &mut self.symbols)?;
+        let next = admit(alloc, limit, line, self.at, &stmt, &mut self.symbols)?;
         let text = Vec::from_slice(alloc, text)?;
         self.places
             .push(Placed {
@@ -190,12 +223,18 @@ impl Laid {
 
     /// One more line.
     #[tactic(auto, unfolding(crate::specs::Layout::with_line))]
-    fn add_line(&mut self, alloc: Global, limit: u32, text: &[u8]) -> Result<(), LineFault>
-        ensures { MatchResult result (λ _. with_line limit text.now self.old ≡ Ok self.new)
-            (λ e. (e ≡ LineFault.OutOfMemory) ⊎ (with_line limit text.now self.old ≡ Err e)) }
+    fn add_line(
+        &mut self,
+        alloc: Global,
+        limit: u32,
+        line: u32,
+        text: &[u8],
+    ) -> Result<(), LineFault>
+        ensures { MatchResult result (λ _. with_line limit line text.now self.old ≡ Ok self.new)
+            (λ e. (e ≡ LineFault.OutOfMemory) ⊎ (with_line limit line text.now self.old ≡ Err e)) }
     {
         let stmt = parse_line(alloc, text)?;
-        self.add_stmt(alloc, limit, text, stmt)?;
+        self.add_stmt(alloc, limit, line, text, stmt)?;
         Ok(())
     }
 
@@ -214,7 +253,7 @@ impl Laid {
     {
         let mut number = first;
         for line in lines {
-            match self.add_line(alloc, limit, line) {
+            match self.add_line(alloc, limit, number, line) {
                 Ok(()) => {}
                 Err(fault) => return Err(in_line(number, fault)),
             }

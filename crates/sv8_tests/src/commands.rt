@@ -8,15 +8,25 @@ fn lines_that_are_commands(rt: HostRuntime) -> Result<(), Fail> {
     assert!(rt; matches!(parse_command(b"list"), Ok(Command::Listing)));
     assert!(rt; matches!(parse_command(b"quit"), Ok(Command::Quit)));
     assert!(rt; matches!(parse_command(b"\t list \t"), Ok(Command::Listing)));
-    assert!(rt; matches!(parse_command(b"regs 0"), Ok(Command::Regs(0))));
-    assert!(rt; matches!(parse_command(b"regs 1000001"), Ok(Command::Regs(1_000_001))));
+    assert!(rt; matches!(parse_command(b"regs 0"), Ok(Command::Regs { step: 0 })));
+    assert!(rt;
+        matches!(
+            parse_command(b"regs 1000001"),
+            Ok(Command::Regs { step: 1_000_001 })
+        )
+    );
     assert!(rt;
         matches!(
             parse_command(b"regs 4294967295"),
-            Ok(Command::Regs(u32::MAX))
+            Ok(Command::Regs { step: u32::MAX })
         )
     );
-    assert!(rt; matches!(parse_command(b"regs 0000000007"), Ok(Command::Regs(7))));
+    assert!(rt;
+        matches!(
+            parse_command(b"regs 0000000007"),
+            Ok(Command::Regs { step: 7 })
+        )
+    );
     assert!(rt;
         matches!(
             parse_command(b"edit 1 0 4"),

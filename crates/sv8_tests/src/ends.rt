@@ -2,6 +2,7 @@
 
 ghost use Rattle.std.specs.Prelude.{◌<◌, Some};
 
+use std::cell::Cell;
 use std::io::{self, ErrorKind, Read, Write};
 
 /// Gives a text in pieces of at most `most` bytes, and fails once its calls are used up.
@@ -68,5 +69,73 @@ impl Read for Endless {
     fn read(&mut self, buf: &mut [u8]) -> io::Result<usize> {
         buf.fill(b'a');
         Ok(buf.len())
+    }
+}
+
+/// How many bytes of the answers are due once `given` bytes of the script have been read.
+pub fn due(commands: &[(usize, usize)], given: usize) -> usize {
+    let mut answered = 0;
+    for (script_end, answer_end) in commands {
+        if *script_end <= given {
+            answered = *answer_end;
+        }
+    }
+    answered
+}
+
+/// How many bytes of a script have been given, and how many bytes of the answers have been flushed.
+#[derive(Drop)]
+pub struct Log {
+    pub given: Cell<usize>,
+    pub flushed: Cell<usize>,
+}
+
+/// Gives a text in pieces of at most `most` bytes. Before each it looks whether the answers that are due have been flushed,
+/// and nothing else has; if not, it fails.
+#[derive(Drop)]
+pub struct WatchingGiver<'a> {
+    pub rest: &'a [u8],
+    pub most: usize,
+    pub log: &'a Log,
+    /// Each command of the script: where its last line ends, and where its answer ends.
+    pub commands: &'a [(usize, usize)],
+    ghost gives: { 0 < most },
+}
+
+impl Read for WatchingGiver<'_> {
+    ghost remaining = { λ r. Some r.rest.now };
+
+    fn read(&mut self, buf: &mut [u8]) -> io::Result<usize> {
+        if self.log.flushed.get() != due(self.commands, self.log.given.get()) {
+            return Err(io::Error::from(ErrorKind::Other));
+        }
+        let n = self.most.min(self.rest.len()).min(buf.len());
+        buf[..n].copy_from_slice(&self.rest[..n]);
+        self.rest = &self.rest[n..];
+        self.log.given.set(self.log.given.get().saturating_add(n));
+        Ok(n)
+    }
+}
+
+/// Takes all bytes, and notes in the log how many have been flushed.
+#[derive(Drop)]
+pub struct NotingTaker<'a> {
+    pub bytes: Vec<u8>,
+    pub log: &'a Log,
+}
+
+impl Write for NotingTaker<'_> {
+    ghost contents = { λ w. Some w.bytes.items };
+
+    fn write(&mut self, buf: &[u8]) -> io::Result<usize> {
+        match self.bytes.extend_from_slice(buf) {
+            Ok(()) => Ok(buf.len()),
+            Err(_) => Err(io::Error::from(ErrorKind::OutOfMemory)),
+        }
+    }
+
+    fn flush(&mut self) -> io::Result<()> {
+        self.log.flushed.set(self.bytes.len());
+        Ok(())
     }
 }

@@ -1,7 +1,8 @@
 //! Readers and writers that fail, at each of their calls.
 
-use crate::ends::{Endless, Giver, Taker};
+use crate::ends::{Endless, Giver, Log, NotingTaker, Taker, WatchingGiver, due};
 use crate::scripts::{FIRST, FIRST_ANSWERS};
+use std::cell::Cell;
 use std::test::Fail;
 use sv8_bench::Bench;
 use sv8_shell::{RunFault, run};
@@ -11,15 +12,30 @@ type Small = Bench<8, 1, 256>;
 /// Each command of the first run: where its last line ends in the script, and where its answer ends in the answers.
 const COMMANDS: [(usize, usize); 4] = [(58, 3), (63, 137), (70, 619), (75, 622)];
 
-/// How many bytes of the answers are due once `given` bytes of the script have been read.
-fn due(given: usize) -> usize {
-    let mut answered = 0;
-    for (script_end, answer_end) in COMMANDS {
-        if script_end <= given {
-            answered = answer_end;
-        }
+#[test]
+fn answers_are_flushed_before_the_next_read(rt: HostRuntime) -> Result<(), Fail> {
+    for most in [1, 7, 58, 64] {
+        let mut bench = Small::new(rt.alloc())?;
+        let log = Log {
+            given: Cell::new(0),
+            flushed: Cell::new(0),
+        };
+        let mut reader = WatchingGiver {
+            rest: FIRST,
+            most,
+            log: &log,
+            commands: &COMMANDS,
+        };
+        let mut writer = NotingTaker {
+            bytes: Vec::new(rt.alloc()),
+            log: &log,
+        };
+        let ended = run(rt.alloc(), &mut bench, &mut reader, &mut writer);
+        assert!(rt; ended == Ok(()));
+        assert!(rt; writer.bytes.as_slice() == FIRST_ANSWERS);
+        assert!(rt; log.flushed.get() == FIRST_ANSWERS.len());
     }
-    answered
+    Ok(())
 }
 
 /// Whether bytes are the first part of the answers, of this length.
@@ -44,7 +60,7 @@ fn each_read_of_the_first_run_fails(rt: HostRuntime) -> Result<(), Fail> {
         let ended = run(rt.alloc(), &mut bench, &mut reader, &mut writer);
         let whole = calls == FIRST.len();
         assert!(rt; ended == if whole { Ok(()) } else { Err(RunFault::Read) });
-        assert!(rt; is_first_part(writer.bytes.as_slice(), due(calls)));
+        assert!(rt; is_first_part(writer.bytes.as_slice(), due(&COMMANDS, calls)));
     }
     Ok(())
 }

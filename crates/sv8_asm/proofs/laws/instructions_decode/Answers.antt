@@ -1,5 +1,5 @@
-use Rattle.sv8_asm.proofs.Decodes.{instruction_decodes}
+use Rattle.sv8_asm.proofs.Decodes.{decode}
 use Rattle.sv8_asm.proofs.laws.instructions_decode.Goals as goal
 
 pub returns : goal.returns
-returns c = instruction_decodes
+returns c = decode

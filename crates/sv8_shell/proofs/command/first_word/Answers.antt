@@ -1,7 +1,7 @@
 use Rattle.std.proofs.Common.{◌≡◌, ◌∙◌, length, sym, arith, refl}
 use Rattle.std.proofs.lemmas.List.{take_rest}
-use Rattle.sv8_shell.specs.Parse.{words_of}
-use Rattle.sv8_shell.proofs.ParseLemmas.{word-ends, word-whole}
+use Rattle.sv8_shell.specs.Words.{words_of}
+use Rattle.sv8_shell.proofs.WordLemmas.{word-ends, word-whole}
 use Rattle.sv8_shell.proofs.command.first_word.Goals as goal
 
 pub loop-end-init : goal.loop-end-init

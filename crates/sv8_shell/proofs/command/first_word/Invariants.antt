@@ -1,5 +1,5 @@
 use Rattle.std.proofs.Common.{◌≡◌, take, drop}
-use Rattle.sv8_shell.specs.Parse.{words_of, words_from}
+use Rattle.sv8_shell.specs.Words.{words_of, words_from}
 use Rattle.sv8_shell.proofs.command.first_word.Given as goal
 
 abbrev pub invariant-loop-end : goal.invariant-loop-end

@@ -1,6 +1,6 @@
 use Rattle.std.proofs.Common.{◌≡◌, true, get_or, arith, rules}
-use Rattle.sv8_shell.specs.Parse.{is_gap}
-use Rattle.sv8_shell.proofs.ParseLemmas.{words_of-rest, words_of-none}
+use Rattle.sv8_shell.specs.Words.{is_gap}
+use Rattle.sv8_shell.proofs.WordLemmas.{words_of-rest, words_of-none}
 use Rattle.sv8_shell.proofs.command.next_word.Goals as goal
 
 pub loop-rest-preserved : goal.loop-rest-preserved

@@ -1,5 +1,5 @@
 use Rattle.std.proofs.Common.{◌≡◌, length}
-use Rattle.sv8_shell.specs.Parse.{words_of}
+use Rattle.sv8_shell.specs.Words.{words_of}
 use Rattle.sv8_shell.proofs.command.next_word.Given as goal
 
 abbrev pub invariant-loop-rest : goal.invariant-loop-rest

@@ -1,5 +1,5 @@
 use Rattle.std.proofs.Common.{◌≡◌, ◌+◌, ◌^◌, ◌≤◌, drop}
-use Rattle.sv8_shell.specs.Parse.{digits_from}
+use Rattle.sv8_shell.specs.Words.{digits_from}
 use Rattle.sv8_shell.proofs.command.number.Given as goal
 
 abbrev pub invariant-loop-b : goal.invariant-loop-b

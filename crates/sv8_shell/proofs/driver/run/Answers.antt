@@ -1,5 +1,5 @@
 use Rattle.std.proofs.Common.{sym, ◌∙◌, arith, length-take}
-use Rattle.sv8_shell.proofs.RunLemmas.{Ran-start, Ran-more, run-quit, end-within, quit-bounds, stop-read, stop-write, stop-too_long, stop-too_many}
+use Rattle.sv8_shell.proofs.RunLemmas.{Ran-start, Ran-more, run-read, run-quit, end-within, quit-bounds, stop-read, stop-write, stop-too_long, stop-too_many, stop-no_quit}
 use Rattle.sv8_shell.proofs.driver.run.Goals as goal
 
 pub loop-turn-init : goal.loop-turn-init
@@ -25,6 +25,10 @@ pub returns-in-Err-take_piece-clause-too_many : goal.returns-in-Err-take_piece-c
 returns-in-Err-take_piece-clause-too_many g c =
     stop-too_many _ _ _ _ _ _ _ _ _ _ _ _ _ c.loop-turn.invariant c.in-Ok.ensures.bytes.0 c.in-Err-take_piece.fault (c.in-Err-take_piece.ensures _ _ _ c.loop-turn.invariant.progress)
 
+pub returns-in-Err-take_piece-clause-no_quit : goal.returns-in-Err-take_piece-clause-no_quit
+returns-in-Err-take_piece-clause-no_quit g c =
+    stop-no_quit _ _ _ _ _ _ _ _ _ _ _ _ _ c.loop-turn.invariant c.in-Ok.ensures.bytes.0 c.in-Err-take_piece.fault (c.in-Err-take_piece.ensures _ _ _ c.loop-turn.invariant.progress)
+
 pub loop-turn-preserved : goal.loop-turn-preserved
 loop-turn-preserved g c =
     Ran-more _ _ _ _ _ _ _ _ _ _ _ _ _ _ _ c.loop-turn.invariant c.in-Ok.ensures.bytes.0 (omega (arith, length-take c.in-Ok.count c.read.new.buf, c.in-Ok.ensures.bound)) (sym c.is_over.ensures ∙ c.if-is_over.false) (c.in-Ok-take_piece.ensures _ _ _ c.loop-turn.invariant.progress)
@@ -36,3 +40,6 @@ returns-in-Ok-finish-clause-within g c =
 pub returns-then-is_over-clause-within : goal.returns-then-is_over-clause-within
 returns-then-is_over-clause-within g c =
     quit-bounds _ _ _ _ _ _ _ _ _ _ _ _ _ _ _ c.loop-turn.invariant c.take_piece.new.place.few_lines c.take_piece.new.place.few_bytes c.in-Ok.ensures.bytes.0 (sym c.is_over.ensures ∙ c.if-is_over.true) (c.in-Ok-take_piece.ensures _ _ _ c.loop-turn.invariant.progress)
+
+pub returns-in-Err-clause-read : goal.returns-in-Err-clause-read
+returns-in-Err-clause-read g c = run-read _ _ _ _ _ _ _ _ _ _ c.loop-turn.invariant c.in-Err.ensures.bytes

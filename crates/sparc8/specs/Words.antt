@@ -1,0 +1,48 @@
+-- What the words of the command line choose. `matches_of` of clap's definitions is what a command line makes of words.
+use Rattle.std.specs.Prelude.{◌≡◌, ℕ, List, [], ◌∷◌, Option, Some, None, map, codes, bytes_eq, if◌then◌else◌, true}
+use Rattle.clap.specs.Words.{App, Rule, Text, first_of, matches_of, new_rule, with_rule}
+use Rattle.clap.specs.Simple.{new_shape}
+use Rattle.clap.specs.declared.builder.value_parser.ValueParser.{ValueParser}
+use Rattle.clap.specs.declared.builder.value_parser.ValueParser.TheVariants.{Names}
+
+-- one of these five words
+abbrev pub IsFiveCounts : ValueParser → Type 0
+IsFiveCounts (Names names) = map (λ name. name.now) names.now ≡ codes "2" ∷ codes "4" ∷ codes "8" ∷ codes "16" ∷ codes "32" ∷ []
+IsFiveCounts other = ⊥
+
+-- `--windows N`, 8 where it is left out
+abbrev pub windows_rule : ValueParser → Rule
+windows_rule counts = record (new_rule (codes "windows")) { long = Some (codes "windows"); value_names = 1; defaults = codes "8" ∷ []; parser = Some counts }
+
+abbrev pub script_rule : Rule
+script_rule = new_rule (codes "SCRIPT")
+
+-- `[--windows N] [SCRIPT]`, without the program's name in front
+abbrev pub command_line : ValueParser → App
+command_line counts =
+    let bare : App = record { top = record (new_shape (codes "sparc8")) { no_binary_name = true }; subs = [] } in
+    with_rule (with_rule bare (windows_rule counts)) script_rule
+
+-- the program's command line
+abbrev pub IsSparc8 : App → Type 0
+IsSparc8 app = (counts : ValueParser) × IsFiveCounts counts × (app ≡ command_line counts)
+
+-- the number that one of the five words names; 8 for any other
+abbrev pub count_of : Text → ℕ
+count_of word =
+    if bytes_eq word (codes "2") then 2
+    else (if bytes_eq word (codes "4") then 4
+    else (if bytes_eq word (codes "16") then 16
+    else (if bytes_eq word (codes "32") then 32 else 8)))
+
+-- the number of windows where `--windows` has this value, or none
+abbrev pub windows_of : Option Text → ℕ
+windows_of (Some word) = count_of word
+windows_of None = 8
+
+-- the windows and the script that words choose
+pub record Chooses (words : List Text) (windows : ℕ) (script : Option Text) : Type 0 where
+  pub counts : ValueParser
+  pub five : IsFiveCounts counts
+  pub windows_is : windows ≡ windows_of (first_of (codes "windows") (matches_of (command_line counts) words))
+  pub script_is : script ≡ first_of (codes "SCRIPT") (matches_of (command_line counts) words)

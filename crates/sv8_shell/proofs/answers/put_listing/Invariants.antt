@@ -1,8 +1,0 @@
-use Rattle.std.proofs.Common.{take}
-use Rattle.std.specs.Io.KnownBytes.{Appends}
-use Rattle.sv8_source.specs.Listing.{listing}
-use Rattle.sv8_shell.specs.Text.{numbered_text, listing_line}
-use Rattle.sv8_shell.proofs.answers.put_listing.Given as goal
-
-abbrev pub invariant-loop-place : goal.invariant-loop-place
-invariant-loop-place g l = Appends (g.W.Write.contents l.initial.writer) (g.W.Write.contents l.writer) (numbered_text listing_line 1 (take l.place (listing l.bench.source)))
