@@ -1,10 +1,2 @@
-pub mod Table
-pub mod Percents
-pub mod Mnemonics
-pub mod Token
-pub mod Spelling
-pub mod Grammar
 pub mod Registers
-pub mod Lexing
-pub mod Reading
-pub mod Outcome
+pub mod Faults
