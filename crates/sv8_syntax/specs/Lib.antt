@@ -1,2 +1,15 @@
-pub mod Registers
+pub mod Table
 pub mod Faults
+pub mod Percents
+pub mod Mnemonics
+pub mod Token
+pub mod Spelling
+pub mod Lexing
+pub mod Registers
+pub mod Address
+pub mod Operand
+pub mod Escapes
+pub mod Forms
+pub mod Grammar
+pub mod Reading
+pub mod Outcome

@@ -1,0 +1,10 @@
+pub mod Steps
+pub mod Loops
+pub mod Words
+pub mod Cut
+pub mod Tokens
+pub mod Parts
+pub mod Split
+pub mod Read
+pub mod Written
+pub mod Lines
