@@ -8,3 +8,4 @@ pub mod Split
 pub mod Read
 pub mod Written
 pub mod Lines
+pub mod Defined

@@ -9,7 +9,9 @@ pub mod Registers
 pub mod Address
 pub mod Operand
 pub mod Escapes
+pub mod Taking
 pub mod Forms
+pub mod Names
 pub mod Grammar
 pub mod Reading
 pub mod Outcome

@@ -10,6 +10,7 @@ use Rattle.sv8_syntax.specs.declared.statement.Motion.TheVariants as motion
 use Rattle.sv8_syntax.specs.declared.register.Register.TheVariants as r
 use Rattle.sv8_syntax.specs.declared.statement.Width.TheVariants as width
 use Rattle.sv8_syntax.specs.Table.{Row, row}
+use Rattle.sv8_syntax.specs.declared.mnemonic.Directive.TheVariants as directive
 use Rattle.sv8_syntax.specs.declared.mnemonic.Shape.{Shape}
 use Rattle.sv8_syntax.specs.declared.mnemonic.Shape.TheVariants as shape
 
@@ -148,12 +149,12 @@ mnemonics =
     row (codes "clrb") (shape.ClearAt memory.Stb) ∷
     row (codes "clrh") (shape.ClearAt memory.Sth) ∷
     row (codes "mov") shape.Mov ∷
-    row (codes "set") shape.Set ∷
-    row (codes ".org") (shape.Motion motion.Org) ∷
-    row (codes ".skip") (shape.Motion motion.Skip) ∷
-    row (codes ".align") (shape.Motion motion.Align) ∷
-    row (codes ".byte") (shape.Data width.Byte) ∷
-    row (codes ".half") (shape.Data width.Half) ∷
-    row (codes ".word") (shape.Data width.Word) ∷
-    row (codes ".ascii") shape.Ascii ∷
-    row (codes ".equ") shape.Equ ∷ []
+    row (codes "set") (shape.Directive directive.Set) ∷
+    row (codes ".org") (shape.Directive (directive.Motion motion.Org)) ∷
+    row (codes ".skip") (shape.Directive (directive.Motion motion.Skip)) ∷
+    row (codes ".align") (shape.Directive (directive.Motion motion.Align)) ∷
+    row (codes ".byte") (shape.Directive (directive.Data width.Byte)) ∷
+    row (codes ".half") (shape.Directive (directive.Data width.Half)) ∷
+    row (codes ".word") (shape.Directive (directive.Data width.Word)) ∷
+    row (codes ".ascii") (shape.Directive directive.Ascii) ∷
+    row (codes ".equ") (shape.Directive directive.Equ) ∷ []

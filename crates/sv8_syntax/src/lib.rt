@@ -1,8 +1,10 @@
 //! One line of assembler text to a statement.
 #![tactic(auto)]
 
+mod directive;
 mod fault;
 mod form;
+mod instruction;
 mod lexer;
 mod line;
 mod mnemonic;

@@ -5,6 +5,7 @@ ghost use Rattle.sv8_syntax.specs.declared.fault.LineFault.TheVariants.{OutOfMem
 ghost use Rattle.sv8_syntax.specs.Token.{views};
 ghost use Rattle.sv8_syntax.specs.Operand.{operand_views};
 ghost use Rattle.sv8_syntax.specs.Spelling.{AllPass};
+ghost use Rattle.sv8_syntax.specs.Names.{Defines};
 ghost use Rattle.sv8_syntax.specs.Grammar.{ReadsAs, IsFault, is_text_byte};
 ghost use Rattle.sv8_syntax.specs.Outcome.{Gives, part_len, parts_behind};
 ghost use Rattle.sv8_syntax.specs.Reading.{parts, parts_of, operands_of, shaped, behind_annul, flagged, statement_of, label_front, line_of, reading};
@@ -178,6 +179,8 @@ pub fn parse_line(alloc: Global, text: &[u8]) -> Result<Stmt, LineFault>
     ensures found { IfOk result (λ s. ReadsAs text.now s) }
     // Any other outcome is a fault of the text, the least one, or want of memory.
     ensures fault { IfErr result (λ e. IsFault text.now e) }
+    // A name that the line defines is no reference to a local label, and a label's digit is below 10.
+    ensures defines { IfOk result (λ s. Defines s) }
     // The outcome rests on the text alone, unless memory ran out.
     ensures reading { MatchResult result (λ s. reading text.now ≡ Ok s) (λ e. (e ≡ OutOfMemory) ⊎ (reading text.now ≡ Err e)) }
 {

@@ -9,7 +9,17 @@ use crate::statement::{Motion, Operation, Width};
 use crate::table::{Entry, find};
 use sv8_isa::{ArithOp, Cond, MemoryOp, ShiftOp, TaggedOp};
 
-/// What follows a mnemonic.
+/// A directive, or `set`, which is no single instruction.
+#[derive(Clone, Copy)]
+pub enum Directive {
+    Set,
+    Motion(Motion),
+    Data(Width),
+    Ascii,
+    Equ,
+}
+
+/// What follows a mnemonic, and what its forms share.
 #[derive(Clone, Copy)]
 pub enum Shape {
     Three(Operation),
@@ -40,11 +50,7 @@ pub enum Shape {
     Clear,
     ClearAt(MemoryOp),
     Mov,
-    Set,
-    Motion(Motion),
-    Data(Width),
-    Ascii,
-    Equ,
+    Directive(Directive),
 }
 
 macro_rules! entries {
@@ -186,15 +192,15 @@ const MNEMONICS: [Entry<Shape>; 141] = entries! {
     b"clrb" => Shape::ClearAt(MemoryOp::Stb),
     b"clrh" => Shape::ClearAt(MemoryOp::Sth),
     b"mov" => Shape::Mov,
-    b"set" => Shape::Set,
-    b".org" => Shape::Motion(Motion::Org),
-    b".skip" => Shape::Motion(Motion::Skip),
-    b".align" => Shape::Motion(Motion::Align),
-    b".byte" => Shape::Data(Width::Byte),
-    b".half" => Shape::Data(Width::Half),
-    b".word" => Shape::Data(Width::Word),
-    b".ascii" => Shape::Ascii,
-    b".equ" => Shape::Equ,
+    b"set" => Shape::Directive(Directive::Set),
+    b".org" => Shape::Directive(Directive::Motion(Motion::Org)),
+    b".skip" => Shape::Directive(Directive::Motion(Motion::Skip)),
+    b".align" => Shape::Directive(Directive::Motion(Motion::Align)),
+    b".byte" => Shape::Directive(Directive::Data(Width::Byte)),
+    b".half" => Shape::Directive(Directive::Data(Width::Half)),
+    b".word" => Shape::Directive(Directive::Data(Width::Word)),
+    b".ascii" => Shape::Directive(Directive::Ascii),
+    b".equ" => Shape::Directive(Directive::Equ),
 };
 
 /// The shape of the statements of a mnemonic.

@@ -51,7 +51,10 @@ pub enum Instruction {
     /// CALL (Appendix B.24). The target is an address.
     Call(Expr),
     /// SETHI (Appendix B.9); `nop` is one of 0 to `%g0` (Appendix B.10).
-    Sethi { value: Upper, rd: Register },
+    Sethi {
+        value: Upper,
+        rd: Register,
+    },
     /// UNIMP (Appendix B.31).
     Unimp(u32),
 }

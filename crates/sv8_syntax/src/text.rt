@@ -4,7 +4,7 @@ ghost use Rattle.std.specs.Prelude.{◌≡◌, false};
 ghost use Rattle.sv8_syntax.specs.Operand.{operand_view};
 ghost use Rattle.sv8_syntax.specs.Outcome.{Gives};
 ghost use Rattle.sv8_syntax.specs.Escapes.{escape_of, resolved};
-ghost use Rattle.sv8_syntax.specs.Forms.{text_in};
+ghost use Rattle.sv8_syntax.specs.Taking.{text_in};
 
 use crate::fault::LineFault::{self, Syntax};
 use crate::operand::Operand;
@@ -49,7 +49,7 @@ fn resolved(alloc: Global, text: &[u8]) -> Result<Vec<u8>, LineFault>
 }
 
 /// The bytes of a text between quotes.
-#[tactic(auto, unfolding(crate::specs::Forms::text_in))]
+#[tactic(auto, unfolding(crate::specs::Taking::text_in))]
 pub fn text_in(alloc: Global, operand: Operand<'_>) -> Result<Text, LineFault>
     ensures { Gives (λ t. t) result (text_in (operand_view operand.entry)) }
 {

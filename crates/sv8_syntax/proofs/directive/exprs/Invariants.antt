@@ -1,8 +1,8 @@
 use Rattle.std.proofs.Common.{◌≡◌, ◌++◌, drop, length, Some}
 use Rattle.sv8_syntax.specs.Operand.{operand_views}
-use Rattle.sv8_syntax.specs.Forms.{exprs_in}
+use Rattle.sv8_syntax.specs.Taking.{exprs_in}
 use Rattle.sv8_syntax.specs.Lexing.{◌>>=◌}
-use Rattle.sv8_syntax.proofs.form.exprs.Given as goal
+use Rattle.sv8_syntax.proofs.directive.exprs.Given as goal
 
 abbrev pub invariant-loop-operand : goal.invariant-loop-operand
 invariant-loop-operand l = record {
