@@ -15,3 +15,4 @@ pub mod Names
 pub mod Grammar
 pub mod Reading
 pub mod Outcome
+pub mod Worked
