@@ -1,5 +1,5 @@
 -- What a line that was read defines is a name of its own, or a digit.
-use Rattle.std.proofs.Common.{◌≡◌, ℕ, ◌-◌, ◌<◌, ◌≤◌, Bool, true, false, cond, leb, List, [], ◌∷◌, Option, Some, None, refl, subst, arith}
+use Rattle.std.proofs.Common.{◌≡◌, ℕ, ◌-◌, ◌<◌, Bool, true, false, cond, leb, List, [], ◌∷◌, Option, Some, None, refl, subst, arith}
 use Rattle.std.specs.Prelude.{IfSome, IfOk, Result, Ok, Err}
 use Rattle.std.proofs.lemmas.Bool.{leb-true}
 use Rattle.sv8_syntax.specs.declared.fault.LineFault.{LineFault}
@@ -19,7 +19,7 @@ use Rattle.sv8_syntax.specs.Spelling.{is_digit, is_reference, Spells, label_text
 use Rattle.sv8_syntax.specs.Lexing.{◌>>=◌}
 use Rattle.sv8_syntax.specs.Taking.{register_in, expr_in, number_in, text_in, name_of, name_in, is_signed, signed_in, exprs_in}
 use Rattle.sv8_syntax.specs.Forms.{instruction_of, set_of, motion_of, data_of, ascii_of, equ_of, directive_of, directive_in, directive_or_instruction, form_of}
-use Rattle.sv8_syntax.specs.Names.{IsLabel, IsConstant, IsDefinition, Defines}
+use Rattle.sv8_syntax.specs.Names.{IsConstant, IsDefinition, Defines}
 use Rattle.sv8_syntax.specs.Grammar.{IsStatement, blank, stated, stated_annulled, IsLine, unlabelled, labelled, numbered, ReadsAs}
 use Rattle.sv8_syntax.proofs.Steps.{bind_some, some_is, test_true}
 use Rattle.sv8_syntax.proofs.Words.{and_true}

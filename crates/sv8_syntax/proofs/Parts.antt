@@ -1,5 +1,5 @@
 -- Parts between commas.
-use Rattle.std.proofs.Common.{◌≡◌, ℕ, suc, ◌+◌, ◌<◌, ◌≤◌, Bool, true, false, cond, List, [], ◌∷◌, ◌++◌, length, take, drop, Option, Some, None, refl, sym, ap, subst, ◌∙◌, add-one, arith}
+use Rattle.std.proofs.Common.{◌≡◌, ℕ, suc, ◌+◌, ◌<◌, ◌≤◌, Bool, true, false, cond, List, [], ◌∷◌, ◌++◌, length, take, drop, None, refl, sym, ap, subst, ◌∙◌, add-one, arith}
 use Rattle.std.specs.List.{AllByRecursion}
 use Rattle.sv8_syntax.specs.declared.token.Token.{Token as Held}
 use Rattle.sv8_syntax.specs.Token.{views, Token, Word, Mark, Local}

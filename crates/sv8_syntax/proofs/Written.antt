@@ -20,7 +20,7 @@ use Rattle.sv8_syntax.specs.Spelling.{is_reference}
 use Rattle.sv8_syntax.specs.declared.statement.Label.{Label}
 use Rattle.sv8_syntax.specs.declared.statement.Label.TheVariants as label
 use Rattle.sv8_syntax.specs.Token.{Token, Word, Number, Percent, Mark, Local}
-use Rattle.sv8_syntax.specs.Grammar.{blank, stated, stated_annulled, unlabelled, labelled, numbered, register, expression, in_parentheses, immediate, register_or_immediate, place, spelled, joined, IsStatement, IsLine, line}
+use Rattle.sv8_syntax.specs.Grammar.{blank, stated, stated_annulled, unlabelled, labelled, numbered, register, expression, in_parentheses, immediate, register_or_immediate, place, spelled, IsStatement, IsLine, line}
 use Rattle.sv8_syntax.specs.Lexing.{◌>>=◌}
 use Rattle.sv8_syntax.specs.Reading.{ended, closed, expr_front, parenthesized_front, imm_front, source_front, behind_immediate, address_front, bracketed_operand, high_operand, plain_operand, marked_operand, operand_of, operands_of, shaped, behind_annul, flagged, statement_of, label_front, line_of}
 use Rattle.sv8_syntax.proofs.Parts.{HasNoComma, HasNoComma-append, HaveNoComma, AreParts, parts_none, parts_some, parts_of-joined, parts-no_annul, starts_with_label, statement-no_label}

@@ -1,22 +1,18 @@
 -- The forms: the statement of each shape with its operands. The grammar and the reader both use `form_of`.
-use Rattle.std.specs.Prelude.{ℕ, List, [], ◌∷◌, Bool, true, false, Option, Some, None, if◌then◌else◌}
+use Rattle.std.specs.Prelude.{ℕ, List, [], ◌∷◌, true, false, Option, Some, None, if◌then◌else◌}
 use Rattle.sv8_isa.specs.declared.instr.ArithOp.TheVariants as arith
 use Rattle.sv8_isa.specs.declared.instr.MemoryOp.{MemoryOp}
 use Rattle.sv8_isa.specs.declared.instr.MemoryOp.TheVariants as memory
-use Rattle.sv8_isa.specs.declared.instr.StateRegister.{StateRegister}
 use Rattle.sv8_syntax.specs.declared.mnemonic.Directive.{Directive}
 use Rattle.sv8_syntax.specs.declared.mnemonic.Directive.TheVariants as directive
 use Rattle.sv8_syntax.specs.declared.mnemonic.Shape.{Shape}
 use Rattle.sv8_syntax.specs.declared.mnemonic.Shape.TheVariants as shape
 use Rattle.sv8_syntax.specs.declared.register.Register.{Register}
 use Rattle.sv8_syntax.specs.declared.register.Register.TheVariants as r
-use Rattle.sv8_syntax.specs.declared.value.Expr.{Expr}
 use Rattle.sv8_syntax.specs.declared.value.Expr.TheVariants as expr
-use Rattle.sv8_syntax.specs.declared.value.Imm.{Imm}
 use Rattle.sv8_syntax.specs.declared.value.Imm.TheVariants as imm
 use Rattle.sv8_syntax.specs.declared.value.RegOrImm.{RegOrImm}
 use Rattle.sv8_syntax.specs.declared.value.RegOrImm.TheVariants as source
-use Rattle.sv8_syntax.specs.declared.value.Upper.{Upper}
 use Rattle.sv8_syntax.specs.declared.value.Upper.TheVariants as upper
 use Rattle.sv8_syntax.specs.declared.statement.Operation.{Operation}
 use Rattle.sv8_syntax.specs.declared.statement.Operation.TheVariants as operation
@@ -26,11 +22,8 @@ use Rattle.sv8_syntax.specs.declared.statement.Statement.{Statement}
 use Rattle.sv8_syntax.specs.declared.statement.Statement.TheVariants as statement
 use Rattle.sv8_syntax.specs.declared.statement.Motion.{Motion}
 use Rattle.sv8_syntax.specs.declared.statement.Width.{Width}
-use Rattle.sv8_syntax.specs.Address.{Address}
 use Rattle.sv8_syntax.specs.Operand.{Operand}
-use Rattle.sv8_syntax.specs.Spelling.{is_reference}
 use Rattle.sv8_syntax.specs.Lexing.{◌>>=◌}
-use Rattle.sv8_syntax.specs.Escapes.{resolved}
 use Rattle.sv8_syntax.specs.Taking.{register_in, source_in, imm_in, expr_in, number_in, count_in, place_in, is_bracketed, bracketed_in, starts_with_register, alternate_in, is_state, state_in, upper_in, trap_in, text_in, name_in, signed_in, exprs_in}
 
 -- ---- instructions, by the number of operands

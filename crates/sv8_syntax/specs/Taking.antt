@@ -1,9 +1,6 @@
 -- What an operand is taken as.
 use Rattle.std.specs.Prelude.{ℕ, List, [], ◌∷◌, Bool, true, false, Option, Some, None, if◌then◌else◌}
-use Rattle.sv8_isa.specs.declared.instr.MemoryOp.{MemoryOp}
 use Rattle.sv8_isa.specs.declared.instr.StateRegister.{StateRegister}
-use Rattle.sv8_syntax.specs.declared.mnemonic.Directive.{Directive}
-use Rattle.sv8_syntax.specs.declared.mnemonic.Shape.{Shape}
 use Rattle.sv8_syntax.specs.declared.register.Register.{Register}
 use Rattle.sv8_syntax.specs.declared.register.Register.TheVariants as r
 use Rattle.sv8_syntax.specs.declared.value.Expr.{Expr}
@@ -14,11 +11,6 @@ use Rattle.sv8_syntax.specs.declared.value.RegOrImm.{RegOrImm}
 use Rattle.sv8_syntax.specs.declared.value.RegOrImm.TheVariants as source
 use Rattle.sv8_syntax.specs.declared.value.Upper.{Upper}
 use Rattle.sv8_syntax.specs.declared.value.Upper.TheVariants as upper
-use Rattle.sv8_syntax.specs.declared.statement.Operation.{Operation}
-use Rattle.sv8_syntax.specs.declared.statement.Instruction.{Instruction}
-use Rattle.sv8_syntax.specs.declared.statement.Statement.{Statement}
-use Rattle.sv8_syntax.specs.declared.statement.Motion.{Motion}
-use Rattle.sv8_syntax.specs.declared.statement.Width.{Width}
 use Rattle.sv8_syntax.specs.Address.{Address}
 use Rattle.sv8_syntax.specs.Operand.{Operand}
 use Rattle.sv8_syntax.specs.Address as address

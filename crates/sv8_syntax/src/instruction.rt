@@ -102,67 +102,72 @@ fn none(shape: Shape) -> Result<Instruction, LineFault>
 
 /// `call`, to an address that begins with a register.
 #[tactic(auto, unfolding(crate::specs::Forms::linked))]
-fn linked(alloc: Global, a: Operand<'_>) -> Result<Instruction, LineFault>
-    ensures { Gives (λ i. i) result (linked (operand_view a.entry)) }
+fn linked(alloc: Global, target: Operand<'_>) -> Result<Instruction, LineFault>
+    ensures { Gives (λ i. i) result (linked (operand_view target.entry)) }
 {
-    let (rs1, source) = place_in(a).ok_or(Syntax)?;
+    let (rs1, source) = place_in(target).ok_or(Syntax)?;
     format3(alloc, Operation::Jmpl, Register::O7, rs1, source)
 }
 
 /// `call`, to an expression.
 #[tactic(auto, unfolding(crate::specs::Forms::called))]
-fn called(alloc: Global, a: Operand<'_>) -> Result<Instruction, LineFault>
-    ensures { Gives (λ i. i) result (called (operand_view a.entry)) }
+fn called(alloc: Global, target: Operand<'_>) -> Result<Instruction, LineFault>
+    ensures { Gives (λ i. i) result (called (operand_view target.entry)) }
 {
-    let target = expr_in(a).ok_or(Syntax)?.owned(alloc)?;
+    let target = expr_in(target).ok_or(Syntax)?.owned(alloc)?;
     Ok(Instruction::Call(target))
 }
 
 #[tactic(auto, unfolding(crate::specs::Forms::call_of))]
-fn call(alloc: Global, a: Operand<'_>) -> Result<Instruction, LineFault>
-    ensures { Gives (λ i. i) result (call_of (operand_view a.entry)) }
+fn call(alloc: Global, target: Operand<'_>) -> Result<Instruction, LineFault>
+    ensures { Gives (λ i. i) result (call_of (operand_view target.entry)) }
 {
-    if starts_with_register(a) {
-        linked(alloc, a)
+    if starts_with_register(target) {
+        linked(alloc, target)
     } else {
-        called(alloc, a)
+        called(alloc, target)
     }
 }
 
 /// `clr`, `clrh` or `clrb` of an address.
 #[tactic(auto, unfolding(crate::specs::Forms::cleared_at))]
-fn cleared_at(alloc: Global, op: MemoryOp, a: Operand<'_>) -> Result<Instruction, LineFault>
-    ensures { Gives (λ i. i) result (cleared_at op (operand_view a.entry)) }
+fn cleared_at(alloc: Global, op: MemoryOp, place: Operand<'_>) -> Result<Instruction, LineFault>
+    ensures { Gives (λ i. i) result (cleared_at op (operand_view place.entry)) }
 {
-    let (rs1, source) = bracketed_in(a).ok_or(Syntax)?;
+    let (rs1, source) = bracketed_in(place).ok_or(Syntax)?;
     format3(alloc, Operation::Memory(op), Register::G0, rs1, source)
 }
 
 /// `clr` of a register.
 #[tactic(auto, unfolding(crate::specs::Forms::cleared))]
-fn cleared(d: Operand<'_>) -> Result<Instruction, LineFault>
-    ensures { Gives (λ i. i) result (cleared (operand_view d.entry)) }
+fn cleared(to: Operand<'_>) -> Result<Instruction, LineFault>
+    ensures { Gives (λ i. i) result (cleared (operand_view to.entry)) }
 {
-    let rd = register_in(d).ok_or(Syntax)?;
+    let rd = register_in(to).ok_or(Syntax)?;
     Ok(of_registers(OR, rd, Register::G0, Register::G0))
 }
 
 #[tactic(auto, unfolding(crate::specs::Forms::clear_of))]
-fn clear(alloc: Global, a: Operand<'_>) -> Result<Instruction, LineFault>
-    ensures { Gives (λ i. i) result (clear_of (operand_view a.entry)) }
+fn clear(alloc: Global, operand: Operand<'_>) -> Result<Instruction, LineFault>
+    ensures { Gives (λ i. i) result (clear_of (operand_view operand.entry)) }
 {
-    if is_bracketed(a) {
-        cleared_at(alloc, MemoryOp::St, a)
+    if is_bracketed(operand) {
+        cleared_at(alloc, MemoryOp::St, operand)
     } else {
-        cleared(a)
+        cleared(operand)
     }
 }
 
 #[tactic(auto, unfolding(crate::specs::Forms::one_of))]
-fn branch(alloc: Global, cond: Cond, annul: bool, a: Operand<'_>) -> Result<Instruction, LineFault>
-    ensures { Gives (λ i. i) result (one_of (kind.Branch cond annul) (operand_view a.entry)) }
+fn branch(
+    alloc: Global,
+    cond: Cond,
+    annul: bool,
+    operand: Operand<'_>,
+) -> Result<Instruction, LineFault>
+    ensures { Gives (λ i. i) result (one_of (kind.Branch cond annul) (operand_view operand.entry)) }
 {
-    let target = expr_in(a).ok_or(Syntax)?.owned(alloc)?;
+    let target = expr_in(operand).ok_or(Syntax)?.owned(alloc)?;
     Ok(Instruction::Branch {
         cond,
         annul,
@@ -171,77 +176,78 @@ fn branch(alloc: Global, cond: Cond, annul: bool, a: Operand<'_>) -> Result<Inst
 }
 
 #[tactic(auto, unfolding(crate::specs::Forms::one_of))]
-fn trap(alloc: Global, cond: Cond, a: Operand<'_>) -> Result<Instruction, LineFault>
-    ensures { Gives (λ i. i) result (one_of (kind.Trap cond) (operand_view a.entry)) }
+fn trap(alloc: Global, cond: Cond, operand: Operand<'_>) -> Result<Instruction, LineFault>
+    ensures { Gives (λ i. i) result (one_of (kind.Trap cond) (operand_view operand.entry)) }
 {
-    let (rs1, source) = trap_in(a).ok_or(Syntax)?;
+    let (rs1, source) = trap_in(operand).ok_or(Syntax)?;
     format3(alloc, Operation::Trap(cond), Register::G0, rs1, source)
 }
 
+/// `jmp`, `rett` and `flush`.
 #[tactic(auto, unfolding(crate::specs::Forms::one_of))]
-fn to(alloc: Global, op: Operation, a: Operand<'_>) -> Result<Instruction, LineFault>
-    ensures { Gives (λ i. i) result (one_of (kind.To op) (operand_view a.entry)) }
+fn to(alloc: Global, op: Operation, operand: Operand<'_>) -> Result<Instruction, LineFault>
+    ensures { Gives (λ i. i) result (one_of (kind.To op) (operand_view operand.entry)) }
 {
-    let (rs1, source) = place_in(a).ok_or(Syntax)?;
+    let (rs1, source) = place_in(operand).ok_or(Syntax)?;
     format3(alloc, op, Register::G0, rs1, source)
 }
 
 #[tactic(auto, unfolding(crate::specs::Forms::one_of))]
-fn unimp(a: Operand<'_>) -> Result<Instruction, LineFault>
-    ensures { Gives (λ i. i) result (one_of kind.Unimp (operand_view a.entry)) }
+fn unimp(operand: Operand<'_>) -> Result<Instruction, LineFault>
+    ensures { Gives (λ i. i) result (one_of kind.Unimp (operand_view operand.entry)) }
 {
-    let number = number_in(a).ok_or(Syntax)?;
+    let number = number_in(operand).ok_or(Syntax)?;
     Ok(Instruction::Unimp(number))
 }
 
 #[tactic(auto, unfolding(crate::specs::Forms::one_of))]
-fn test(op: Operation, a: Operand<'_>) -> Result<Instruction, LineFault>
-    ensures { Gives (λ i. i) result (one_of (kind.Test op) (operand_view a.entry)) }
+fn test(op: Operation, operand: Operand<'_>) -> Result<Instruction, LineFault>
+    ensures { Gives (λ i. i) result (one_of (kind.Test op) (operand_view operand.entry)) }
 {
-    let rs2 = register_in(a).ok_or(Syntax)?;
+    let rs2 = register_in(operand).ok_or(Syntax)?;
     Ok(of_registers(op, Register::G0, Register::G0, rs2))
 }
 
 #[tactic(auto, unfolding(crate::specs::Forms::one_of))]
-fn not_self(op: Operation, d: Operand<'_>) -> Result<Instruction, LineFault>
-    ensures { Gives (λ i. i) result (one_of (kind.Not op) (operand_view d.entry)) }
+fn not_self(op: Operation, to: Operand<'_>) -> Result<Instruction, LineFault>
+    ensures { Gives (λ i. i) result (one_of (kind.Not op) (operand_view to.entry)) }
 {
-    let rd = register_in(d).ok_or(Syntax)?;
+    let rd = register_in(to).ok_or(Syntax)?;
     Ok(of_registers(op, rd, rd, Register::G0))
 }
 
 #[tactic(auto, unfolding(crate::specs::Forms::one_of))]
-fn negate_self(op: Operation, d: Operand<'_>) -> Result<Instruction, LineFault>
-    ensures { Gives (λ i. i) result (one_of (kind.Negate op) (operand_view d.entry)) }
+fn negate_self(op: Operation, to: Operand<'_>) -> Result<Instruction, LineFault>
+    ensures { Gives (λ i. i) result (one_of (kind.Negate op) (operand_view to.entry)) }
 {
-    let rd = register_in(d).ok_or(Syntax)?;
+    let rd = register_in(to).ok_or(Syntax)?;
     Ok(of_registers(op, rd, Register::G0, rd))
 }
 
 #[tactic(auto, unfolding(crate::specs::Forms::one_of))]
-fn step_by_one(op: Operation, d: Operand<'_>) -> Result<Instruction, LineFault>
-    ensures { Gives (λ i. i) result (one_of (kind.Step op) (operand_view d.entry)) }
+fn step_by_one(op: Operation, to: Operand<'_>) -> Result<Instruction, LineFault>
+    ensures { Gives (λ i. i) result (one_of (kind.Step op) (operand_view to.entry)) }
 {
-    let rd = register_in(d).ok_or(Syntax)?;
+    let rd = register_in(to).ok_or(Syntax)?;
     Ok(of_number(op, rd, rd, 1))
 }
 
 #[tactic(auto, unfolding(crate::specs::Forms::one_of))]
-fn one(alloc: Global, shape: Shape, a: Operand<'_>) -> Result<Instruction, LineFault>
-    ensures { Gives (λ i. i) result (one_of shape (operand_view a.entry)) }
+fn one(alloc: Global, shape: Shape, operand: Operand<'_>) -> Result<Instruction, LineFault>
+    ensures { Gives (λ i. i) result (one_of shape (operand_view operand.entry)) }
 {
     match shape {
-        Shape::Branch { cond, annul } => branch(alloc, cond, annul, a),
-        Shape::Trap(cond) => trap(alloc, cond, a),
-        Shape::Call => call(alloc, a),
-        Shape::To(op) => to(alloc, op, a),
-        Shape::Unimp => unimp(a),
-        Shape::Test(op) => test(op, a),
-        Shape::Not(op) => not_self(op, a),
-        Shape::Negate(op) => negate_self(op, a),
-        Shape::Step(op) => step_by_one(op, a),
-        Shape::ClearAt(op) => cleared_at(alloc, op, a),
-        Shape::Clear => clear(alloc, a),
+        Shape::Branch { cond, annul } => branch(alloc, cond, annul, operand),
+        Shape::Trap(cond) => trap(alloc, cond, operand),
+        Shape::Call => call(alloc, operand),
+        Shape::To(op) => to(alloc, op, operand),
+        Shape::Unimp => unimp(operand),
+        Shape::Test(op) => test(op, operand),
+        Shape::Not(op) => not_self(op, operand),
+        Shape::Negate(op) => negate_self(op, operand),
+        Shape::Step(op) => step_by_one(op, operand),
+        Shape::ClearAt(op) => cleared_at(alloc, op, operand),
+        Shape::Clear => clear(alloc, operand),
         _ => Err(Syntax),
     }
 }
@@ -251,23 +257,27 @@ fn one(alloc: Global, shape: Shape, a: Operand<'_>) -> Result<Instruction, LineF
 fn access(
     alloc: Global,
     op: MemoryOp,
-    d: Operand<'_>,
-    a: Operand<'_>,
+    register: Operand<'_>,
+    place: Operand<'_>,
 ) -> Result<Instruction, LineFault>
-    ensures { Gives (λ i. i) result (access op (operand_view d.entry) (operand_view a.entry)) }
+    ensures { Gives (λ i. i) result (access op (operand_view register.entry) (operand_view place.entry)) }
 {
-    let rd = register_in(d).ok_or(Syntax)?;
-    let (rs1, source) = bracketed_in(a).ok_or(Syntax)?;
+    let rd = register_in(register).ok_or(Syntax)?;
+    let (rs1, source) = bracketed_in(place).ok_or(Syntax)?;
     format3(alloc, Operation::Memory(op), rd, rs1, source)
 }
 
 /// The same in an alternate space.
 #[tactic(auto, unfolding(crate::specs::Forms::alternate_access))]
-fn alternate_access(op: MemoryOp, d: Operand<'_>, a: Operand<'_>) -> Result<Instruction, LineFault>
-    ensures { Gives (λ i. i) result (alternate_access op (operand_view d.entry) (operand_view a.entry)) }
+fn alternate_access(
+    op: MemoryOp,
+    register: Operand<'_>,
+    place: Operand<'_>,
+) -> Result<Instruction, LineFault>
+    ensures { Gives (λ i. i) result (alternate_access op (operand_view register.entry) (operand_view place.entry)) }
 {
-    let rd = register_in(d).ok_or(Syntax)?;
-    let (rs1, rs2, asi) = alternate_in(a).ok_or(Syntax)?;
+    let rd = register_in(register).ok_or(Syntax)?;
+    let (rs1, rs2, asi) = alternate_in(place).ok_or(Syntax)?;
     Ok(Instruction::Alternate {
         op,
         rd,
@@ -278,31 +288,31 @@ fn alternate_access(op: MemoryOp, d: Operand<'_>, a: Operand<'_>) -> Result<Inst
 }
 
 #[tactic(auto, unfolding(crate::specs::Forms::two_of))]
-fn sethi(alloc: Global, a: Operand<'_>, d: Operand<'_>) -> Result<Instruction, LineFault>
-    ensures { Gives (λ i. i) result (two_of kind.Sethi (operand_view a.entry) (operand_view d.entry)) }
+fn sethi(alloc: Global, value: Operand<'_>, to: Operand<'_>) -> Result<Instruction, LineFault>
+    ensures { Gives (λ i. i) result (two_of kind.Sethi (operand_view value.entry) (operand_view to.entry)) }
 {
-    let rd = register_in(d).ok_or(Syntax)?;
-    let value = upper_in(alloc, a)?;
+    let rd = register_in(to).ok_or(Syntax)?;
+    let value = upper_in(alloc, value)?;
     Ok(Instruction::Sethi { value, rd })
 }
 
 /// `rd`, and `mov` from a state register.
 #[tactic(auto, unfolding(crate::specs::Forms::from_state))]
-fn from_state(c: Operand<'_>, d: Operand<'_>) -> Result<Instruction, LineFault>
-    ensures { Gives (λ i. i) result (from_state (operand_view c.entry) (operand_view d.entry)) }
+fn from_state(from: Operand<'_>, to: Operand<'_>) -> Result<Instruction, LineFault>
+    ensures { Gives (λ i. i) result (from_state (operand_view from.entry) (operand_view to.entry)) }
 {
-    let state = state_in(c).ok_or(Syntax)?;
-    let rd = register_in(d).ok_or(Syntax)?;
+    let state = state_in(from).ok_or(Syntax)?;
+    let rd = register_in(to).ok_or(Syntax)?;
     Ok(of_registers(Operation::Read(state), rd, Register::G0, Register::G0))
 }
 
 /// `mov` to a state register.
 #[tactic(auto, unfolding(crate::specs::Forms::to_state))]
-fn to_state(alloc: Global, c: Operand<'_>, d: Operand<'_>) -> Result<Instruction, LineFault>
-    ensures { Gives (λ i. i) result (to_state (operand_view c.entry) (operand_view d.entry)) }
+fn to_state(alloc: Global, from: Operand<'_>, to: Operand<'_>) -> Result<Instruction, LineFault>
+    ensures { Gives (λ i. i) result (to_state (operand_view from.entry) (operand_view to.entry)) }
 {
-    let state = state_in(d).ok_or(Syntax)?;
-    let source = source_in(c).ok_or(Syntax)?;
+    let state = state_in(to).ok_or(Syntax)?;
+    let source = source_in(from).ok_or(Syntax)?;
     format3(
         alloc,
         Operation::Write(state),
@@ -314,74 +324,79 @@ fn to_state(alloc: Global, c: Operand<'_>, d: Operand<'_>) -> Result<Instruction
 
 /// `mov` to an r register.
 #[tactic(auto, unfolding(crate::specs::Forms::moved))]
-fn moved(alloc: Global, c: Operand<'_>, d: Operand<'_>) -> Result<Instruction, LineFault>
-    ensures { Gives (λ i. i) result (moved (operand_view c.entry) (operand_view d.entry)) }
+fn moved(alloc: Global, from: Operand<'_>, to: Operand<'_>) -> Result<Instruction, LineFault>
+    ensures { Gives (λ i. i) result (moved (operand_view from.entry) (operand_view to.entry)) }
 {
-    let rd = register_in(d).ok_or(Syntax)?;
-    let source = source_in(c).ok_or(Syntax)?;
+    let rd = register_in(to).ok_or(Syntax)?;
+    let source = source_in(from).ok_or(Syntax)?;
     format3(alloc, OR, rd, Register::G0, source)
 }
 
 #[tactic(auto, unfolding(crate::specs::Forms::mov_of))]
-fn mov(alloc: Global, c: Operand<'_>, d: Operand<'_>) -> Result<Instruction, LineFault>
-    ensures { Gives (λ i. i) result (mov_of (operand_view c.entry) (operand_view d.entry)) }
+fn mov(alloc: Global, from: Operand<'_>, to: Operand<'_>) -> Result<Instruction, LineFault>
+    ensures { Gives (λ i. i) result (mov_of (operand_view from.entry) (operand_view to.entry)) }
 {
-    if is_state(c) {
-        from_state(c, d)
-    } else if is_state(d) {
-        to_state(alloc, c, d)
+    if is_state(from) {
+        from_state(from, to)
+    } else if is_state(to) {
+        to_state(alloc, from, to)
     } else {
-        moved(alloc, c, d)
+        moved(alloc, from, to)
     }
 }
 
 #[tactic(auto, unfolding(crate::specs::Forms::two_of))]
-fn jmpl(alloc: Global, a: Operand<'_>, d: Operand<'_>) -> Result<Instruction, LineFault>
-    ensures { Gives (λ i. i) result (two_of kind.Jmpl (operand_view a.entry) (operand_view d.entry)) }
+fn jmpl(alloc: Global, target: Operand<'_>, to: Operand<'_>) -> Result<Instruction, LineFault>
+    ensures { Gives (λ i. i) result (two_of kind.Jmpl (operand_view target.entry) (operand_view to.entry)) }
 {
-    let rd = register_in(d).ok_or(Syntax)?;
-    let (rs1, source) = place_in(a).ok_or(Syntax)?;
+    let rd = register_in(to).ok_or(Syntax)?;
+    let (rs1, source) = place_in(target).ok_or(Syntax)?;
     format3(alloc, Operation::Jmpl, rd, rs1, source)
 }
 
 /// `call` with a number behind it, which is ignored.
 #[tactic(auto, unfolding(crate::specs::Forms::two_of))]
-fn call_with_number(alloc: Global, a: Operand<'_>, n: Operand<'_>) -> Result<Instruction, LineFault>
-    ensures { Gives (λ i. i) result (two_of kind.Call (operand_view a.entry) (operand_view n.entry)) }
+fn call_with_number(
+    alloc: Global,
+    target: Operand<'_>,
+    number: Operand<'_>,
+) -> Result<Instruction, LineFault>
+    ensures { Gives (λ i. i) result (two_of kind.Call (operand_view target.entry) (operand_view number.entry)) }
 {
-    number_in(n).ok_or(Syntax)?;
-    call(alloc, a)
+    number_in(number).ok_or(Syntax)?;
+    call(alloc, target)
 }
 
 #[tactic(auto, unfolding(crate::specs::Forms::two_of))]
-fn not(op: Operation, a: Operand<'_>, d: Operand<'_>) -> Result<Instruction, LineFault>
-    ensures { Gives (λ i. i) result (two_of (kind.Not op) (operand_view a.entry) (operand_view d.entry)) }
+fn not(op: Operation, from: Operand<'_>, to: Operand<'_>) -> Result<Instruction, LineFault>
+    ensures { Gives (λ i. i) result (two_of (kind.Not op) (operand_view from.entry) (operand_view to.entry)) }
 {
-    let rs1 = register_in(a).ok_or(Syntax)?;
-    let rd = register_in(d).ok_or(Syntax)?;
+    let rs1 = register_in(from).ok_or(Syntax)?;
+    let rd = register_in(to).ok_or(Syntax)?;
     Ok(of_registers(op, rd, rs1, Register::G0))
 }
 
 #[tactic(auto, unfolding(crate::specs::Forms::two_of))]
-fn negate(op: Operation, a: Operand<'_>, d: Operand<'_>) -> Result<Instruction, LineFault>
-    ensures { Gives (λ i. i) result (two_of (kind.Negate op) (operand_view a.entry) (operand_view d.entry)) }
+fn negate(op: Operation, from: Operand<'_>, to: Operand<'_>) -> Result<Instruction, LineFault>
+    ensures { Gives (λ i. i) result (two_of (kind.Negate op) (operand_view from.entry) (operand_view to.entry)) }
 {
-    let rs2 = register_in(a).ok_or(Syntax)?;
-    let rd = register_in(d).ok_or(Syntax)?;
+    let rs2 = register_in(from).ok_or(Syntax)?;
+    let rd = register_in(to).ok_or(Syntax)?;
     Ok(of_registers(op, rd, Register::G0, rs2))
 }
 
+/// `inc` and `dec` by a value.
 #[tactic(auto, unfolding(crate::specs::Forms::two_of))]
 fn step(
     alloc: Global,
     op: Operation,
-    a: Operand<'_>,
-    d: Operand<'_>,
+    by: Operand<'_>,
+    to: Operand<'_>,
 ) -> Result<Instruction, LineFault>
-    ensures { Gives (λ i. i) result (two_of (kind.Step op) (operand_view a.entry) (operand_view d.entry)) }
+    ensures { Gives (λ i. i) result (two_of (kind.Step op) (operand_view by.entry) (operand_view to.entry)) }
 {
-    let rd = register_in(d).ok_or(Syntax)?;
-    let by = imm_in(a).ok_or(Syntax)?;
+    let rd = register_in(to).ok_or(Syntax)?;
+    let by = imm_in(by).ok_or(Syntax)?;
     format3(alloc, op, rd, rd, RegOrImmRef::Immediate(by))
 }
 
@@ -390,27 +405,28 @@ fn step(
 fn compared(
     alloc: Global,
     op: Operation,
-    a: Operand<'_>,
-    c: Operand<'_>,
+    first: Operand<'_>,
+    second: Operand<'_>,
 ) -> Result<Instruction, LineFault>
-    ensures { Gives (λ i. i) result (compared op (operand_view a.entry) (operand_view c.entry)) }
+    ensures { Gives (λ i. i) result (compared op (operand_view first.entry) (operand_view second.entry)) }
 {
-    let rs1 = register_in(a).ok_or(Syntax)?;
-    let source = source_in(c).ok_or(Syntax)?;
+    let rs1 = register_in(first).ok_or(Syntax)?;
+    let source = source_in(second).ok_or(Syntax)?;
     format3(alloc, op, Register::G0, rs1, source)
 }
 
+/// `bset`, `bclr` and `btog`.
 #[tactic(auto, unfolding(crate::specs::Forms::two_of))]
 fn update(
     alloc: Global,
     op: Operation,
-    c: Operand<'_>,
-    d: Operand<'_>,
+    by: Operand<'_>,
+    to: Operand<'_>,
 ) -> Result<Instruction, LineFault>
-    ensures { Gives (λ i. i) result (two_of (kind.Update op) (operand_view c.entry) (operand_view d.entry)) }
+    ensures { Gives (λ i. i) result (two_of (kind.Update op) (operand_view by.entry) (operand_view to.entry)) }
 {
-    let rd = register_in(d).ok_or(Syntax)?;
-    let source = source_in(c).ok_or(Syntax)?;
+    let rd = register_in(to).ok_or(Syntax)?;
+    let source = source_in(by).ok_or(Syntax)?;
     format3(alloc, op, rd, rd, source)
 }
 
@@ -418,27 +434,27 @@ fn update(
 fn two(
     alloc: Global,
     shape: Shape,
-    a: Operand<'_>,
-    b: Operand<'_>,
+    first: Operand<'_>,
+    second: Operand<'_>,
 ) -> Result<Instruction, LineFault>
-    ensures { Gives (λ i. i) result (two_of shape (operand_view a.entry) (operand_view b.entry)) }
+    ensures { Gives (λ i. i) result (two_of shape (operand_view first.entry) (operand_view second.entry)) }
 {
     match shape {
-        Shape::Load(op) => access(alloc, op, b, a),
-        Shape::Store(op) => access(alloc, op, a, b),
-        Shape::LoadAlternate(op) => alternate_access(op, b, a),
-        Shape::StoreAlternate(op) => alternate_access(op, a, b),
-        Shape::Sethi => sethi(alloc, a, b),
-        Shape::Read => from_state(a, b),
-        Shape::Jmpl => jmpl(alloc, a, b),
-        Shape::Call => call_with_number(alloc, a, b),
-        Shape::Not(op) => not(op, a, b),
-        Shape::Negate(op) => negate(op, a, b),
-        Shape::Step(op) => step(alloc, op, a, b),
-        Shape::Compare(op) => compared(alloc, op, a, b),
-        Shape::TestBits(op) => compared(alloc, op, b, a),
-        Shape::Update(op) => update(alloc, op, a, b),
-        Shape::Mov => mov(alloc, a, b),
+        Shape::Load(op) => access(alloc, op, second, first),
+        Shape::Store(op) => access(alloc, op, first, second),
+        Shape::LoadAlternate(op) => alternate_access(op, second, first),
+        Shape::StoreAlternate(op) => alternate_access(op, first, second),
+        Shape::Sethi => sethi(alloc, first, second),
+        Shape::Read => from_state(first, second),
+        Shape::Jmpl => jmpl(alloc, first, second),
+        Shape::Call => call_with_number(alloc, first, second),
+        Shape::Not(op) => not(op, first, second),
+        Shape::Negate(op) => negate(op, first, second),
+        Shape::Step(op) => step(alloc, op, first, second),
+        Shape::Compare(op) => compared(alloc, op, first, second),
+        Shape::TestBits(op) => compared(alloc, op, second, first),
+        Shape::Update(op) => update(alloc, op, first, second),
+        Shape::Mov => mov(alloc, first, second),
         _ => Err(Syntax),
     }
 }
@@ -447,15 +463,15 @@ fn two(
 fn three_fields(
     alloc: Global,
     op: Operation,
-    a: Operand<'_>,
-    c: Operand<'_>,
-    d: Operand<'_>,
+    first: Operand<'_>,
+    second: Operand<'_>,
+    to: Operand<'_>,
 ) -> Result<Instruction, LineFault>
-    ensures { Gives (λ i. i) result (three_of (kind.Three op) (operand_view a.entry) (operand_view c.entry) (operand_view d.entry)) }
+    ensures { Gives (λ i. i) result (three_of (kind.Three op) (operand_view first.entry) (operand_view second.entry) (operand_view to.entry)) }
 {
-    let rs1 = register_in(a).ok_or(Syntax)?;
-    let rd = register_in(d).ok_or(Syntax)?;
-    let source = source_in(c).ok_or(Syntax)?;
+    let rs1 = register_in(first).ok_or(Syntax)?;
+    let rd = register_in(to).ok_or(Syntax)?;
+    let source = source_in(second).ok_or(Syntax)?;
     format3(alloc, op, rd, rs1, source)
 }
 
@@ -463,30 +479,30 @@ fn three_fields(
 fn shift(
     alloc: Global,
     op: ShiftOp,
-    a: Operand<'_>,
-    c: Operand<'_>,
-    d: Operand<'_>,
+    first: Operand<'_>,
+    second: Operand<'_>,
+    to: Operand<'_>,
 ) -> Result<Instruction, LineFault>
-    ensures { Gives (λ i. i) result (three_of (kind.Shift op) (operand_view a.entry) (operand_view c.entry) (operand_view d.entry)) }
+    ensures { Gives (λ i. i) result (three_of (kind.Shift op) (operand_view first.entry) (operand_view second.entry) (operand_view to.entry)) }
 {
-    let rs1 = register_in(a).ok_or(Syntax)?;
-    let rd = register_in(d).ok_or(Syntax)?;
-    let count = count_in(c).ok_or(Syntax)?;
+    let rs1 = register_in(first).ok_or(Syntax)?;
+    let rd = register_in(to).ok_or(Syntax)?;
+    let count = count_in(second).ok_or(Syntax)?;
     format3(alloc, Operation::Shift(op), rd, rs1, count)
 }
 
 #[tactic(auto, unfolding(crate::specs::Forms::three_of))]
 fn write_state(
     alloc: Global,
-    a: Operand<'_>,
-    c: Operand<'_>,
-    d: Operand<'_>,
+    first: Operand<'_>,
+    second: Operand<'_>,
+    to: Operand<'_>,
 ) -> Result<Instruction, LineFault>
-    ensures { Gives (λ i. i) result (three_of kind.Write (operand_view a.entry) (operand_view c.entry) (operand_view d.entry)) }
+    ensures { Gives (λ i. i) result (three_of kind.Write (operand_view first.entry) (operand_view second.entry) (operand_view to.entry)) }
 {
-    let rs1 = register_in(a).ok_or(Syntax)?;
-    let state = state_in(d).ok_or(Syntax)?;
-    let source = source_in(c).ok_or(Syntax)?;
+    let rs1 = register_in(first).ok_or(Syntax)?;
+    let state = state_in(to).ok_or(Syntax)?;
+    let source = source_in(second).ok_or(Syntax)?;
     format3(alloc, Operation::Write(state), Register::G0, rs1, source)
 }
 
@@ -494,16 +510,16 @@ fn write_state(
 fn three(
     alloc: Global,
     shape: Shape,
-    a: Operand<'_>,
-    c: Operand<'_>,
-    d: Operand<'_>,
+    first: Operand<'_>,
+    second: Operand<'_>,
+    third: Operand<'_>,
 ) -> Result<Instruction, LineFault>
-    ensures { Gives (λ i. i) result (three_of shape (operand_view a.entry) (operand_view c.entry) (operand_view d.entry)) }
+    ensures { Gives (λ i. i) result (three_of shape (operand_view first.entry) (operand_view second.entry) (operand_view third.entry)) }
 {
     match shape {
-        Shape::Three(op) => three_fields(alloc, op, a, c, d),
-        Shape::Shift(op) => shift(alloc, op, a, c, d),
-        Shape::Write => write_state(alloc, a, c, d),
+        Shape::Three(op) => three_fields(alloc, op, first, second, third),
+        Shape::Shift(op) => shift(alloc, op, first, second, third),
+        Shape::Write => write_state(alloc, first, second, third),
         _ => Err(Syntax),
     }
 }

@@ -22,6 +22,7 @@ pub enum Directive {
 /// What follows a mnemonic, and what its forms share.
 #[derive(Clone, Copy)]
 pub enum Shape {
+    /// A register, a register or an immediate value, and the register for the result.
     Three(Operation),
     Shift(ShiftOp),
     Load(MemoryOp),
@@ -35,16 +36,20 @@ pub enum Shape {
     Trap(Cond),
     Call,
     Jmpl,
+    /// An address alone.
     To(Operation),
     Stbar,
     Unimp,
     Nop,
+    /// A jump to 8 bytes behind the address in that register.
     Return(Register),
     Test(Operation),
     Not(Operation),
     Negate(Operation),
+    /// `inc`, `dec` and their forms with cc: by 1, or by an immediate value.
     Step(Operation),
     TestBits(Operation),
+    /// `bset`, `bclr` and `btog`: a register is read and written.
     Update(Operation),
     Compare(Operation),
     Clear,

@@ -4,8 +4,8 @@ use crate::register::Register;
 use crate::value::{Expr, Exprs, Name, RegOrImm, Text, Upper};
 use sv8_isa::{ArithOp, Cond, MemoryOp, ShiftOp, StateRegister, TaggedOp};
 
-/// What an instruction of format 3 does; those that only name other fields than rd, rs1 and a second source
-/// leave the rest at `%g0`.
+/// What an instruction of format 3 does, by the names of Appendix B. `Trap` is Ticc, `Read` and `Write` are RDY to RDTBR
+/// and WRY to WRTBR, and `Memory` is a load or store, in the address space that the processor's mode gives.
 #[derive(Clone, Copy)]
 pub enum Operation {
     Arith { op: ArithOp, cc: bool },

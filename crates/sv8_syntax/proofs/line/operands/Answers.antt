@@ -1,11 +1,10 @@
-use Rattle.std.proofs.Common.{rules, arith, ◌≡◌, Some, None, [], ◌∷◌, List, ap, ◌∙◌, length, ◌+◌}
+use Rattle.std.proofs.Common.{rules, arith, ◌≡◌, [], ◌∷◌, ap, ◌∙◌}
 use Rattle.std.proofs.lemmas.Result.{err_from_is_err_and}
 use Rattle.sv8_syntax.specs.declared.fault.LineFault.TheVariants.{Syntax}
-use Rattle.sv8_syntax.specs.Token.{Token, views}
-use Rattle.sv8_syntax.specs.Operand.{operand_view, operand_views}
+use Rattle.sv8_syntax.specs.Token.{views}
+use Rattle.sv8_syntax.specs.Operand.{operand_views}
 use Rattle.sv8_syntax.specs.Outcome.{parts_behind}
-use Rattle.sv8_syntax.specs.Reading.{parts_of, operand_of, operands_of}
-use Rattle.sv8_syntax.proofs.Parts.{parts_of_some}
+use Rattle.sv8_syntax.specs.Reading.{parts_of, operands_of}
 use Rattle.sv8_syntax.proofs.Split.{read_none, read_more, count_more, read_end, read_fault, parts-few}
 use Rattle.sv8_syntax.proofs.line.operands.Goals as goal
 
