@@ -7,5 +7,5 @@ pub mod Parts
 pub mod Split
 pub mod Read
 pub mod Written
-pub mod Named
 pub mod Lines
+pub mod Defined

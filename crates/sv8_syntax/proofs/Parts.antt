@@ -1,12 +1,12 @@
--- Operands between commas.
-use Rattle.std.proofs.Common.{◌≡◌, ℕ, suc, ◌+◌, ◌<◌, ◌≤◌, Bool, true, false, cond, List, [], ◌∷◌, ◌++◌, length, take, drop, refl, sym, ap, subst, ◌∙◌, add-one, arith}
+-- Parts between commas.
+use Rattle.std.proofs.Common.{◌≡◌, ℕ, suc, ◌+◌, ◌<◌, ◌≤◌, Bool, true, false, cond, List, [], ◌∷◌, ◌++◌, length, take, drop, None, refl, sym, ap, subst, ◌∙◌, add-one, arith}
 use Rattle.std.specs.List.{AllByRecursion}
 use Rattle.sv8_syntax.specs.declared.token.Token.{Token as Held}
-use Rattle.sv8_syntax.specs.Token.{views, Token, Word, Mark}
+use Rattle.sv8_syntax.specs.Token.{views, Token, Word, Mark, Local}
 use Rattle.sv8_syntax.specs.declared.token.Mark.TheVariants as mark
 use Rattle.sv8_syntax.specs.Grammar.{joined}
 use Rattle.sv8_syntax.specs.Outcome.{part_len}
-use Rattle.sv8_syntax.specs.Reading.{is_comma, put_first, parts, operands_of}
+use Rattle.sv8_syntax.specs.Reading.{is_comma, put_first, parts, parts_of, behind_annul}
 
 pub part_len-le : (ts : List Token) → part_len ts ≤ length ts
 unfolding part_len
@@ -58,10 +58,10 @@ parts-few (t ∷ ts) =
     let le = parts-few ts in
     elim (is_comma t) as (λ v. length (cond v ([] ∷ parts ts) (put_first t (parts ts))) ≤ suc (suc (length ts))) [ true ↦ omega arith | false ↦ put_first-few t (parts ts) (length ts) le ]
 
-pub operands_of-few : (ts : List Token) → length (operands_of ts) ≤ suc (length ts)
-unfolding operands_of
-operands_of-few [] = omega arith
-operands_of-few (t ∷ ts) = parts-few (t ∷ ts)
+pub parts_of-few : (ts : List Token) → length (parts_of ts) ≤ suc (length ts)
+unfolding parts_of
+parts_of-few [] = omega arith
+parts_of-few (t ∷ ts) = parts-few (t ∷ ts)
 
 -- ---- joined again
 
@@ -102,10 +102,10 @@ joined-parts (t ∷ ts) =
     ] in
     all (is_comma t) refl
 
-pub joined-operands_of : (ts : List Token) → joined (operands_of ts) ≡ ts
-unfolding operands_of
-joined-operands_of [] = refl
-joined-operands_of (t ∷ ts) = joined-parts (t ∷ ts)
+pub joined-parts_of : (ts : List Token) → joined (parts_of ts) ≡ ts
+unfolding parts_of
+joined-parts_of [] = refl
+joined-parts_of (t ∷ ts) = joined-parts (t ∷ ts)
 
 -- ---- and apart again, where no operand has a comma
 
@@ -138,53 +138,60 @@ pub parts-joined : (ts : List Token) (os : List (List Token)) → HasNoComma ts 
 parts-joined ts [] h k = parts-one ts h
 parts-joined ts (us ∷ os) h k = parts-more ts (joined (us ∷ os)) h ∙ ap (λ (x : List (List Token)). ts ∷ x) (parts-joined us os k.0 k.1)
 
-operands_of-is : (ts : List Token) (os : List (List Token)) → parts ts ≡ os → (ts ≡ [] → ⊥) → operands_of ts ≡ os
-unfolding operands_of
-operands_of-is [] os e some = absurd (some refl)
-operands_of-is (t ∷ ts) os e some = e
-
--- operands that a line can have: none, or not one that is empty
-pub data AreOperands : List (List Token) → Type 0 where
-  operands_none : AreOperands []
-  operands_full : (t : Token) (ts : List Token) (os : List (List Token)) → HasNoComma (t ∷ ts) → HaveNoComma os → AreOperands ((t ∷ ts) ∷ os)
-  operands_empty : (ts : List Token) (os : List (List Token)) → HasNoComma ts → HaveNoComma os → AreOperands ([] ∷ ts ∷ os)
+parts_of-is : (ts : List Token) (os : List (List Token)) → parts ts ≡ os → (ts ≡ [] → ⊥) → parts_of ts ≡ os
+unfolding parts_of
+parts_of-is [] os e some = absurd (some refl)
+parts_of-is (t ∷ ts) os e some = e
 
 joined-full : (t : Token) (ts : List Token) (os : List (List Token)) → joined ((t ∷ ts) ∷ os) ≡ [] → ⊥
 joined-full t ts [] e = cc
 joined-full t ts (o ∷ os) e = cc
 
-pub operands_of-joined : (os : List (List Token)) → AreOperands os → operands_of (joined os) ≡ os
-unfolding operands_of
-operands_of-joined _ operands_none = refl
-operands_of-joined _ (operands_full t ts os h k) = operands_of-is _ _ (parts-joined (t ∷ ts) os h k) (joined-full t ts os)
-operands_of-joined _ (operands_empty ts os h k) = operands_of-is _ _ (parts-joined [] (ts ∷ os) tt (h, k)) (λ e. let f : Mark mark.Comma ∷ joined (ts ∷ os) ≡ [] = e in cc)
+-- parts that are cut from their own joining: none, or first one that is not empty
+pub data AreParts : List (List Token) → Type 0 where
+  parts_none : AreParts []
+  parts_some : (t : Token) (ts : List Token) (os : List (List Token)) → HasNoComma (t ∷ ts) → HaveNoComma os → AreParts ((t ∷ ts) ∷ os)
 
-pub operands_of_none : (ts : List Held) → length ts ≡ 0 → operands_of (views ts) ≡ []
-unfolding operands_of
-operands_of_none [] e = refl
-operands_of_none (t ∷ ts) e = absurd (omega arith)
+pub parts_of-joined : (os : List (List Token)) → AreParts os → parts_of (joined os) ≡ os
+unfolding parts_of
+parts_of-joined _ parts_none = refl
+parts_of-joined _ (parts_some t ts os h k) = parts_of-is _ _ (parts-joined (t ∷ ts) os h k) (joined-full t ts os)
 
-pub operands_of_some : (ts : List Held) → (length ts ≡ 0 → ⊥) → operands_of (views ts) ≡ parts (views ts)
-unfolding operands_of
-operands_of_some [] some = absurd (some refl)
-operands_of_some (t ∷ ts) some = refl
+pub parts_of_none : (ts : List Held) → length ts ≡ 0 → parts_of (views ts) ≡ []
+unfolding parts_of
+parts_of_none [] e = refl
+parts_of_none (t ∷ ts) e = absurd (omega arith)
+
+pub parts_of_some : (ts : List Held) → (length ts ≡ 0 → ⊥) → parts_of (views ts) ≡ parts (views ts)
+unfolding parts_of
+parts_of_some [] some = absurd (some refl)
+parts_of_some (t ∷ ts) some = refl
 
 -- ---- a statement is no label
 
 abbrev pub starts_with_label : List Token → Bool
 starts_with_label (Word name ∷ Mark mark.Colon ∷ ts) = true
+starts_with_label (Local d ∷ ts) = true
 starts_with_label _ = false
 
 first-no_colon : (name : List ℕ) (t : Token) (ts : List Token) → is_colon t ≡ false → starts_with_label (Word name ∷ t ∷ ts) ≡ false
 first-no_colon name (Mark mark.Colon) ts e = absurd cc
 first-no_colon name _ ts e = refl
 
-pub statement-no_label : (name : List ℕ) (os : List (List Token)) → AreOperands os → starts_with_label (Word name ∷ joined os) ≡ false
-statement-no_label name _ operands_none = refl
-statement-no_label name _ (operands_full t ts [] h k) = first-no_colon name t ts h.0.1
-statement-no_label name _ (operands_full t ts (o ∷ os) h k) = first-no_colon name t (ts ++ Mark mark.Comma ∷ joined (o ∷ os)) h.0.1
-statement-no_label name _ (operands_empty ts os h k) = refl
+pub statement-no_label : (name : List ℕ) (os : List (List Token)) → AreParts os → starts_with_label (Word name ∷ joined os) ≡ false
+statement-no_label name _ parts_none = refl
+statement-no_label name _ (parts_some t ts [] h k) = first-no_colon name t ts h.0.1
+statement-no_label name _ (parts_some t ts (o ∷ os) h k) = first-no_colon name t (ts ++ Mark mark.Comma ∷ joined (o ∷ os)) h.0.1
 
-pub operands_full_of : (ts : List Token) (os : List (List Token)) → (ts ≡ [] → ⊥) → HasNoComma ts → HaveNoComma os → AreOperands (ts ∷ os)
-operands_full_of [] os some h k = absurd (some refl)
-operands_full_of (t ∷ ts) os some h k = operands_full t ts os h k
+-- ---- nor do such parts begin with a comma
+
+first-no_annul : (t : Token) (ts : List Token) → is_comma t ≡ false → behind_annul (t ∷ ts) ≡ None
+unfolding behind_annul
+first-no_annul (Mark mark.Comma) ts e = absurd cc
+first-no_annul _ ts e = refl
+
+pub parts-no_annul : (os : List (List Token)) → AreParts os → behind_annul (joined os) ≡ None
+unfolding behind_annul
+parts-no_annul _ parts_none = refl
+parts-no_annul _ (parts_some t ts [] h k) = first-no_annul t ts h.0.0
+parts-no_annul _ (parts_some t ts (o ∷ os) h k) = first-no_annul t (ts ++ Mark mark.Comma ∷ joined (o ∷ os)) h.0.0

@@ -1,37 +1,36 @@
 -- What is read is written by the grammar.
-use Rattle.std.proofs.Common.{◌≡◌, ℕ, Bool, List, [], ◌∷◌, ◌++◌, map, Option, Some, None, codes, true, false, refl, sym, ap, subst, ◌∙◌, append_assoc}
+use Rattle.std.proofs.Common.{◌≡◌, ℕ, Bool, cond, List, [], ◌∷◌, ◌++◌, map, Option, Some, None, codes, true, false, refl, sym, ap, subst, ◌∙◌, append_assoc}
 use Rattle.std.specs.Str.{bytes_eq}
+use Rattle.std.specs.Option.{option_or}
 use Rattle.std.proofs.lemmas.Slice.Eq.{bytes_eq-Decides}
 use Rattle.std.proofs.lemmas.List.{append-nil}
-use Rattle.sv8_isa.specs.declared.instr.ArithOp.{ArithOp}
-use Rattle.sv8_isa.specs.declared.instr.ArithOp.TheVariants as arith
-use Rattle.sv8_isa.specs.declared.instr.Cond.{Cond}
 use Rattle.sv8_syntax.specs.declared.token.Percent.TheVariants as percent
 use Rattle.sv8_syntax.specs.declared.token.Mark.TheVariants as mark
 use Rattle.sv8_syntax.specs.declared.mnemonic.Shape.{Shape}
-use Rattle.sv8_syntax.specs.declared.mnemonic.Shape.TheVariants as shape
-use Rattle.sv8_syntax.specs.declared.statement.Expr.{Expr}
-use Rattle.sv8_syntax.specs.declared.statement.Expr.TheVariants as expr
-use Rattle.sv8_syntax.specs.declared.statement.Imm.{Imm}
-use Rattle.sv8_syntax.specs.declared.statement.Imm.TheVariants as imm
-use Rattle.sv8_syntax.specs.declared.statement.RegOrImm.{RegOrImm}
-use Rattle.sv8_syntax.specs.declared.statement.RegOrImm.TheVariants as operand
-use Rattle.sv8_syntax.specs.declared.statement.Upper.TheVariants as upper
+use Rattle.sv8_syntax.specs.declared.value.Expr.{Expr}
+use Rattle.sv8_syntax.specs.declared.value.Expr.TheVariants as expr
+use Rattle.sv8_syntax.specs.declared.value.Imm.{Imm}
+use Rattle.sv8_syntax.specs.declared.value.Imm.TheVariants as imm
+use Rattle.sv8_syntax.specs.declared.value.RegOrImm.{RegOrImm}
+use Rattle.sv8_syntax.specs.declared.value.RegOrImm.TheVariants as source
+use Rattle.sv8_syntax.specs.Address.{Address}
+use Rattle.sv8_syntax.specs.Address as address
+use Rattle.sv8_syntax.specs.Operand.{Operand}
+use Rattle.sv8_syntax.specs.Operand as operand
 use Rattle.sv8_syntax.specs.declared.statement.Statement.{Statement}
-use Rattle.sv8_syntax.specs.declared.statement.Statement.TheVariants as statement
 use Rattle.sv8_syntax.specs.declared.statement.Stmt.{Stmt}
 use Rattle.sv8_syntax.specs.Table.{look_up}
 use Rattle.sv8_syntax.specs.Mnemonics.{mnemonics}
-use Rattle.sv8_syntax.specs.Token.{Token, Word, Number, Percent, Mark}
-use Rattle.sv8_syntax.specs.Grammar.{arith_form, branch_form, branch_annulled_form, mov_form, nop_form, word_form, blank, stated, unlabelled, labelled, register, expression, in_parentheses, immediate, register_or_immediate, IsForm, IsStatement, IsLine, line}
+use Rattle.sv8_syntax.specs.Token.{Token, Word, Number, Percent, Mark, Quoted, Local}
+use Rattle.sv8_syntax.specs.Spelling.{is_reference}
+use Rattle.sv8_syntax.specs.declared.statement.Label.{Label}
+use Rattle.sv8_syntax.specs.declared.statement.Label.TheVariants as label
+use Rattle.sv8_syntax.specs.Forms.{form_of, annulled}
+use Rattle.sv8_syntax.specs.Grammar.{blank, stated, stated_annulled, unlabelled, labelled, numbered, register, expression, in_parentheses, immediate, register_or_immediate, place, spelled, joined, IsStatement, IsLine, line}
 use Rattle.sv8_syntax.specs.Lexing.{◌>>=◌}
-use Rattle.sv8_syntax.specs.Reading.{operands_of, annulled, register_of, ended, behind_paren, expr_front, expr_of, parenthesized_front, imm_front, imm_of, reg_or_imm_of, arith_of, branch_of, mov_of, nop_of, exprs_of, words_of, form_of, statement_of, line_of}
+use Rattle.sv8_syntax.specs.Reading.{parts_of, behind_annul, flagged, shaped, ended, behind_paren, expr_front, parenthesized_front, imm_front, source_front, behind_immediate, address_front, closed, bracketed_operand, high_operand, plain_operand, marked_operand, operand_of, operands_of, statement_of, label_front, line_of}
 use Rattle.sv8_syntax.proofs.Steps.{bind_some, some_is, test_true}
-use Rattle.sv8_syntax.proofs.Parts.{joined-operands_of}
-
-register-read : (ts : List Token) (r : ℕ) → register_of ts ≡ Some r → ts ≡ register r
-register-read (Percent (percent.Register q) ∷ []) r e = ap register (some_is q r e)
-register-read _ r e = absurd cc
+use Rattle.sv8_syntax.proofs.Parts.{joined-parts_of}
 
 ended-read : {X : Type 0} (x y : X) (ts : List Token) → ended (x, ts) ≡ Some y → (x ≡ y) × (ts ≡ [])
 ended-read x y [] e = (some_is x y e, refl)
@@ -52,13 +51,6 @@ expr_front-read (Word w ∷ Mark mark.Plus ∷ Number n ∷ rest) x e = subst (E
 expr_front-read (Word w ∷ Mark mark.Minus ∷ Number n ∷ rest) x e = subst (ExprIs (Word w ∷ Mark mark.Minus ∷ Number n ∷ rest)) (some_is (expr.Less w n, rest) x e) refl
 expr_front-read (Word w ∷ rest) x e = subst (ExprIs (Word w ∷ rest)) (some_is (expr.Name w, rest) x e) refl
 expr_front-read _ x e = absurd cc
-
-expr-read : (ts : List Token) (e : Expr) → expr_of ts ≡ Some e → ts ≡ expression e
-unfolding expr_of
-expr-read ts e h =
-    let a = bind_some (expr_front ts) ended e h in
-    let b = ended-read a.0.0 e a.0.1 a.2 in
-    expr_front-read ts a.0 a.1 ∙ ap (λ (us : List Token). expression a.0.0 ++ us) b.1 ∙ append-nil (expression a.0.0) ∙ ap expression b.0
 
 parenthesized-read : (ts : List Token) (x : Expr × List Token) → parenthesized_front ts ≡ Some x → ts ≡ in_parentheses (expression x.0) ++ x.1
 unfolding parenthesized_front
@@ -85,126 +77,152 @@ unfolding imm_front
 imm_front-read (Percent percent.Low ∷ ts) x h = low-read ts x h
 imm_front-read ts x h = value-read ts x h
 
-imm_of-read : (ts : List Token) (i : Imm) → imm_of ts ≡ Some i → ts ≡ immediate i
-unfolding imm_of
-imm_of-read ts i h =
-    let a = bind_some (imm_front ts) ended i h in
-    let b = ended-read a.0.0 i a.0.1 a.2 in
-    imm_front-read ts a.0 a.1 ∙ ap (λ (us : List Token). immediate a.0.0 ++ us) b.1 ∙ append-nil (immediate a.0.0) ∙ ap immediate b.0
+immediate-read : (ts : List Token) (x : RegOrImm × List Token) → (imm_front ts >>= λ i. Some (source.Immediate i.0, i.1)) ≡ Some x → ts ≡ register_or_immediate x.0 ++ x.1
+immediate-read ts x h =
+    let a = bind_some (imm_front ts) (λ i. Some (source.Immediate i.0, i.1)) x h in
+    subst (λ (y : RegOrImm × List Token). ts ≡ register_or_immediate y.0 ++ y.1) (some_is (source.Immediate a.0.0, a.0.1) x a.2) (imm_front-read ts a.0 a.1)
 
-imm_alone-read : (ts : List Token) (o : RegOrImm) → (imm_of ts >>= λ i. Some (operand.Immediate i)) ≡ Some o → ts ≡ register_or_immediate o
-imm_alone-read ts o h =
-    let a = bind_some (imm_of ts) (λ i. Some (operand.Immediate i)) o h in
-    imm_of-read ts a.0 a.1 ∙ ap register_or_immediate (some_is (operand.Immediate a.0) o a.2)
+source_front-read : (ts : List Token) (x : RegOrImm × List Token) → source_front ts ≡ Some x → ts ≡ register_or_immediate x.0 ++ x.1
+unfolding source_front
+source_front-read (Percent (percent.Register r) ∷ rest) x h = subst (λ (y : RegOrImm × List Token). Percent (percent.Register r) ∷ rest ≡ register_or_immediate y.0 ++ y.1) (some_is (source.Register r, rest) x h) refl
+source_front-read ts x h = immediate-read ts x h
 
-reg_or_imm_of-read : (ts : List Token) (o : RegOrImm) → reg_or_imm_of ts ≡ Some o → ts ≡ register_or_immediate o
-unfolding reg_or_imm_of
-reg_or_imm_of-read (Percent (percent.Register r) ∷ []) o h = ap register_or_immediate (some_is (operand.Register r) o h)
-reg_or_imm_of-read ts o h = imm_alone-read ts o h
+behind_immediate-read : (i : Imm) (ts : List Token) → immediate i ++ ts ≡ place (behind_immediate i ts).0 ++ (behind_immediate i ts).1
+unfolding behind_immediate
+behind_immediate-read i (Mark mark.Plus ∷ Percent (percent.Register r) ∷ rest) = sym (append_assoc (immediate i) (Mark mark.Plus ∷ register r) rest)
+behind_immediate-read i _ = refl
 
--- ---- statements
+abbrev PlaceIs : List Token → Address × List Token → Type 0
+PlaceIs ts x = ts ≡ place x.0 ++ x.1
 
-arith-made : (op : ArithOp) (f : Bool) (a c d : List Token) (r : ℕ) (o : RegOrImm) (q : ℕ) (b : Statement) → a ≡ register r → c ≡ register_or_immediate o → d ≡ register q → statement.Arith op f r o q ≡ b → IsForm (shape.Arith op f) (a ∷ c ∷ d ∷ []) b
-arith-made op f a c d r o q b ea ec ed eb = rw (ea, ec, ed, ← eb) (arith_form op f r o q)
+other-read : (ts : List Token) (x : Address × List Token) → (imm_front ts >>= λ i. Some (behind_immediate i.0 i.1)) ≡ Some x → PlaceIs ts x
+other-read ts x h =
+    let a = bind_some (imm_front ts) (λ i. Some (behind_immediate i.0 i.1)) x h in
+    subst (PlaceIs ts) (some_is (behind_immediate a.0.0 a.0.1) x a.2) (imm_front-read ts a.0 a.1 ∙ behind_immediate-read a.0.0 a.0.1)
 
-arith-read : (op : ArithOp) (f : Bool) (os : List (List Token)) (b : Statement) → arith_of op f os ≡ Some b → IsForm (shape.Arith op f) os b
-unfolding arith_of
-arith-read op f (a ∷ c ∷ d ∷ []) b h =
-    let x = bind_some (register_of a) (λ left. reg_or_imm_of c >>= λ right. register_of d >>= λ to. Some (statement.Arith op f left right to)) b h in
-    let y = bind_some (reg_or_imm_of c) (λ right. register_of d >>= λ to. Some (statement.Arith op f x.0 right to)) b x.2 in
-    let z = bind_some (register_of d) (λ to. Some (statement.Arith op f x.0 y.0 to)) b y.2 in
-    arith-made op f a c d x.0 y.0 z.0 b (register-read a x.0 x.1) (reg_or_imm_of-read c y.0 y.1) (register-read d z.0 z.1) (some_is _ b z.2)
-arith-read op f _ b h = absurd cc
+address_front-read : (ts : List Token) (x : Address × List Token) → address_front ts ≡ Some x → PlaceIs ts x
+unfolding address_front
+address_front-read (Percent (percent.Register r) ∷ Mark mark.Plus ∷ behind) x h =
+    let a = bind_some (source_front behind) (λ c. Some (address.Sum r c.0, c.1)) x h in
+    subst (PlaceIs (Percent (percent.Register r) ∷ Mark mark.Plus ∷ behind)) (some_is (address.Sum r a.0.0, a.0.1) x a.2) (ap (λ (us : List Token). Percent (percent.Register r) ∷ Mark mark.Plus ∷ us) (source_front-read behind a.0 a.1))
+address_front-read (Percent (percent.Register r) ∷ Mark mark.Minus ∷ Number n ∷ rest) x h = subst (PlaceIs (Percent (percent.Register r) ∷ Mark mark.Minus ∷ Number n ∷ rest)) (some_is (address.Less r n, rest) x h) refl
+address_front-read (Percent (percent.Register r) ∷ rest) x h = subst (PlaceIs (Percent (percent.Register r) ∷ rest)) (some_is (address.One (source.Register r), rest) x h) refl
+address_front-read ts x h = other-read ts x h
 
-annulled-read : (ts us : List Token) → annulled ts ≡ Some us → ts ≡ Word (codes "a") ∷ us
-annulled-read (Word w ∷ ts) us h =
+closed-read : (a : Address) (ts us : List Token) (o : Operand) → us ≡ place a ++ ts → closed a ts ≡ Some o → Mark mark.OpenBracket ∷ us ≡ spelled o
+unfolding closed
+closed-read a (Mark mark.CloseBracket ∷ []) us o e h = ap (λ (ts : List Token). Mark mark.OpenBracket ∷ ts) e ∙ ap spelled (some_is (operand.Bracketed a) o h)
+closed-read a (Mark mark.CloseBracket ∷ Number n ∷ []) us o e h = ap (λ (ts : List Token). Mark mark.OpenBracket ∷ ts) e ∙ ap spelled (some_is (operand.Alternate a n) o h)
+closed-read a _ us o e h = absurd cc
+
+bracketed-read : (ts : List Token) (o : Operand) → bracketed_operand ts ≡ Some o → Mark mark.OpenBracket ∷ ts ≡ spelled o
+unfolding bracketed_operand
+bracketed-read ts o h =
+    let a = bind_some (address_front ts) (λ x. closed x.0 x.1) o h in
+    closed-read a.0.0 a.0.1 ts o (address_front-read ts a.0 a.1) a.2
+
+high-read : (ts : List Token) (o : Operand) → high_operand ts ≡ Some o → Percent percent.High ∷ ts ≡ spelled o
+unfolding high_operand
+high-read ts o h =
+    let a = bind_some (parenthesized_front ts) (λ e. ended (operand.High e.0, e.1)) o h in
+    let c = ended-read (operand.High a.0.0) o a.0.1 a.2 in
+    let whole : ts ≡ in_parentheses (expression a.0.0) = parenthesized-read ts a.0 a.1 ∙ ap (λ (us : List Token). in_parentheses (expression a.0.0) ++ us) c.1 ∙ append-nil (in_parentheses (expression a.0.0)) in
+    ap (λ (us : List Token). Percent percent.High ∷ us) whole ∙ ap spelled c.0
+
+plain-read : (ts : List Token) (o : Operand) → plain_operand ts ≡ Some o → ts ≡ spelled o
+unfolding plain_operand
+plain-read ts o h =
+    let a = bind_some (address_front ts) (λ x. ended (operand.Plain x.0, x.1)) o h in
+    let c = ended-read (operand.Plain a.0.0) o a.0.1 a.2 in
+    address_front-read ts a.0 a.1 ∙ ap (λ (us : List Token). place a.0.0 ++ us) c.1 ∙ append-nil (place a.0.0) ∙ ap spelled c.0
+
+marked-read : (ts : List Token) (o : Operand) → marked_operand ts ≡ Some o → ts ≡ spelled o
+unfolding marked_operand
+marked-read (Mark mark.OpenBracket ∷ inner) o h = bracketed-read inner o h
+marked-read (Percent percent.High ∷ inner) o h = high-read inner o h
+marked-read (Percent (percent.State s) ∷ []) o h = ap spelled (some_is (operand.State s) o h)
+marked-read (Quoted q ∷ []) o h = ap spelled (some_is (operand.Quoted q) o h)
+marked-read _ o h = absurd cc
+
+either-read : (ts : List Token) (marked : Option Operand) (o : Operand) → marked_operand ts ≡ marked → option_or marked (plain_operand ts) ≡ Some o → ts ≡ spelled o
+either-read ts (Some m) o e h = marked-read ts o (e ∙ h)
+either-read ts None o e h = plain-read ts o h
+
+-- an operand that was read is spelled by those tokens
+pub operand-read : (ts : List Token) (o : Operand) → operand_of ts ≡ Some o → ts ≡ spelled o
+unfolding operand_of
+operand-read ts o h = either-read ts (marked_operand ts) o refl h
+
+operands-read : (ps : List (List Token)) (os : List Operand) → operands_of ps ≡ Some os → ps ≡ map spelled os
+unfolding operands_of
+operands-read [] os h = ap (λ (xs : List Operand). map spelled xs) (some_is [] os h)
+operands-read (p ∷ ps) os h =
+    let x = bind_some (operand_of p) (λ o. operands_of ps >>= λ rest. Some (o ∷ rest)) os h in
+    let y = bind_some (operands_of ps) (λ rest. Some (x.0 ∷ rest)) os x.2 in
+    ap (λ (us : List Token). us ∷ ps) (operand-read p x.0 x.1) ∙ ap (λ (qs : List (List Token)). spelled x.0 ∷ qs) (operands-read ps y.0 y.1) ∙ ap (λ (xs : List Operand). map spelled xs) (some_is (x.0 ∷ y.0) os y.2)
+
+-- ---- lines
+
+-- the operands of a statement, and that they are spelled by its tokens
+shaped-read : (s : Shape) (ts : List Token) (b : Statement) → shaped s ts ≡ Some b → (os : List Operand) × (ts ≡ joined (map spelled os)) × (form_of s os ≡ Some b)
+unfolding shaped
+shaped-read s ts b h =
+    let x = bind_some (operands_of (parts_of ts)) (form_of s) b h in
+    (x.0, sym (joined-parts_of ts) ∙ ap joined (operands-read (parts_of ts) x.0 x.1), x.2)
+
+behind_annul-read : (ts us : List Token) → behind_annul ts ≡ Some us → ts ≡ Mark mark.Comma ∷ Word (codes "a") ∷ us
+unfolding behind_annul
+behind_annul-read (Mark mark.Comma ∷ Word w ∷ ts) us h =
     let a = test_true (bytes_eq w (codes "a")) (Some ts) us h in
     let w_is : w ≡ codes "a" = (bytes_eq-Decides w (codes "a")).0 a.0 in
     rw (w_is, some_is ts us a.1) refl
-annulled-read _ us h = absurd cc
+behind_annul-read _ us h = absurd cc
 
-branch-made : (c : Cond) (ts : List Token) (e : Expr) (b : Statement) → ts ≡ expression e → statement.Branch c false e ≡ b → IsForm (shape.Branch c) (ts ∷ []) b
-branch-made c ts e b et eb = rw (et, ← eb) (branch_form c e)
+stated-read : (name : List ℕ) (s : Shape) (ts : List Token) (b : Statement) → look_up mnemonics name ≡ Some s → shaped s ts ≡ Some b → IsStatement (Word name ∷ ts) (Some b)
+stated-read name s ts b found h =
+    let x = shaped-read s ts b h in
+    subst (λ (us : List Token). IsStatement (Word name ∷ us) (Some b)) (sym x.1) (stated name s x.0 b found x.2)
 
-branch_annulled-made : (c : Cond) (ts : List Token) (e : Expr) (b : Statement) → ts ≡ Word (codes "a") ∷ expression e → statement.Branch c true e ≡ b → IsForm (shape.Branch c) ([] ∷ ts ∷ []) b
-branch_annulled-made c ts e b et eb = rw (et, ← eb) (branch_annulled_form c e)
+annulled-read : (name : List ℕ) (s t : Shape) (ts us : List Token) (b : Statement) → look_up mnemonics name ≡ Some s → ts ≡ Mark mark.Comma ∷ Word (codes "a") ∷ us → annulled s ≡ Some t → shaped t us ≡ Some b → IsStatement (Word name ∷ ts) (Some b)
+annulled-read name s t ts us b found e f h =
+    let x = shaped-read t us b h in
+    let whole : ts ≡ Mark mark.Comma ∷ Word (codes "a") ∷ joined (map spelled x.0) = e ∙ ap (λ (vs : List Token). Mark mark.Comma ∷ Word (codes "a") ∷ vs) x.1 in
+    subst (λ (vs : List Token). IsStatement (Word name ∷ vs) (Some b)) (sym whole) (stated_annulled name s t x.0 b found f x.2)
 
-branch-read : (c : Cond) (os : List (List Token)) (b : Statement) → branch_of c os ≡ Some b → IsForm (shape.Branch c) os b
-unfolding branch_of
-branch-read c (target ∷ []) b h =
-    let x = bind_some (expr_of target) (λ e. Some (statement.Branch c false e)) b h in
-    branch-made c target x.0 b (expr-read target x.0 x.1) (some_is _ b x.2)
-branch-read c ([] ∷ behind ∷ []) b h =
-    let x = bind_some (annulled behind) (λ target. expr_of target >>= λ e. Some (statement.Branch c true e)) b h in
-    let y = bind_some (expr_of x.0) (λ e. Some (statement.Branch c true e)) b x.2 in
-    branch_annulled-made c behind y.0 b (annulled-read behind x.0 x.1 ∙ ap (λ (us : List Token). Word (codes "a") ∷ us) (expr-read x.0 y.0 y.1)) (some_is _ b y.2)
-branch-read c _ b h = absurd cc
-
-mov-made : (c d : List Token) (o : RegOrImm) (q : ℕ) (b : Statement) → c ≡ register_or_immediate o → d ≡ register q → statement.Arith arith.Or false 0 o q ≡ b → IsForm shape.Mov (c ∷ d ∷ []) b
-mov-made c d o q b ec ed eb = rw (ec, ed, ← eb) (mov_form o q)
-
-mov-read : (os : List (List Token)) (b : Statement) → mov_of os ≡ Some b → IsForm shape.Mov os b
-unfolding mov_of
-mov-read (c ∷ d ∷ []) b h =
-    let x = bind_some (reg_or_imm_of c) (λ from. register_of d >>= λ to. Some (statement.Arith arith.Or false 0 from to)) b h in
-    let y = bind_some (register_of d) (λ to. Some (statement.Arith arith.Or false 0 x.0 to)) b x.2 in
-    mov-made c d x.0 y.0 b (reg_or_imm_of-read c x.0 x.1) (register-read d y.0 y.1) (some_is _ b y.2)
-mov-read _ b h = absurd cc
-
-exprs-read : (os : List (List Token)) (es : List Expr) → exprs_of os ≡ Some es → os ≡ map expression es
-unfolding exprs_of
-exprs-read [] es h = ap (λ (xs : List Expr). map expression xs) (some_is [] es h)
-exprs-read (ts ∷ os) es h =
-    let x = bind_some (expr_of ts) (λ e. exprs_of os >>= λ rest. Some (e ∷ rest)) es h in
-    let y = bind_some (exprs_of os) (λ rest. Some (x.0 ∷ rest)) es x.2 in
-    let head = expr-read ts x.0 x.1 in
-    let tail = exprs-read os y.0 y.1 in
-    ap (λ (us : List Token). us ∷ os) head ∙ ap (λ (xs : List (List Token)). expression x.0 ∷ xs) tail ∙ ap (λ (xs : List Expr). map expression xs) (some_is (x.0 ∷ y.0) es y.2)
-
-words-made : (ts : List Token) (os : List (List Token)) (es : List Expr) (b : Statement) → ts ∷ os ≡ map expression es → statement.Word es ≡ b → IsForm shape.Word (ts ∷ os) b
-words-made ts os [] b eo eb = absurd cc
-words-made ts os (e ∷ es) b eo eb = rw (eo, ← eb) (word_form e es)
-
-words-read : (os : List (List Token)) (b : Statement) → words_of os ≡ Some b → IsForm shape.Word os b
-unfolding words_of
-words-read [] b h = absurd cc
-words-read (ts ∷ os) b h =
-    let x = bind_some (exprs_of (ts ∷ os)) (λ es. Some (statement.Word es)) b h in
-    words-made ts os x.0 b (exprs-read (ts ∷ os) x.0 x.1) (some_is _ b x.2)
-
-nop-read : (os : List (List Token)) (b : Statement) → nop_of os ≡ Some b → IsForm shape.Nop os b
-unfolding nop_of
-nop-read [] b h = subst (IsForm shape.Nop []) (some_is (statement.Sethi (upper.Value (expr.Number 0)) 0) b h) nop_form
-nop-read (o ∷ os) b h = absurd cc
-
-form-read : (s : Shape) (os : List (List Token)) (b : Statement) → form_of s os ≡ Some b → IsForm s os b
-unfolding form_of
-form-read (shape.Arith op f) os b h = arith-read op f os b h
-form-read (shape.Branch c) os b h = branch-read c os b h
-form-read shape.Mov os b h = mov-read os b h
-form-read shape.Nop os b h = nop-read os b h
-form-read shape.Word os b h = words-read os b h
-
--- ---- lines
+flagged-read : (name : List ℕ) (s : Shape) (ts : List Token) (o : Option (List Token)) (x : Shape × List Token) (b : Statement) → look_up mnemonics name ≡ Some s → behind_annul ts ≡ o → flagged s ts o ≡ Some x → shaped x.0 x.1 ≡ Some b → IsStatement (Word name ∷ ts) (Some b)
+unfolding flagged
+flagged-read name s ts None x b found e f h =
+    let same : (s, ts) ≡ x = some_is (s, ts) x f in
+    stated-read name s ts b found (subst (λ (y : Shape × List Token). shaped y.0 y.1 ≡ Some b) (sym same) h)
+flagged-read name s ts (Some us) x b found e f h =
+    let a = bind_some (annulled s) (λ t. Some (t, us)) x f in
+    let same = some_is (a.0, us) x a.2 in
+    annulled-read name s a.0 ts us b found (behind_annul-read ts us e) a.1 (subst (λ (y : Shape × List Token). shaped y.0 y.1 ≡ Some b) (sym same) h)
 
 pub statement-read : (ts : List Token) (b : Option Statement) → statement_of ts ≡ Some b → IsStatement ts b
 unfolding statement_of
 statement-read [] b h = subst (IsStatement []) (some_is None b h) blank
 statement-read (Word name ∷ ts) b h =
-    let x = bind_some (look_up mnemonics name) (λ s. form_of s (operands_of ts) >>= λ c. Some (Some c)) b h in
-    let y = bind_some (form_of x.0 (operands_of ts)) (λ c. Some (Some c)) b x.2 in
-    subst (IsStatement (Word name ∷ ts)) (some_is (Some y.0) b y.2)
-    (subst (λ (us : List Token). IsStatement (Word name ∷ us) (Some y.0)) (joined-operands_of ts) (stated name x.0 (operands_of ts) y.0 x.1 (form-read x.0 (operands_of ts) y.0 y.1)))
+    let s = bind_some (look_up mnemonics name) (λ s. flagged s ts (behind_annul ts) >>= λ x. shaped x.0 x.1 >>= λ c. Some (Some c)) b h in
+    let x = bind_some (flagged s.0 ts (behind_annul ts)) (λ x. shaped x.0 x.1 >>= λ c. Some (Some c)) b s.2 in
+    let y = bind_some (shaped x.0.0 x.0.1) (λ c. Some (Some c)) b x.2 in
+    subst (IsStatement (Word name ∷ ts)) (some_is (Some y.0) b y.2) (flagged-read name s.0 ts (behind_annul ts) x.0 y.0 s.1 refl x.1 y.1)
 statement-read _ b h = absurd cc
 
-unlabelled-read : (ts : List Token) (s : Stmt) → (statement_of ts >>= λ b. Some (line None b)) ≡ Some s → IsLine ts s
-unlabelled-read ts s h =
-    let x = bind_some (statement_of ts) (λ b. Some (line None b)) s h in
-    subst (IsLine ts) (some_is (line None x.0) s x.2) (unlabelled ts x.0 (statement-read ts x.0 x.1))
+-- a line, by the label that its tokens begin with
+front-line : (ts : List Token) (b : Option Statement) → IsStatement (label_front ts).1 b → IsLine ts (line (label_front ts).0 b)
+unfolding label_front
+front-line (Word name ∷ Mark mark.Colon ∷ ts) b d =
+    let whole : List Token = Word name ∷ Mark mark.Colon ∷ ts in
+    let front : Bool → Option Label × List Token = λ v. cond v (None, whole) (Some (label.Name name), ts) in
+    let P : Bool → Type 0 = λ v. is_reference name ≡ v → IsStatement (front v).1 b → IsLine whole (line (front v).0 b) in
+    let all : (v : Bool) → P v = λ v. elim v as P [ true ↦ λ e k. unlabelled whole b k | false ↦ λ e k. labelled name ts b e k ] in
+    all (is_reference name) refl d
+front-line (Local d ∷ ts) b k = numbered d ts b k
+front-line ts b d = unlabelled ts b d
 
 pub line-read : (ts : List Token) (s : Stmt) → line_of ts ≡ Some s → IsLine ts s
 unfolding line_of
-line-read (Word name ∷ Mark mark.Colon ∷ ts) s h =
-    let x = bind_some (statement_of ts) (λ b. Some (line (Some name) b)) s h in
-    subst (IsLine (Word name ∷ Mark mark.Colon ∷ ts)) (some_is (line (Some name) x.0) s x.2) (labelled name ts x.0 (statement-read ts x.0 x.1))
-line-read ts s h = unlabelled-read ts s h
+line-read ts s h =
+    let x = bind_some (statement_of (label_front ts).1) (λ b. Some (line (label_front ts).0 b)) s h in
+    subst (IsLine ts) (some_is (line (label_front ts).0 x.0) s x.2) (front-line ts x.0 (statement-read (label_front ts).1 x.0 x.1))

@@ -1,12 +1,16 @@
--- One step of the loop that cuts at commas.
-use Rattle.std.proofs.Common.{◌≡◌, ℕ, zero, suc, ◌+◌, ◌-◌, ◌<◌, ◌≤◌, List, [], ◌∷◌, ◌++◌, length, take, drop, Option, Some, None, refl, sym, ap, ◌∙◌, append_assoc, arith, Bor, length-drop, add-one}
+-- One step of the loop that cuts at commas and reads operands.
+use Rattle.std.proofs.Common.{◌≡◌, ℕ, zero, suc, ◌+◌, ◌-◌, ◌<◌, ◌≤◌, List, [], ◌∷◌, ◌++◌, length, take, drop, Option, Some, None, refl, sym, ap, ◌∙◌, append_assoc, arith, Bor, length-drop, length-append, add-one}
 use Rattle.std.proofs.Math.Seq.{take-length}
-use Rattle.std.proofs.lemmas.List.{map_push, take-map, drop-map, length-map}
+use Rattle.std.proofs.lemmas.List.{map_push, take-map, drop-map, append-nil}
 use Rattle.sv8_syntax.specs.declared.token.Token.{Token as Held}
-use Rattle.sv8_syntax.specs.Token.{Token, views, view, operand_views}
+use Rattle.sv8_syntax.specs.Token.{Token, views, view}
+use Rattle.sv8_syntax.specs.declared.operand.Operand.{Operand as OperandRef}
+use Rattle.sv8_syntax.specs.Operand.{Operand, operand_view, operand_views}
+use Rattle.sv8_syntax.specs.Lexing.{◌>>=◌}
 use Rattle.sv8_syntax.specs.Outcome.{part_len}
-use Rattle.sv8_syntax.specs.Reading.{parts, operands_of}
-use Rattle.sv8_syntax.proofs.Parts.{parts-last, parts-first, part_len-le, operands_of-few}
+use Rattle.sv8_syntax.specs.Reading.{parts, parts_of, operand_of, operands_of}
+use Rattle.sv8_syntax.proofs.Steps.{some}
+use Rattle.sv8_syntax.proofs.Parts.{parts-last, parts-first, part_len-le, parts_of-few}
 
 -- how much is left to cut
 abbrev pub left : Option (Bor (List Held)) → ℕ
@@ -49,12 +53,45 @@ cut_first ts part after p a some =
     parts-first (views ts) fits ∙ ap (λ (y : List Token). y ∷ parts (drop (n + 1) (views ts))) (take-map view n ts ∙ ap (λ (x : List Held). views x) (sym p))
     ∙ ap (λ (y : List Token). views part ∷ parts y) (drop-map view (n + 1) ts ∙ ap (λ (x : List Held). views x) next)
 
-pub cut_more : (out new : List (Bor (List Held))) (part : Bor (List Held)) (ps whole : List (List Token)) → new ≡ out ++ part ∷ [] → operand_views out ++ (views part.now ∷ ps) ≡ whole → operand_views new ++ ps ≡ whole
-cut_more out new part ps whole grown so_far =
-    ap (λ (x : List (Bor (List Held))). operand_views x ++ ps) grown ∙ ap (λ (x : List (List Token)). x ++ ps) (map_push (λ (o : Bor (List Held)). views o.now) out part) ∙ append_assoc (operand_views out) (views part.now ∷ []) ps ∙ so_far
+-- ---- the operands so far, and those of the rest
 
-pub operands_few : (out : List (Bor (List Held))) (ts : List Held) → operand_views out ≡ operands_of (views ts) → length out ≤ length ts + 1
-operands_few out ts e =
-    let most = operands_of-few (views ts) in
-    let same = ap length e in
-    omega (arith, views-length ts, length-map out (λ (o : Bor (List Held)). views o.now))
+abbrev pub behind : List Operand → Option (List Operand) → Option (List Operand)
+behind front o = o >>= λ os. Some (front ++ os)
+
+behind_more : (o : Option (List Operand)) (front : List Operand) (next : Operand) → behind (front ++ next ∷ []) o ≡ behind front (o >>= λ os. Some (next ∷ os))
+behind_more None front next = refl
+behind_more (Some os) front next = ap (λ (x : List Operand). some x) (append_assoc front (next ∷ []) os)
+
+pub read_none : (ts : List Held) (out : List OperandRef) → length ts ≡ 0 → out ≡ [] → operands_of (parts_of (views ts)) ≡ Some (operand_views out)
+unfolding parts_of operands_of
+read_none [] out e empty = ap (λ (x : List OperandRef). some (operand_views x)) (sym empty)
+read_none (t ∷ ts) out e empty = absurd (omega arith)
+
+pub read_more : (out new : List OperandRef) (next : OperandRef) (p : List Token) (ps rest : List (List Token)) (whole : Option (List Operand)) → new ≡ out ++ next ∷ [] → rest ≡ p ∷ ps → operand_of p ≡ Some (operand_view next)
+    → behind (operand_views out) (operands_of rest) ≡ whole → behind (operand_views new) (operands_of ps) ≡ whole
+unfolding operands_of
+read_more out new next p ps rest whole new_is cut read so_far =
+    let grown : operand_views new ≡ operand_views out ++ operand_view next ∷ [] = ap (λ (x : List OperandRef). operand_views x) new_is ∙ map_push operand_view out next in
+    let step : behind (operand_views out) (operands_of (p ∷ ps)) ≡ behind (operand_views out) (operands_of ps >>= λ os. Some (operand_view next ∷ os)) = rw read refl in
+    ap (λ (x : List Operand). behind x (operands_of ps)) grown ∙ behind_more (operands_of ps) (operand_views out) (operand_view next) ∙ sym step
+    ∙ ap (λ (x : List (List Token)). behind (operand_views out) (operands_of x)) (sym cut) ∙ so_far
+
+pub count_more : (out new : List OperandRef) (next : OperandRef) (p : List Token) (ps rest : List (List Token)) (n : ℕ) → new ≡ out ++ next ∷ [] → rest ≡ p ∷ ps → length out + length rest ≡ n → length new + length ps ≡ n
+count_more out new next p ps rest n new_is cut so_far =
+    let grown : length new ≡ length (out ++ next ∷ []) = ap length new_is in
+    let cut_length : length rest ≡ suc (length ps) = ap length cut in
+    omega (arith, length-append out (next ∷ []))
+
+pub read_end : (out : List OperandRef) (ps : List (List Token)) (whole : Option (List Operand)) → ps ≡ [] → behind (operand_views out) (operands_of ps) ≡ whole → whole ≡ Some (operand_views out)
+unfolding operands_of
+read_end out [] whole e so_far = sym so_far ∙ ap (λ (x : List Operand). some x) (append-nil (operand_views out))
+read_end out (p ∷ ps) whole e so_far = absurd cc
+
+pub read_fault : (out : List Operand) (p : List Token) (ps rest : List (List Token)) (whole : Option (List Operand)) → rest ≡ p ∷ ps → operand_of p ≡ None → behind out (operands_of rest) ≡ whole → whole ≡ None
+unfolding operands_of
+read_fault out p ps rest whole cut read so_far =
+    let step : behind out (operands_of (p ∷ ps)) ≡ None = rw read refl in
+    sym so_far ∙ ap (λ (x : List (List Token)). behind out (operands_of x)) cut ∙ step
+
+pub parts-few : (ts : List Held) → length (parts_of (views ts)) ≤ length ts + 1
+parts-few ts = let most = parts_of-few (views ts) in omega (arith, views-length ts)

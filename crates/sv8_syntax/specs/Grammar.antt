@@ -1,36 +1,37 @@
--- The lines, over their tokens: a rule for each form.
-use Rattle.std.specs.Prelude.{◌≡◌, ℕ, ◌≤◌, ◌<◌, List, [], ◌∷◌, ◌++◌, length, map, Bool, true, false, Option, Some, None, codes, ◌||◌, ◌&&◌, ◌==◌, nat_le}
-use Rattle.sv8_isa.specs.declared.instr.ArithOp.{ArithOp}
-use Rattle.sv8_isa.specs.declared.instr.ArithOp.TheVariants as arith
-use Rattle.sv8_isa.specs.declared.instr.Cond.{Cond}
+-- The lines, over their tokens.
+use Rattle.std.specs.Prelude.{◌≡◌, ℕ, ◌≤◌, ◌<◌, List, [], ◌∷◌, ◌++◌, length, map, Bool, false, Option, Some, None, codes, ◌||◌, ◌&&◌, ◌==◌, nat_le}
 use Rattle.sv8_syntax.specs.declared.fault.LineFault.{LineFault}
 use Rattle.sv8_syntax.specs.declared.fault.LineFault.TheVariants.{OutOfMemory, LineTooLong, NotAscii, Syntax}
 use Rattle.sv8_syntax.specs.declared.token.Percent.TheVariants as percent
 use Rattle.sv8_syntax.specs.declared.token.Mark.TheVariants as mark
 use Rattle.sv8_syntax.specs.declared.mnemonic.Shape.{Shape}
-use Rattle.sv8_syntax.specs.declared.mnemonic.Shape.TheVariants as shape
-use Rattle.sv8_syntax.specs.declared.statement.Expr.{Expr}
-use Rattle.sv8_syntax.specs.declared.statement.Expr.TheVariants as expr
-use Rattle.sv8_syntax.specs.declared.statement.Imm.{Imm}
-use Rattle.sv8_syntax.specs.declared.statement.Imm.TheVariants as imm
-use Rattle.sv8_syntax.specs.declared.statement.RegOrImm.{RegOrImm}
-use Rattle.sv8_syntax.specs.declared.statement.RegOrImm.TheVariants as operand
-use Rattle.sv8_syntax.specs.declared.statement.Upper.TheVariants as upper
+use Rattle.sv8_syntax.specs.declared.register.Register.{Register}
+use Rattle.sv8_syntax.specs.declared.value.Expr.{Expr}
+use Rattle.sv8_syntax.specs.declared.value.Expr.TheVariants as expr
+use Rattle.sv8_syntax.specs.declared.value.Imm.{Imm}
+use Rattle.sv8_syntax.specs.declared.value.Imm.TheVariants as imm
+use Rattle.sv8_syntax.specs.declared.value.RegOrImm.{RegOrImm}
+use Rattle.sv8_syntax.specs.declared.value.RegOrImm.TheVariants as source
+use Rattle.sv8_syntax.specs.Address.{Address}
+use Rattle.sv8_syntax.specs.Address as address
+use Rattle.sv8_syntax.specs.Operand.{Operand}
+use Rattle.sv8_syntax.specs.Operand as operand
 use Rattle.sv8_syntax.specs.declared.statement.Statement.{Statement}
-use Rattle.sv8_syntax.specs.declared.statement.Statement.TheVariants as statement
+use Rattle.sv8_syntax.specs.declared.statement.Label.{Label}
+use Rattle.sv8_syntax.specs.declared.statement.Label.TheVariants as label
 use Rattle.sv8_syntax.specs.declared.statement.Stmt.{Stmt}
-use Rattle.sv8_syntax.specs.Token.{Token, Word, Number, Percent, Mark}
-use Rattle.sv8_syntax.specs.Spelling.{AllPass, IsCutInto}
+use Rattle.sv8_syntax.specs.Token.{Token, Word, Number, Percent, Mark, Quoted, Local}
+use Rattle.sv8_syntax.specs.Spelling.{AllPass, is_reference, IsCutInto}
 use Rattle.sv8_syntax.specs.Table.{look_up}
 use Rattle.sv8_syntax.specs.Mnemonics.{mnemonics}
+use Rattle.sv8_syntax.specs.Forms.{form_of, annulled}
 
--- ---- the parts of operands
+-- ---- how each operand is spelled
 
--- an r register
-abbrev pub register : ℕ → List Token
+abbrev pub register : Register → List Token
 register r = Percent (percent.Register r) ∷ []
 
--- a number, - number, a name, name + number, name - number
+-- a number, - number, a name, name + number, name - number; a reference to a local label may stand for a name
 abbrev pub expression : Expr → List Token
 expression (expr.Number n) = Number n ∷ []
 expression (expr.Minus n) = Mark mark.Minus ∷ Number n ∷ []
@@ -48,29 +49,24 @@ immediate (imm.Low e) = Percent percent.Low ∷ in_parentheses (expression e)
 
 -- reg_or_imm
 abbrev pub register_or_immediate : RegOrImm → List Token
-register_or_immediate (operand.Register r) = register r
-register_or_immediate (operand.Immediate i) = immediate i
+register_or_immediate (source.Register r) = register r
+register_or_immediate (source.Immediate i) = immediate i
 
--- ---- statements, by the mnemonic's shape, from the operands between commas
+-- reg_or_imm, reg + reg_or_imm, reg - number, imm + reg
+abbrev pub place : Address → List Token
+place (address.One c) = register_or_immediate c
+place (address.Sum r c) = Percent (percent.Register r) ∷ Mark mark.Plus ∷ register_or_immediate c
+place (address.Less r n) = Percent (percent.Register r) ∷ Mark mark.Minus ∷ Number n ∷ []
+place (address.After i r) = immediate i ++ Mark mark.Plus ∷ register r
 
-pub data IsForm : Shape → List (List Token) → Statement → Type 0 where
-  -- op reg, reg_or_imm, reg
-  arith_form : (op : ArithOp) (sets_cc : Bool) (a : ℕ) (c : RegOrImm) (d : ℕ)
-      → IsForm (shape.Arith op sets_cc) (register a ∷ register_or_immediate c ∷ register d ∷ []) (statement.Arith op sets_cc a c d)
-  -- b expr
-  branch_form : (c : Cond) (e : Expr)
-      → IsForm (shape.Branch c) (expression e ∷ []) (statement.Branch c false e)
-  -- b,a expr: nothing stands before the comma, and the letter a behind it
-  branch_annulled_form : (c : Cond) (e : Expr)
-      → IsForm (shape.Branch c) ([] ∷ (Word (codes "a") ∷ expression e) ∷ []) (statement.Branch c true e)
-  -- mov reg_or_imm, reg is or %g0, reg_or_imm, reg
-  mov_form : (c : RegOrImm) (d : ℕ)
-      → IsForm shape.Mov (register_or_immediate c ∷ register d ∷ []) (statement.Arith arith.Or false 0 c d)
-  -- nop is sethi 0, %g0
-  nop_form : IsForm shape.Nop [] (statement.Sethi (upper.Value (expr.Number 0)) 0)
-  -- .word expr, ..
-  word_form : (e : Expr) (es : List Expr)
-      → IsForm shape.Word (map expression (e ∷ es)) (statement.Word (e ∷ es))
+-- the tokens of an operand: no two operands have the same
+abbrev pub spelled : Operand → List Token
+spelled (operand.Plain a) = place a
+spelled (operand.Bracketed a) = Mark mark.OpenBracket ∷ place a ++ Mark mark.CloseBracket ∷ []
+spelled (operand.Alternate a n) = Mark mark.OpenBracket ∷ place a ++ Mark mark.CloseBracket ∷ Number n ∷ []
+spelled (operand.High e) = Percent percent.High ∷ in_parentheses (expression e)
+spelled (operand.State s) = Percent (percent.State s) ∷ []
+spelled (operand.Quoted q) = Quoted q ∷ []
 
 -- ---- lines
 
@@ -78,20 +74,25 @@ pub data IsForm : Shape → List (List Token) → Statement → Type 0 where
 abbrev pub joined : List (List Token) → List Token
 joined [] = []
 joined (ts ∷ []) = ts
-joined (ts ∷ us ∷ operands) = ts ++ Mark mark.Comma ∷ joined (us ∷ operands)
+joined (ts ∷ us ∷ parts) = ts ++ Mark mark.Comma ∷ joined (us ∷ parts)
 
--- nothing, or a mnemonic and its operands
+-- nothing, or a mnemonic, perhaps with ,a behind it, and its operands
 pub data IsStatement : List Token → Option Statement → Type 0 where
   blank : IsStatement [] None
-  stated : (name : List ℕ) (s : Shape) (operands : List (List Token)) (b : Statement) → look_up mnemonics name ≡ Some s → IsForm s operands b → IsStatement (Word name ∷ joined operands) (Some b)
+  stated : (name : List ℕ) (s : Shape) (os : List Operand) (b : Statement)
+      → look_up mnemonics name ≡ Some s → form_of s os ≡ Some b → IsStatement (Word name ∷ joined (map spelled os)) (Some b)
+  stated_annulled : (name : List ℕ) (s t : Shape) (os : List Operand) (b : Statement)
+      → look_up mnemonics name ≡ Some s → annulled s ≡ Some t → form_of t os ≡ Some b
+      → IsStatement (Word name ∷ Mark mark.Comma ∷ Word (codes "a") ∷ joined (map spelled os)) (Some b)
 
-abbrev pub line : Option (List ℕ) → Option Statement → Stmt
+abbrev pub line : Option Label → Option Statement → Stmt
 line l b = record { label = l; statement = b }
 
--- [name:] [statement]
+-- [label:] [statement], where a label is a name or a digit
 pub data IsLine : List Token → Stmt → Type 0 where
   unlabelled : (ts : List Token) (b : Option Statement) → IsStatement ts b → IsLine ts (line None b)
-  labelled : (name : List ℕ) (ts : List Token) (b : Option Statement) → IsStatement ts b → IsLine (Word name ∷ Mark mark.Colon ∷ ts) (line (Some name) b)
+  labelled : (name : List ℕ) (ts : List Token) (b : Option Statement) → is_reference name ≡ false → IsStatement ts b → IsLine (Word name ∷ Mark mark.Colon ∷ ts) (line (Some (label.Name name)) b)
+  numbered : (d : ℕ) (ts : List Token) (b : Option Statement) → IsStatement ts b → IsLine (Local d ∷ ts) (line (Some (label.Local d)) b)
 
 -- ---- whole lines
 

@@ -1,20 +1,24 @@
 //! A line's text to its statement.
 
-ghost use Rattle.std.specs.Prelude.{◌≡◌, ◌≤◌, ◌⊎◌, ◌+◌, length, ◌<◌, ◌∷◌, IfSome, IfOk, IfErr, IsTrue, ◌↔◌, MatchResult, Ok, Err};
+ghost use Rattle.std.specs.Prelude.{◌≡◌, option_map, ◌≤◌, ◌⊎◌, ◌+◌, length, ◌<◌, ◌∷◌, IfSome, IfOk, IfErr, IsTrue, ◌↔◌, MatchResult, Ok, Err};
 ghost use Rattle.sv8_syntax.specs.declared.fault.LineFault.TheVariants.{OutOfMemory};
-ghost use Rattle.sv8_syntax.specs.Token.{views, operand_views};
+ghost use Rattle.sv8_syntax.specs.Token.{views};
+ghost use Rattle.sv8_syntax.specs.Operand.{operand_views};
 ghost use Rattle.sv8_syntax.specs.Spelling.{AllPass};
+ghost use Rattle.sv8_syntax.specs.Names.{Defines};
 ghost use Rattle.sv8_syntax.specs.Grammar.{ReadsAs, IsFault, is_text_byte};
-ghost use Rattle.sv8_syntax.specs.Registers.{HasRegisters};
 ghost use Rattle.sv8_syntax.specs.Outcome.{Gives, part_len, parts_behind};
-ghost use Rattle.sv8_syntax.specs.Reading.{parts, operands_of, statement_of, line_of, reading};
+ghost use Rattle.sv8_syntax.specs.Reading.{parts, parts_of, operands_of, shaped, behind_annul, flagged, statement_of, label_front, line_of, reading};
 
-use crate::fault::LineFault;
-use crate::form::form;
-use crate::lexer::tokens;
-use crate::mnemonic::shape_of;
-use crate::statement::{Name, Statement, Stmt};
+use crate::fault::LineFault::{self, Syntax};
+use crate::form::{annulled, form};
+use crate::lexer::{is_reference, tokens};
+use crate::mnemonic::{Shape, shape_of};
+use crate::operand::Operand;
+use crate::reader::operand_of;
+use crate::statement::{Label, Statement, Stmt};
 use crate::token::{Mark, Token};
+use crate::value::Name;
 use std::alloc::{AllocError, Global};
 
 #[tactic(auto, unfolding(crate::specs::Outcome::part_len))]
@@ -46,13 +50,10 @@ fn first_part<'t, 'a>(tokens: &'t [Token<'a>]) -> (&'t [Token<'a>], Option<&'t [
     }
 }
 
-/// The parts between commas.
-#[tactic(auto, using(crate::proofs::Parts::operands_of_none, crate::proofs::Parts::operands_of_some))]
-fn operands<'t, 'a>(
-    alloc: Global,
-    tokens: &'t [Token<'a>],
-) -> Result<Vec<&'t [Token<'a>]>, AllocError>
-    ensures parts { IfOk result (λ v. operand_views v.items ≡ operands_of (views tokens.now)) }
+/// The operands, which are the parts between commas.
+#[tactic(auto, using(crate::proofs::Parts::parts_of_none, crate::proofs::Parts::parts_of_some))]
+fn operands<'a>(alloc: Global, tokens: &[Token<'a>]) -> Result<Vec<Operand<'a>>, LineFault>
+    ensures read { Gives (λ v. operand_views v.items) result (operands_of (parts_of (views tokens.now))) }
     ensures few { IfOk result (λ v. length v.items ≤ length tokens.now + 1) }
 {
     let mut out = Vec::new(alloc);
@@ -62,10 +63,45 @@ fn operands<'t, 'a>(
     let mut rest = Some(tokens);
     while let Some(tokens) = rest {
         let (part, behind) = first_part(tokens);
-        out.push(part)?;
+        let operand = operand_of(part).ok_or(Syntax)?;
+        out.push(operand)?;
         rest = behind;
     }
     Ok(out)
+}
+
+/// The statement of a shape with the operands that these tokens are.
+#[tactic(auto, unfolding(crate::specs::Reading::shaped))]
+fn shaped(alloc: Global, shape: Shape, tokens: &[Token<'_>]) -> Result<Statement, LineFault>
+    requires few { length tokens.now ≤ 255 }
+    ensures { Gives (λ s. s) result (shaped shape (views tokens.now)) }
+{
+    let operands = operands(alloc, tokens)?;
+    form(alloc, shape, &operands)
+}
+
+/// The tokens behind `,a`.
+#[tactic(auto, unfolding(crate::specs::Reading::behind_annul))]
+fn behind_annul<'t, 'a>(tokens: &'t [Token<'a>]) -> Option<&'t [Token<'a>]>
+    ensures rest { option_map (λ t. views t.now) result ≡ behind_annul (views tokens.now) }
+    ensures shorter { IfSome result (λ t. length t.now ≤ length tokens.now) }
+{
+    match tokens {
+        [Token::Mark(Mark::Comma), Token::Word(b"a"), rest @ ..] => Some(rest),
+        _ => None,
+    }
+}
+
+/// The shape, or where `,a` stands behind the mnemonic the one that annuls, and the operands' tokens.
+#[tactic(auto, unfolding(crate::specs::Reading::flagged))]
+fn flagged<'t, 'a>(shape: Shape, tokens: &'t [Token<'a>]) -> Option<(Shape, &'t [Token<'a>])>
+    ensures value { option_map (λ x. (x.0, views x.1.now)) result ≡ flagged shape (views tokens.now) (behind_annul (views tokens.now)) }
+    ensures shorter { IfSome result (λ x. length x.1.now ≤ length tokens.now) }
+{
+    match behind_annul(tokens) {
+        Some(rest) => Some((annulled(shape)?, rest)),
+        None => Some((shape, tokens)),
+    }
 }
 
 #[tactic(auto, unfolding(crate::specs::Reading::statement_of))]
@@ -76,13 +112,34 @@ fn statement(alloc: Global, tokens: &[Token<'_>]) -> Result<Option<Statement>, L
     match tokens {
         [] => Ok(None),
         [Token::Word(name), rest @ ..] => {
-            let Some(shape) = shape_of(name) else {
-                return Err(LineFault::Syntax);
-            };
-            let operands = operands(alloc, rest)?;
-            Ok(Some(form(alloc, shape, &operands)?))
+            let shape = shape_of(name).ok_or(Syntax)?;
+            let (shape, rest) = flagged(shape, rest).ok_or(Syntax)?;
+            Ok(Some(shaped(alloc, shape, rest)?))
         }
-        _ => Err(LineFault::Syntax),
+        _ => Err(Syntax),
+    }
+}
+
+/// The label at the front, if any, and the tokens behind it.
+#[tactic(auto, unfolding(crate::specs::Reading::label_front))]
+fn label_front<'t, 'a>(
+    alloc: Global,
+    tokens: &'t [Token<'a>],
+) -> Result<(Option<Label>, &'t [Token<'a>]), AllocError>
+    ensures label { IfOk result (λ x. x.0 ≡ (label_front (views tokens.now)).0) }
+    ensures rest { IfOk result (λ x. views x.1.now ≡ (label_front (views tokens.now)).1) }
+    ensures shorter { IfOk result (λ x. length x.1.now ≤ length tokens.now) }
+{
+    match tokens {
+        [Token::Word(name), Token::Mark(Mark::Colon), rest @ ..] => {
+            if is_reference(name) {
+                return Ok((None, tokens));
+            }
+            let name = Name::new(alloc, name)?;
+            Ok((Some(Label::Name(name)), rest))
+        }
+        [Token::Local(digit), rest @ ..] => Ok((Some(Label::Local(*digit)), rest)),
+        _ => Ok((None, tokens)),
     }
 }
 
@@ -91,20 +148,9 @@ fn line(alloc: Global, tokens: &[Token<'_>]) -> Result<Stmt, LineFault>
     requires few { length tokens.now ≤ 255 }
     ensures { Gives (λ s. s) result (line_of (views tokens.now)) }
 {
-    match tokens {
-        [Token::Word(name), Token::Mark(Mark::Colon), rest @ ..] => {
-            let label = Name::new(alloc, name)?;
-            let statement = statement(alloc, rest)?;
-            Ok(Stmt {
-                label: Some(label),
-                statement,
-            })
-        }
-        _ => Ok(Stmt {
-            label: None,
-            statement: statement(alloc, tokens)?,
-        }),
-    }
+    let (label, rest) = label_front(alloc, tokens)?;
+    let statement = statement(alloc, rest)?;
+    Ok(Stmt { label, statement })
 }
 
 fn is_text_byte(byte: u8) -> bool
@@ -133,9 +179,10 @@ pub fn parse_line(alloc: Global, text: &[u8]) -> Result<Stmt, LineFault>
     ensures found { IfOk result (λ s. ReadsAs text.now s) }
     // Any other outcome is a fault of the text, the least one, or want of memory.
     ensures fault { IfErr result (λ e. IsFault text.now e) }
+    // A name that the line defines is no reference to a local label, and a label's digit is below 10.
+    ensures defines { IfOk result (λ s. Defines s) }
     // The outcome rests on the text alone, unless memory ran out.
     ensures reading { MatchResult result (λ s. reading text.now ≡ Ok s) (λ e. (e ≡ OutOfMemory) ⊎ (reading text.now ≡ Err e)) }
-    ensures registers { IfOk result (λ s. HasRegisters s) }
 {
     if text.len() > 255 {
         return Err(LineFault::LineTooLong);

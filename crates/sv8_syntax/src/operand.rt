@@ -1,118 +1,96 @@
-//! Operands, each from all of its tokens or from those at the front.
+//! Operands: what may stand between two commas. Their names lie in the line.
 
-ghost use Rattle.std.specs.Prelude.{◌≡◌};
-ghost use Rattle.sv8_syntax.specs.Token.{views};
-ghost use Rattle.sv8_syntax.specs.Outcome.{Gives};
-ghost use Rattle.sv8_syntax.specs.Reading.{expr_front, expr_of, parenthesized_front, imm_front, imm_of, register_of, reg_or_imm_of};
+ghost use Rattle.std.specs.Prelude.{◌≡◌, IfOk};
+ghost use Rattle.sv8_syntax.specs.Operand.{expr_view, imm_view, source_view};
 
-use crate::fault::LineFault;
-use crate::statement::{Expr, Imm, Name, RegOrImm};
-use crate::token::{Mark, Percent, Token};
-use std::alloc::Global;
+use crate::register::Register;
+use crate::value::{Expr, Imm, Name, RegOrImm};
+use std::alloc::{AllocError, Global};
+use sv8_isa::StateRegister;
 
-/// An r register, alone.
-pub fn register(tokens: &[Token<'_>]) -> Result<u8, LineFault>
-    ensures { Gives (λ r. r) result (register_of (views tokens.now)) }
-{
-    match tokens {
-        [Token::Percent(Percent::Register(r))] => Ok(*r),
-        _ => Err(LineFault::Syntax),
-    }
+/// An expression.
+#[derive(Clone, Copy)]
+pub enum ExprRef<'a> {
+    Number(u32),
+    Minus(u32),
+    Name(&'a [u8]),
+    Plus(&'a [u8], u32),
+    Less(&'a [u8], u32),
 }
 
-#[tactic(auto, unfolding(crate::specs::Reading::expr_front))]
-fn expr_front<'t, 'a>(
-    alloc: Global,
-    tokens: &'t [Token<'a>],
-) -> Result<(Expr, &'t [Token<'a>]), LineFault>
-    ensures { Gives (λ x. (x.0, views x.1.now)) result (expr_front (views tokens.now)) }
-{
-    match tokens {
-        [Token::Number(n), rest @ ..] => Ok((Expr::Number(*n), rest)),
-        [Token::Mark(Mark::Minus), Token::Number(n), rest @ ..] => Ok((Expr::Minus(*n), rest)),
-        [
-            Token::Word(w),
-            Token::Mark(Mark::Plus),
-            Token::Number(n),
-            rest @ ..,
-        ] => { Ok((Expr::Plus(Name::new(alloc, w)?, *n), rest)) }
-        [
-            Token::Word(w),
-            Token::Mark(Mark::Minus),
-            Token::Number(n),
-            rest @ ..,
-        ] => { Ok((Expr::Less(Name::new(alloc, w)?, *n), rest)) }
-        [Token::Word(w), rest @ ..] => Ok((Expr::Name(Name::new(alloc, w)?), rest)),
-        _ => Err(LineFault::Syntax),
-    }
-}
-
-/// An expression, alone.
-#[tactic(auto, unfolding(crate::specs::Reading::expr_of))]
-pub fn expr(alloc: Global, tokens: &[Token<'_>]) -> Result<Expr, LineFault>
-    ensures { Gives (λ e. e) result (expr_of (views tokens.now)) }
-{
-    let (value, rest) = expr_front(alloc, tokens)?;
-    if rest.is_empty() {
+impl<'a> ExprRef<'a> {
+    /// The expression with a name of its own.
+    pub fn owned(self, alloc: Global) -> Result<Expr, AllocError>
+        ensures { IfOk result (λ e. e ≡ expr_view self.entry) }
+    {
+        let value = match self {
+            ExprRef::Number(n) => Expr::Number(n),
+            ExprRef::Minus(n) => Expr::Minus(n),
+            ExprRef::Name(w) => Expr::Name(Name::new(alloc, w)?),
+            ExprRef::Plus(w, n) => Expr::Plus(Name::new(alloc, w)?, n),
+            ExprRef::Less(w, n) => Expr::Less(Name::new(alloc, w)?, n),
+        };
         Ok(value)
-    } else {
-        Err(LineFault::Syntax)
     }
 }
 
-#[tactic(auto, unfolding(crate::specs::Reading::parenthesized_front))]
-fn parenthesized_front<'t, 'a>(
-    alloc: Global,
-    tokens: &'t [Token<'a>],
-) -> Result<(Expr, &'t [Token<'a>]), LineFault>
-    ensures { Gives (λ x. (x.0, views x.1.now)) result (parenthesized_front (views tokens.now)) }
-{
-    let [Token::Mark(Mark::OpenParen), inner @ ..] = tokens else {
-        return Err(LineFault::Syntax);
-    };
-    let (value, after) = expr_front(alloc, inner)?;
-    match after {
-        [Token::Mark(Mark::CloseParen), rest @ ..] => Ok((value, rest)),
-        _ => Err(LineFault::Syntax),
+/// An expression, or `%lo(..)`.
+#[derive(Clone, Copy)]
+pub enum ImmRef<'a> {
+    Value(ExprRef<'a>),
+    Low(ExprRef<'a>),
+}
+
+impl<'a> ImmRef<'a> {
+    fn owned(self, alloc: Global) -> Result<Imm, AllocError>
+        ensures { IfOk result (λ i. i ≡ imm_view self.entry) }
+    {
+        match self {
+            ImmRef::Value(e) => Ok(Imm::Value(e.owned(alloc)?)),
+            ImmRef::Low(e) => Ok(Imm::Low(e.owned(alloc)?)),
+        }
     }
 }
 
-#[tactic(auto, unfolding(crate::specs::Reading::imm_front))]
-fn imm_front<'t, 'a>(
-    alloc: Global,
-    tokens: &'t [Token<'a>],
-) -> Result<(Imm, &'t [Token<'a>]), LineFault>
-    ensures { Gives (λ x. (x.0, views x.1.now)) result (imm_front (views tokens.now)) }
-{
-    if let [Token::Percent(Percent::Low), inner @ ..] = tokens {
-        let (value, rest) = parenthesized_front(alloc, inner)?;
-        Ok((Imm::Low(value), rest))
-    } else {
-        let (value, rest) = expr_front(alloc, tokens)?;
-        Ok((Imm::Value(value), rest))
+/// A register or an immediate value.
+#[derive(Clone, Copy)]
+pub enum RegOrImmRef<'a> {
+    Register(Register),
+    Immediate(ImmRef<'a>),
+}
+
+impl<'a> RegOrImmRef<'a> {
+    /// The same with a name of its own.
+    pub fn owned(self, alloc: Global) -> Result<RegOrImm, AllocError>
+        ensures { IfOk result (λ c. c ≡ source_view self.entry) }
+    {
+        match self {
+            RegOrImmRef::Register(r) => Ok(RegOrImm::Register(r)),
+            RegOrImmRef::Immediate(i) => Ok(RegOrImm::Immediate(i.owned(alloc)?)),
+        }
     }
 }
 
-#[tactic(auto, unfolding(crate::specs::Reading::imm_of))]
-fn imm(alloc: Global, tokens: &[Token<'_>]) -> Result<Imm, LineFault>
-    ensures { Gives (λ e. e) result (imm_of (views tokens.now)) }
-{
-    let (value, rest) = imm_front(alloc, tokens)?;
-    if rest.is_empty() {
-        Ok(value)
-    } else {
-        Err(LineFault::Syntax)
-    }
+/// A register or a value, or both: whatever may stand for an address.
+#[derive(Clone, Copy)]
+pub enum Address<'a> {
+    One(RegOrImmRef<'a>),
+    Sum(Register, RegOrImmRef<'a>),
+    Less(Register, u32),
+    After(ImmRef<'a>, Register),
 }
 
-/// A register or an immediate value, alone.
-#[tactic(auto, unfolding(crate::specs::Reading::reg_or_imm_of))]
-pub fn reg_or_imm(alloc: Global, tokens: &[Token<'_>]) -> Result<RegOrImm, LineFault>
-    ensures { Gives (λ e. e) result (reg_or_imm_of (views tokens.now)) }
-{
-    if let [Token::Percent(Percent::Register(r))] = tokens {
-        Ok(RegOrImm::Register(*r))
-    } else {
-        Ok(RegOrImm::Immediate(imm(alloc, tokens)?))
-    }
+/// What stands between two commas. Each has a spelling of its own.
+#[derive(Clone, Copy)]
+pub enum Operand<'a> {
+    /// A register, an expression, `%lo(..)`, or an address without brackets.
+    Plain(Address<'a>),
+    Bracketed(Address<'a>),
+    /// An address in brackets and a number behind them.
+    Alternate(Address<'a>, u32),
+    /// `%hi(..)`
+    High(ExprRef<'a>),
+    State(StateRegister),
+    /// A text between quotes, as it was written.
+    Quoted(&'a [u8]),
 }

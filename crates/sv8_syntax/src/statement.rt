@@ -1,121 +1,46 @@
 //! Statements, as they are read.
 
-ghost use Rattle.std.specs.Prelude.{◌≡◌, ◌≤◌, ℕ, List, length, IfOk};
+use crate::register::Register;
+use crate::value::{Expr, Exprs, Name, RegOrImm, Text, Upper};
+use sv8_isa::{ArithOp, Cond, MemoryOp, ShiftOp, StateRegister, TaggedOp};
 
-use std::alloc::{AllocError, Global};
-use std::marker::Model;
-use sv8_isa::{ArithOp, Cond};
+/// What an instruction of format 3 does, by the names of Appendix B. `Trap` is Ticc, `Read` and `Write` are RDY to RDTBR
+/// and WRY to WRTBR, and `Memory` is a load or store, in the address space that the processor's mode gives.
+#[derive(Clone, Copy)]
+pub enum Operation {
+    Arith { op: ArithOp, cc: bool },
+    Tagged(TaggedOp),
+    Mulscc,
+    Save,
+    Restore,
+    Shift(ShiftOp),
+    Memory(MemoryOp),
+    Jmpl,
+    Rett,
+    Flush,
+    Trap(Cond),
+    Read(StateRegister),
+    Write(StateRegister),
+    Stbar,
+}
 
-/// A symbol's name: letters, digits, `_`, `.` and `$`, not a digit first. Case counts.
+/// One instruction, with synthetic ones written out.
 #[derive(Drop)]
-pub struct Name {
-    bytes: Vec<u8>,
-}
-
-impl Model for Name {
-    ghost Value = { List ℕ };
-
-    ghost view = { λ n. n.bytes.items };
-}
-
-impl Name {
-    pub(crate) fn new(alloc: Global, bytes: &[u8]) -> Result<Self, AllocError>
-        ensures { IfOk result (λ n. n ≡ bytes.now) }
-    {
-        Ok(Name {
-            bytes: Vec::from_slice(alloc, bytes)?,
-        })
-    }
-
-    /// The bytes of the name.
-    pub fn as_bytes(&self) -> &[u8]
-        ensures { result.now ≡ self.now }
-    {
-        &self.bytes
-    }
-}
-
-/// A value that is known once names are: a number or its negative, a name, or a name and a number
-/// that is added to it or taken from it.
-#[derive(Drop)]
-pub enum Expr {
-    Number(u32),
-    Minus(u32),
-    Name(Name),
-    Plus(Name, u32),
-    Less(Name, u32),
-}
-
-/// The expressions of one line: at least 1, and at most 256.
-#[derive(Drop)]
-pub struct Exprs {
-    items: Vec<Expr>,
-}
-
-impl Model for Exprs {
-    ghost use Rattle.std.specs.Prelude.{List, ◌≤◌, length as count_of};
-    ghost use Rattle.sv8_syntax.specs.declared.statement.Expr.{Expr};
-
-    ghost Value = { List Expr };
-
-    ghost view = { λ e. e.items.items };
-
-    ghost invariant = { λ e. (1 ≤ count_of e.items.items) × (count_of e.items.items ≤ 256) };
-}
-
-impl Exprs {
-    pub(crate) fn new(items: Vec<Expr>) -> Self
-        requires some { 1 ≤ length items.items }
-        requires few { length items.items ≤ 256 }
-        ensures { result ≡ items.items }
-    {
-        Exprs { items }
-    }
-
-    /// The expressions in order.
-    pub fn as_slice(&self) -> &[Expr]
-        ensures items { result.now ≡ self.now }
-        ensures some { 1 ≤ length self.now }
-        ensures few { length self.now ≤ 256 }
-    {
-        &self.items
-    }
-}
-
-/// A value that an instruction's word holds in its field simm13: an expression from -4096 to 4095, or
-/// `%lo(..)`, the low 10 bits of one.
-#[derive(Drop)]
-pub enum Imm {
-    Value(Expr),
-    Low(Expr),
-}
-
-/// The second source of an instruction, `reg_or_imm` of Appendix A. Registers are below 32.
-#[derive(Drop)]
-pub enum RegOrImm {
-    Register(u8),
-    Immediate(Imm),
-}
-
-/// The value that SETHI takes (Appendix B.9): an expression below 2^22, or `%hi(..)`, all but the low
-/// 10 bits of one.
-#[derive(Drop)]
-pub enum Upper {
-    Value(Expr),
-    High(Expr),
-}
-
-/// A statement, with synthetic instructions written out. Registers are numbers below 32.
-#[derive(Drop)]
-pub enum Statement {
-    /// The logical instructions, and ADD to SDIV (Appendix B.11 to B.15, B.18, B.19), with condition
-    /// codes where `cc` holds.
-    Arith {
-        op: ArithOp,
-        cc: bool,
-        rs1: u8,
-        operand: RegOrImm,
-        rd: u8,
+pub enum Instruction {
+    /// An instruction of format 3 (section 5.1). What it does not name of rd, rs1 and the second source is `%g0`.
+    Format3 {
+        op: Operation,
+        rd: Register,
+        rs1: Register,
+        source: RegOrImm,
+    },
+    /// A load or store in an alternate space (Appendix B.1 to B.8).
+    Alternate {
+        op: MemoryOp,
+        rd: Register,
+        rs1: Register,
+        rs2: Register,
+        asi: u32,
     },
     /// A branch on integer condition codes (Appendix B.21). The target is an address.
     Branch {
@@ -123,18 +48,59 @@ pub enum Statement {
         annul: bool,
         target: Expr,
     },
+    /// CALL (Appendix B.24). The target is an address.
+    Call(Expr),
     /// SETHI (Appendix B.9); `nop` is one of 0 to `%g0` (Appendix B.10).
     Sethi {
         value: Upper,
-        rd: u8,
+        rd: Register,
     },
-    /// The directive `.word`: a word in memory for each expression.
-    Word(Exprs),
+    /// UNIMP (Appendix B.31).
+    Unimp(u32),
+}
+
+/// The size of a value in memory.
+#[derive(Clone, Copy)]
+pub enum Width {
+    Byte,
+    Half,
+    Word,
+}
+
+/// A directive that moves the location: to a number, by a number of bytes, or to the next multiple of one.
+#[derive(Clone, Copy)]
+pub enum Motion {
+    Org,
+    Skip,
+    Align,
+}
+
+/// A statement.
+#[derive(Drop)]
+pub enum Statement {
+    Instruction(Instruction),
+    /// `set`, which is one instruction or two.
+    Set { value: Expr, rd: Register },
+    /// A value in memory for each expression.
+    Data { width: Width, values: Exprs },
+    /// The bytes of a text in memory.
+    Ascii(Text),
+    /// The location moves.
+    Motion { motion: Motion, number: u32 },
+    /// A name is given a value: a number or its negative.
+    Equ { name: Name, value: Expr },
+}
+
+/// The label of a line: a name, or a digit below 10, which any number of lines may have.
+#[derive(Drop)]
+pub enum Label {
+    Name(Name),
+    Local(u8),
 }
 
 /// A line: its label, if any, and its statement, if any.
 #[derive(Drop)]
 pub struct Stmt {
-    pub label: Option<Name>,
+    pub label: Option<Label>,
     pub statement: Option<Statement>,
 }

@@ -1,5 +1,6 @@
 //! What a line is cut into.
 
+use crate::register::Register;
 use sv8_isa::StateRegister;
 
 /// A punctuation mark.
@@ -18,18 +19,22 @@ pub enum Mark {
 /// What begins with a percent sign.
 #[derive(Clone, Copy)]
 pub enum Percent {
-    Register(u8),
+    Register(Register),
     State(StateRegister),
     High,
     Low,
 }
 
-/// A token, whose text lies in the line. A quoted text stands without its quotes, as it was written.
+/// A token, whose text lies in the line.
 #[derive(Clone, Copy)]
 pub enum Token<'a> {
+    /// A name, or a reference to a local label.
     Word(&'a [u8]),
     Number(u32),
     Percent(Percent),
     Mark(Mark),
+    /// A text without its quotes, as it was written.
     Quoted(&'a [u8]),
+    /// A local label, with its colon.
+    Local(u8),
 }

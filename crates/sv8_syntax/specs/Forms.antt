@@ -1,0 +1,270 @@
+-- The forms: the statement of each shape with its operands. The grammar and the reader both use `form_of`.
+use Rattle.std.specs.Prelude.{ℕ, List, [], ◌∷◌, true, false, Option, Some, None, if◌then◌else◌}
+use Rattle.sv8_isa.specs.declared.instr.ArithOp.TheVariants as arith
+use Rattle.sv8_isa.specs.declared.instr.MemoryOp.{MemoryOp}
+use Rattle.sv8_isa.specs.declared.instr.MemoryOp.TheVariants as memory
+use Rattle.sv8_syntax.specs.declared.mnemonic.Directive.{Directive}
+use Rattle.sv8_syntax.specs.declared.mnemonic.Directive.TheVariants as directive
+use Rattle.sv8_syntax.specs.declared.mnemonic.Shape.{Shape}
+use Rattle.sv8_syntax.specs.declared.mnemonic.Shape.TheVariants as shape
+use Rattle.sv8_syntax.specs.declared.register.Register.{Register}
+use Rattle.sv8_syntax.specs.declared.register.Register.TheVariants as r
+use Rattle.sv8_syntax.specs.declared.value.Expr.TheVariants as expr
+use Rattle.sv8_syntax.specs.declared.value.Imm.TheVariants as imm
+use Rattle.sv8_syntax.specs.declared.value.RegOrImm.{RegOrImm}
+use Rattle.sv8_syntax.specs.declared.value.RegOrImm.TheVariants as source
+use Rattle.sv8_syntax.specs.declared.value.Upper.TheVariants as upper
+use Rattle.sv8_syntax.specs.declared.statement.Operation.{Operation}
+use Rattle.sv8_syntax.specs.declared.statement.Operation.TheVariants as operation
+use Rattle.sv8_syntax.specs.declared.statement.Instruction.{Instruction}
+use Rattle.sv8_syntax.specs.declared.statement.Instruction.TheVariants as instruction
+use Rattle.sv8_syntax.specs.declared.statement.Statement.{Statement}
+use Rattle.sv8_syntax.specs.declared.statement.Statement.TheVariants as statement
+use Rattle.sv8_syntax.specs.declared.statement.Motion.{Motion}
+use Rattle.sv8_syntax.specs.declared.statement.Width.{Width}
+use Rattle.sv8_syntax.specs.Operand.{Operand}
+use Rattle.sv8_syntax.specs.Lexing.{◌>>=◌}
+use Rattle.sv8_syntax.specs.Taking.{register_in, source_in, imm_in, expr_in, number_in, count_in, place_in, is_bracketed, bracketed_in, starts_with_register, alternate_in, is_state, state_in, upper_in, trap_in, text_in, name_in, signed_in, exprs_in}
+
+-- ---- instructions, by the number of operands
+
+abbrev pub of_registers : Operation → Register → Register → Register → Instruction
+of_registers o rd rs1 rs2 = instruction.Format3 o rd rs1 (source.Register rs2)
+
+abbrev pub small : ℕ → RegOrImm
+small n = source.Immediate (imm.Value (expr.Number n))
+
+unfoldable pub none_of : Shape → Option Instruction
+none_of (shape.Three operation.Save) = Some (of_registers operation.Save r.G0 r.G0 r.G0)
+none_of (shape.Three operation.Restore) = Some (of_registers operation.Restore r.G0 r.G0 r.G0)
+none_of shape.Nop = Some (instruction.Sethi (upper.Value (expr.Number 0)) r.G0)
+none_of (shape.Return a) = Some (instruction.Format3 operation.Jmpl r.G0 a (small 8))
+none_of shape.Stbar = Some (of_registers operation.Stbar r.G0 r.G0 r.G0)
+none_of _ = None
+
+-- call addr, where addr begins with a register
+unfoldable pub linked : Operand → Option Instruction
+linked o = do
+  x ← place_in o
+  Some (instruction.Format3 operation.Jmpl r.O7 x.0 x.1)
+
+-- call expr
+unfoldable pub called : Operand → Option Instruction
+called o = do
+  e ← expr_in o
+  Some (instruction.Call e)
+
+unfoldable pub call_of : Operand → Option Instruction
+call_of o = if starts_with_register o then linked o else called o
+
+-- clr [addr], clrb [addr], clrh [addr]
+unfoldable pub cleared_at : MemoryOp → Operand → Option Instruction
+cleared_at m o = do
+  x ← bracketed_in o
+  Some (instruction.Format3 (operation.Memory m) r.G0 x.0 x.1)
+
+-- clr reg
+unfoldable pub cleared : Operand → Option Instruction
+cleared o = do
+  rd ← register_in o
+  Some (of_registers (operation.Arith arith.Or false) rd r.G0 r.G0)
+
+unfoldable pub clear_of : Operand → Option Instruction
+clear_of o = if is_bracketed o then cleared_at memory.St o else cleared o
+
+unfoldable pub one_of : Shape → Operand → Option Instruction
+one_of (shape.Branch c f) a = do
+  e ← expr_in a
+  Some (instruction.Branch c f e)
+one_of (shape.Trap c) a = do
+  x ← trap_in a
+  Some (instruction.Format3 (operation.Trap c) r.G0 x.0 x.1)
+one_of shape.Call a = call_of a
+one_of (shape.To o) a = do
+  x ← place_in a
+  Some (instruction.Format3 o r.G0 x.0 x.1)
+one_of shape.Unimp a = do
+  n ← number_in a
+  Some (instruction.Unimp n)
+one_of (shape.Test o) a = do
+  rs2 ← register_in a
+  Some (of_registers o r.G0 r.G0 rs2)
+one_of (shape.Not o) a = do
+  rd ← register_in a
+  Some (of_registers o rd rd r.G0)
+one_of (shape.Negate o) a = do
+  rd ← register_in a
+  Some (of_registers o rd r.G0 rd)
+one_of (shape.Step o) a = do
+  rd ← register_in a
+  Some (instruction.Format3 o rd rd (small 1))
+one_of (shape.ClearAt m) a = cleared_at m a
+one_of shape.Clear a = clear_of a
+one_of _ a = None
+
+-- a load or store: the register, and the address in brackets
+unfoldable pub access : MemoryOp → Operand → Operand → Option Instruction
+access m d a = do
+  rd ← register_in d
+  x ← bracketed_in a
+  Some (instruction.Format3 (operation.Memory m) rd x.0 x.1)
+
+unfoldable pub alternate_access : MemoryOp → Operand → Operand → Option Instruction
+alternate_access m d a = do
+  rd ← register_in d
+  x ← alternate_in a
+  Some (instruction.Alternate m rd x.0 x.1 x.2)
+
+-- rd special, reg
+unfoldable pub from_state : Operand → Operand → Option Instruction
+from_state c d = do
+  s ← state_in c
+  rd ← register_in d
+  Some (of_registers (operation.Read s) rd r.G0 r.G0)
+
+-- mov reg_or_imm, special
+unfoldable pub to_state : Operand → Operand → Option Instruction
+to_state c d = do
+  s ← state_in d
+  x ← source_in c
+  Some (instruction.Format3 (operation.Write s) r.G0 r.G0 x)
+
+unfoldable pub moved : Operand → Operand → Option Instruction
+moved c d = do
+  rd ← register_in d
+  x ← source_in c
+  Some (instruction.Format3 (operation.Arith arith.Or false) rd r.G0 x)
+
+unfoldable pub mov_of : Operand → Operand → Option Instruction
+mov_of c d = if is_state c then from_state c d else (if is_state d then to_state c d else moved c d)
+
+-- a register against a register or a value, for the condition codes alone
+unfoldable pub compared : Operation → Operand → Operand → Option Instruction
+compared o a c = do
+  rs1 ← register_in a
+  x ← source_in c
+  Some (instruction.Format3 o r.G0 rs1 x)
+
+unfoldable pub two_of : Shape → Operand → Operand → Option Instruction
+two_of (shape.Load m) a d = access m d a
+two_of (shape.Store m) d a = access m d a
+two_of (shape.LoadAlternate m) a d = alternate_access m d a
+two_of (shape.StoreAlternate m) d a = alternate_access m d a
+two_of shape.Sethi a d = do
+  rd ← register_in d
+  value ← upper_in a
+  Some (instruction.Sethi value rd)
+two_of shape.Read a d = from_state a d
+two_of shape.Jmpl a d = do
+  rd ← register_in d
+  x ← place_in a
+  Some (instruction.Format3 operation.Jmpl rd x.0 x.1)
+two_of shape.Call a n = do
+  ignored ← number_in n
+  call_of a
+two_of (shape.Not o) a d = do
+  rs1 ← register_in a
+  rd ← register_in d
+  Some (of_registers o rd rs1 r.G0)
+two_of (shape.Negate o) a d = do
+  rs2 ← register_in a
+  rd ← register_in d
+  Some (of_registers o rd r.G0 rs2)
+two_of (shape.Step o) a d = do
+  rd ← register_in d
+  i ← imm_in a
+  Some (instruction.Format3 o rd rd (source.Immediate i))
+two_of (shape.Compare o) a c = compared o a c
+two_of (shape.TestBits o) c a = compared o a c
+two_of (shape.Update o) c d = do
+  rd ← register_in d
+  x ← source_in c
+  Some (instruction.Format3 o rd rd x)
+two_of shape.Mov c d = mov_of c d
+two_of _ a d = None
+
+unfoldable pub three_of : Shape → Operand → Operand → Operand → Option Instruction
+three_of (shape.Three o) a c d = do
+  rs1 ← register_in a
+  rd ← register_in d
+  x ← source_in c
+  Some (instruction.Format3 o rd rs1 x)
+three_of (shape.Shift o) a c d = do
+  rs1 ← register_in a
+  rd ← register_in d
+  x ← count_in c
+  Some (instruction.Format3 (operation.Shift o) rd rs1 x)
+three_of shape.Write a c d = do
+  rs1 ← register_in a
+  s ← state_in d
+  x ← source_in c
+  Some (instruction.Format3 (operation.Write s) r.G0 rs1 x)
+three_of _ a c d = None
+
+unfoldable pub instruction_of : Shape → List Operand → Option Instruction
+instruction_of s [] = none_of s
+instruction_of s (a ∷ []) = one_of s a
+instruction_of s (a ∷ c ∷ []) = two_of s a c
+instruction_of s (a ∷ c ∷ d ∷ []) = three_of s a c d
+instruction_of s _ = None
+
+-- ---- directives, and set
+
+unfoldable pub set_of : List Operand → Option Statement
+set_of (a ∷ d ∷ []) = do
+  rd ← register_in d
+  e ← expr_in a
+  Some (statement.Set e rd)
+set_of _ = None
+
+unfoldable pub motion_of : Motion → List Operand → Option Statement
+motion_of m (a ∷ []) = do
+  n ← number_in a
+  Some (statement.Motion m n)
+motion_of m _ = None
+
+-- one value or more
+unfoldable pub data_of : Width → List Operand → Option Statement
+data_of w [] = None
+data_of w (o ∷ os) = do
+  es ← exprs_in (o ∷ os)
+  Some (statement.Data w es)
+
+unfoldable pub ascii_of : List Operand → Option Statement
+ascii_of (a ∷ []) = do
+  t ← text_in a
+  Some (statement.Ascii t)
+ascii_of _ = None
+
+unfoldable pub equ_of : List Operand → Option Statement
+equ_of (a ∷ b ∷ []) = do
+  value ← signed_in b
+  w ← name_in a
+  Some (statement.Equ w value)
+equ_of _ = None
+
+unfoldable pub directive_of : Directive → List Operand → Option Statement
+directive_of directive.Set os = set_of os
+directive_of (directive.Motion m) os = motion_of m os
+directive_of (directive.Data w) os = data_of w os
+directive_of directive.Ascii os = ascii_of os
+directive_of directive.Equ os = equ_of os
+
+-- ---- all forms
+
+unfoldable pub directive_in : Shape → Option Directive
+directive_in (shape.Directive d) = Some d
+directive_in _ = None
+
+abbrev pub directive_or_instruction : Option Directive → Shape → List Operand → Option Statement
+directive_or_instruction (Some d) s os = directive_of d os
+directive_or_instruction None s os = instruction_of s os >>= λ i. Some (statement.Instruction i)
+
+-- the statement of a shape with these operands
+unfoldable pub form_of : Shape → List Operand → Option Statement
+form_of s os = directive_or_instruction (directive_in s) s os
+
+-- a branch that annuls, for one that does not
+unfoldable pub annulled : Shape → Option Shape
+annulled (shape.Branch c false) = Some (shape.Branch c true)
+annulled _ = None

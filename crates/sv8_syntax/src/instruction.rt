@@ -1,0 +1,543 @@
+//! Instructions, each from its mnemonic's shape and its operands: a function for each form.
+
+ghost use Rattle.std.specs.Prelude.{◌≡◌, Some};
+ghost use Rattle.sv8_syntax.specs.declared.mnemonic.Shape.TheVariants as kind;
+ghost use Rattle.sv8_syntax.specs.declared.statement.Instruction.TheVariants as instruction;
+ghost use Rattle.sv8_syntax.specs.Operand.{source_view, operand_view, operand_views};
+ghost use Rattle.sv8_syntax.specs.Outcome.{Gives};
+ghost use Rattle.sv8_syntax.specs.Taking.{upper_in};
+ghost use Rattle.sv8_syntax.specs.Forms.{of_registers, small, none_of, linked, called, call_of, cleared_at, cleared, clear_of, one_of, access, alternate_access, from_state, to_state, moved, mov_of, compared, two_of, three_of, instruction_of};
+
+use crate::fault::LineFault::{self, Syntax};
+use crate::mnemonic::Shape;
+use crate::operand::{Address, ImmRef, Operand, RegOrImmRef};
+use crate::register::Register;
+use crate::statement::{Instruction, Operation};
+use crate::take::{
+    alternate_in, bracketed_in, count_in, expr_in, imm_in, is_bracketed, is_state, number_in,
+    place_in, register_in, source_in, starts_with_register, state_in, trap_in,
+};
+use crate::value::{Expr, Imm, RegOrImm, Upper};
+use std::alloc::Global;
+use sv8_isa::{ArithOp, Cond, MemoryOp, ShiftOp};
+
+const OR: Operation = Operation::Arith {
+    op: ArithOp::Or,
+    cc: false,
+};
+
+fn format3(
+    alloc: Global,
+    op: Operation,
+    rd: Register,
+    rs1: Register,
+    source: RegOrImmRef<'_>,
+) -> Result<Instruction, LineFault>
+    ensures { Gives (λ i. i) result (Some (instruction.Format3 op rd rs1 (source_view source.entry))) }
+{
+    let source = source.owned(alloc)?;
+    Ok(Instruction::Format3 {
+        op,
+        rd,
+        rs1,
+        source,
+    })
+}
+
+/// An instruction of registers alone.
+fn of_registers(op: Operation, rd: Register, rs1: Register, rs2: Register) -> Instruction
+    ensures { result ≡ of_registers op rd rs1 rs2 }
+{
+    Instruction::Format3 {
+        op,
+        rd,
+        rs1,
+        source: RegOrImm::Register(rs2),
+    }
+}
+
+/// An instruction whose second source is a small number.
+fn of_number(op: Operation, rd: Register, rs1: Register, number: u32) -> Instruction
+    ensures { result ≡ instruction.Format3 op rd rs1 (small number) }
+{
+    Instruction::Format3 {
+        op,
+        rd,
+        rs1,
+        source: RegOrImm::Immediate(Imm::Value(Expr::Number(number))),
+    }
+}
+
+/// `%hi(..)`, or an expression.
+#[tactic(auto, unfolding(crate::specs::Taking::upper_in))]
+fn upper_in(alloc: Global, operand: Operand<'_>) -> Result<Upper, LineFault>
+    ensures { Gives (λ u. u) result (upper_in (operand_view operand.entry)) }
+{
+    match operand {
+        Operand::High(e) => Ok(Upper::High(e.owned(alloc)?)),
+        Operand::Plain(Address::One(RegOrImmRef::Immediate(ImmRef::Value(e)))) => {
+            Ok(Upper::Value(e.owned(alloc)?))
+        }
+        _ => Err(Syntax),
+    }
+}
+
+#[tactic(auto, unfolding(crate::specs::Forms::none_of))]
+fn none(shape: Shape) -> Result<Instruction, LineFault>
+    ensures { Gives (λ i. i) result (none_of shape) }
+{
+    let zero = Register::G0;
+    match shape {
+        Shape::Three(Operation::Save) => Ok(of_registers(Operation::Save, zero, zero, zero)),
+        Shape::Three(Operation::Restore) => Ok(of_registers(Operation::Restore, zero, zero, zero)),
+        Shape::Nop => Ok(Instruction::Sethi {
+            value: Upper::Value(Expr::Number(0)),
+            rd: zero,
+        }),
+        Shape::Return(rs1) => Ok(of_number(Operation::Jmpl, zero, rs1, 8)),
+        Shape::Stbar => Ok(of_registers(Operation::Stbar, zero, zero, zero)),
+        _ => Err(Syntax),
+    }
+}
+
+/// `call`, to an address that begins with a register.
+#[tactic(auto, unfolding(crate::specs::Forms::linked))]
+fn linked(alloc: Global, target: Operand<'_>) -> Result<Instruction, LineFault>
+    ensures { Gives (λ i. i) result (linked (operand_view target.entry)) }
+{
+    let (rs1, source) = place_in(target).ok_or(Syntax)?;
+    format3(alloc, Operation::Jmpl, Register::O7, rs1, source)
+}
+
+/// `call`, to an expression.
+#[tactic(auto, unfolding(crate::specs::Forms::called))]
+fn called(alloc: Global, target: Operand<'_>) -> Result<Instruction, LineFault>
+    ensures { Gives (λ i. i) result (called (operand_view target.entry)) }
+{
+    let target = expr_in(target).ok_or(Syntax)?.owned(alloc)?;
+    Ok(Instruction::Call(target))
+}
+
+#[tactic(auto, unfolding(crate::specs::Forms::call_of))]
+fn call(alloc: Global, target: Operand<'_>) -> Result<Instruction, LineFault>
+    ensures { Gives (λ i. i) result (call_of (operand_view target.entry)) }
+{
+    if starts_with_register(target) {
+        linked(alloc, target)
+    } else {
+        called(alloc, target)
+    }
+}
+
+/// `clr`, `clrh` or `clrb` of an address.
+#[tactic(auto, unfolding(crate::specs::Forms::cleared_at))]
+fn cleared_at(alloc: Global, op: MemoryOp, place: Operand<'_>) -> Result<Instruction, LineFault>
+    ensures { Gives (λ i. i) result (cleared_at op (operand_view place.entry)) }
+{
+    let (rs1, source) = bracketed_in(place).ok_or(Syntax)?;
+    format3(alloc, Operation::Memory(op), Register::G0, rs1, source)
+}
+
+/// `clr` of a register.
+#[tactic(auto, unfolding(crate::specs::Forms::cleared))]
+fn cleared(to: Operand<'_>) -> Result<Instruction, LineFault>
+    ensures { Gives (λ i. i) result (cleared (operand_view to.entry)) }
+{
+    let rd = register_in(to).ok_or(Syntax)?;
+    Ok(of_registers(OR, rd, Register::G0, Register::G0))
+}
+
+#[tactic(auto, unfolding(crate::specs::Forms::clear_of))]
+fn clear(alloc: Global, operand: Operand<'_>) -> Result<Instruction, LineFault>
+    ensures { Gives (λ i. i) result (clear_of (operand_view operand.entry)) }
+{
+    if is_bracketed(operand) {
+        cleared_at(alloc, MemoryOp::St, operand)
+    } else {
+        cleared(operand)
+    }
+}
+
+#[tactic(auto, unfolding(crate::specs::Forms::one_of))]
+fn branch(
+    alloc: Global,
+    cond: Cond,
+    annul: bool,
+    operand: Operand<'_>,
+) -> Result<Instruction, LineFault>
+    ensures { Gives (λ i. i) result (one_of (kind.Branch cond annul) (operand_view operand.entry)) }
+{
+    let target = expr_in(operand).ok_or(Syntax)?.owned(alloc)?;
+    Ok(Instruction::Branch {
+        cond,
+        annul,
+        target,
+    })
+}
+
+#[tactic(auto, unfolding(crate::specs::Forms::one_of))]
+fn trap(alloc: Global, cond: Cond, operand: Operand<'_>) -> Result<Instruction, LineFault>
+    ensures { Gives (λ i. i) result (one_of (kind.Trap cond) (operand_view operand.entry)) }
+{
+    let (rs1, source) = trap_in(operand).ok_or(Syntax)?;
+    format3(alloc, Operation::Trap(cond), Register::G0, rs1, source)
+}
+
+/// `jmp`, `rett` and `flush`.
+#[tactic(auto, unfolding(crate::specs::Forms::one_of))]
+fn to(alloc: Global, op: Operation, operand: Operand<'_>) -> Result<Instruction, LineFault>
+    ensures { Gives (λ i. i) result (one_of (kind.To op) (operand_view operand.entry)) }
+{
+    let (rs1, source) = place_in(operand).ok_or(Syntax)?;
+    format3(alloc, op, Register::G0, rs1, source)
+}
+
+#[tactic(auto, unfolding(crate::specs::Forms::one_of))]
+fn unimp(operand: Operand<'_>) -> Result<Instruction, LineFault>
+    ensures { Gives (λ i. i) result (one_of kind.Unimp (operand_view operand.entry)) }
+{
+    let number = number_in(operand).ok_or(Syntax)?;
+    Ok(Instruction::Unimp(number))
+}
+
+#[tactic(auto, unfolding(crate::specs::Forms::one_of))]
+fn test(op: Operation, operand: Operand<'_>) -> Result<Instruction, LineFault>
+    ensures { Gives (λ i. i) result (one_of (kind.Test op) (operand_view operand.entry)) }
+{
+    let rs2 = register_in(operand).ok_or(Syntax)?;
+    Ok(of_registers(op, Register::G0, Register::G0, rs2))
+}
+
+#[tactic(auto, unfolding(crate::specs::Forms::one_of))]
+fn not_self(op: Operation, to: Operand<'_>) -> Result<Instruction, LineFault>
+    ensures { Gives (λ i. i) result (one_of (kind.Not op) (operand_view to.entry)) }
+{
+    let rd = register_in(to).ok_or(Syntax)?;
+    Ok(of_registers(op, rd, rd, Register::G0))
+}
+
+#[tactic(auto, unfolding(crate::specs::Forms::one_of))]
+fn negate_self(op: Operation, to: Operand<'_>) -> Result<Instruction, LineFault>
+    ensures { Gives (λ i. i) result (one_of (kind.Negate op) (operand_view to.entry)) }
+{
+    let rd = register_in(to).ok_or(Syntax)?;
+    Ok(of_registers(op, rd, Register::G0, rd))
+}
+
+#[tactic(auto, unfolding(crate::specs::Forms::one_of))]
+fn step_by_one(op: Operation, to: Operand<'_>) -> Result<Instruction, LineFault>
+    ensures { Gives (λ i. i) result (one_of (kind.Step op) (operand_view to.entry)) }
+{
+    let rd = register_in(to).ok_or(Syntax)?;
+    Ok(of_number(op, rd, rd, 1))
+}
+
+#[tactic(auto, unfolding(crate::specs::Forms::one_of))]
+fn one(alloc: Global, shape: Shape, operand: Operand<'_>) -> Result<Instruction, LineFault>
+    ensures { Gives (λ i. i) result (one_of shape (operand_view operand.entry)) }
+{
+    match shape {
+        Shape::Branch { cond, annul } => branch(alloc, cond, annul, operand),
+        Shape::Trap(cond) => trap(alloc, cond, operand),
+        Shape::Call => call(alloc, operand),
+        Shape::To(op) => to(alloc, op, operand),
+        Shape::Unimp => unimp(operand),
+        Shape::Test(op) => test(op, operand),
+        Shape::Not(op) => not_self(op, operand),
+        Shape::Negate(op) => negate_self(op, operand),
+        Shape::Step(op) => step_by_one(op, operand),
+        Shape::ClearAt(op) => cleared_at(alloc, op, operand),
+        Shape::Clear => clear(alloc, operand),
+        _ => Err(Syntax),
+    }
+}
+
+/// A load or store: the register, and the address in brackets.
+#[tactic(auto, unfolding(crate::specs::Forms::access))]
+fn access(
+    alloc: Global,
+    op: MemoryOp,
+    register: Operand<'_>,
+    place: Operand<'_>,
+) -> Result<Instruction, LineFault>
+    ensures { Gives (λ i. i) result (access op (operand_view register.entry) (operand_view place.entry)) }
+{
+    let rd = register_in(register).ok_or(Syntax)?;
+    let (rs1, source) = bracketed_in(place).ok_or(Syntax)?;
+    format3(alloc, Operation::Memory(op), rd, rs1, source)
+}
+
+/// The same in an alternate space.
+#[tactic(auto, unfolding(crate::specs::Forms::alternate_access))]
+fn alternate_access(
+    op: MemoryOp,
+    register: Operand<'_>,
+    place: Operand<'_>,
+) -> Result<Instruction, LineFault>
+    ensures { Gives (λ i. i) result (alternate_access op (operand_view register.entry) (operand_view place.entry)) }
+{
+    let rd = register_in(register).ok_or(Syntax)?;
+    let (rs1, rs2, asi) = alternate_in(place).ok_or(Syntax)?;
+    Ok(Instruction::Alternate {
+        op,
+        rd,
+        rs1,
+        rs2,
+        asi,
+    })
+}
+
+#[tactic(auto, unfolding(crate::specs::Forms::two_of))]
+fn sethi(alloc: Global, value: Operand<'_>, to: Operand<'_>) -> Result<Instruction, LineFault>
+    ensures { Gives (λ i. i) result (two_of kind.Sethi (operand_view value.entry) (operand_view to.entry)) }
+{
+    let rd = register_in(to).ok_or(Syntax)?;
+    let value = upper_in(alloc, value)?;
+    Ok(Instruction::Sethi { value, rd })
+}
+
+/// `rd`, and `mov` from a state register.
+#[tactic(auto, unfolding(crate::specs::Forms::from_state))]
+fn from_state(from: Operand<'_>, to: Operand<'_>) -> Result<Instruction, LineFault>
+    ensures { Gives (λ i. i) result (from_state (operand_view from.entry) (operand_view to.entry)) }
+{
+    let state = state_in(from).ok_or(Syntax)?;
+    let rd = register_in(to).ok_or(Syntax)?;
+    Ok(of_registers(Operation::Read(state), rd, Register::G0, Register::G0))
+}
+
+/// `mov` to a state register.
+#[tactic(auto, unfolding(crate::specs::Forms::to_state))]
+fn to_state(alloc: Global, from: Operand<'_>, to: Operand<'_>) -> Result<Instruction, LineFault>
+    ensures { Gives (λ i. i) result (to_state (operand_view from.entry) (operand_view to.entry)) }
+{
+    let state = state_in(to).ok_or(Syntax)?;
+    let source = source_in(from).ok_or(Syntax)?;
+    format3(
+        alloc,
+        Operation::Write(state),
+        Register::G0,
+        Register::G0,
+        source,
+    )
+}
+
+/// `mov` to an r register.
+#[tactic(auto, unfolding(crate::specs::Forms::moved))]
+fn moved(alloc: Global, from: Operand<'_>, to: Operand<'_>) -> Result<Instruction, LineFault>
+    ensures { Gives (λ i. i) result (moved (operand_view from.entry) (operand_view to.entry)) }
+{
+    let rd = register_in(to).ok_or(Syntax)?;
+    let source = source_in(from).ok_or(Syntax)?;
+    format3(alloc, OR, rd, Register::G0, source)
+}
+
+#[tactic(auto, unfolding(crate::specs::Forms::mov_of))]
+fn mov(alloc: Global, from: Operand<'_>, to: Operand<'_>) -> Result<Instruction, LineFault>
+    ensures { Gives (λ i. i) result (mov_of (operand_view from.entry) (operand_view to.entry)) }
+{
+    if is_state(from) {
+        from_state(from, to)
+    } else if is_state(to) {
+        to_state(alloc, from, to)
+    } else {
+        moved(alloc, from, to)
+    }
+}
+
+#[tactic(auto, unfolding(crate::specs::Forms::two_of))]
+fn jmpl(alloc: Global, target: Operand<'_>, to: Operand<'_>) -> Result<Instruction, LineFault>
+    ensures { Gives (λ i. i) result (two_of kind.Jmpl (operand_view target.entry) (operand_view to.entry)) }
+{
+    let rd = register_in(to).ok_or(Syntax)?;
+    let (rs1, source) = place_in(target).ok_or(Syntax)?;
+    format3(alloc, Operation::Jmpl, rd, rs1, source)
+}
+
+/// `call` with a number behind it, which is ignored.
+#[tactic(auto, unfolding(crate::specs::Forms::two_of))]
+fn call_with_number(
+    alloc: Global,
+    target: Operand<'_>,
+    number: Operand<'_>,
+) -> Result<Instruction, LineFault>
+    ensures { Gives (λ i. i) result (two_of kind.Call (operand_view target.entry) (operand_view number.entry)) }
+{
+    number_in(number).ok_or(Syntax)?;
+    call(alloc, target)
+}
+
+#[tactic(auto, unfolding(crate::specs::Forms::two_of))]
+fn not(op: Operation, from: Operand<'_>, to: Operand<'_>) -> Result<Instruction, LineFault>
+    ensures { Gives (λ i. i) result (two_of (kind.Not op) (operand_view from.entry) (operand_view to.entry)) }
+{
+    let rs1 = register_in(from).ok_or(Syntax)?;
+    let rd = register_in(to).ok_or(Syntax)?;
+    Ok(of_registers(op, rd, rs1, Register::G0))
+}
+
+#[tactic(auto, unfolding(crate::specs::Forms::two_of))]
+fn negate(op: Operation, from: Operand<'_>, to: Operand<'_>) -> Result<Instruction, LineFault>
+    ensures { Gives (λ i. i) result (two_of (kind.Negate op) (operand_view from.entry) (operand_view to.entry)) }
+{
+    let rs2 = register_in(from).ok_or(Syntax)?;
+    let rd = register_in(to).ok_or(Syntax)?;
+    Ok(of_registers(op, rd, Register::G0, rs2))
+}
+
+/// `inc` and `dec` by a value.
+#[tactic(auto, unfolding(crate::specs::Forms::two_of))]
+fn step(
+    alloc: Global,
+    op: Operation,
+    by: Operand<'_>,
+    to: Operand<'_>,
+) -> Result<Instruction, LineFault>
+    ensures { Gives (λ i. i) result (two_of (kind.Step op) (operand_view by.entry) (operand_view to.entry)) }
+{
+    let rd = register_in(to).ok_or(Syntax)?;
+    let by = imm_in(by).ok_or(Syntax)?;
+    format3(alloc, op, rd, rd, RegOrImmRef::Immediate(by))
+}
+
+/// `cmp` and `btst`: a register, and what it is compared with.
+#[tactic(auto, unfolding(crate::specs::Forms::compared))]
+fn compared(
+    alloc: Global,
+    op: Operation,
+    first: Operand<'_>,
+    second: Operand<'_>,
+) -> Result<Instruction, LineFault>
+    ensures { Gives (λ i. i) result (compared op (operand_view first.entry) (operand_view second.entry)) }
+{
+    let rs1 = register_in(first).ok_or(Syntax)?;
+    let source = source_in(second).ok_or(Syntax)?;
+    format3(alloc, op, Register::G0, rs1, source)
+}
+
+/// `bset`, `bclr` and `btog`.
+#[tactic(auto, unfolding(crate::specs::Forms::two_of))]
+fn update(
+    alloc: Global,
+    op: Operation,
+    by: Operand<'_>,
+    to: Operand<'_>,
+) -> Result<Instruction, LineFault>
+    ensures { Gives (λ i. i) result (two_of (kind.Update op) (operand_view by.entry) (operand_view to.entry)) }
+{
+    let rd = register_in(to).ok_or(Syntax)?;
+    let source = source_in(by).ok_or(Syntax)?;
+    format3(alloc, op, rd, rd, source)
+}
+
+#[tactic(auto, unfolding(crate::specs::Forms::two_of))]
+fn two(
+    alloc: Global,
+    shape: Shape,
+    first: Operand<'_>,
+    second: Operand<'_>,
+) -> Result<Instruction, LineFault>
+    ensures { Gives (λ i. i) result (two_of shape (operand_view first.entry) (operand_view second.entry)) }
+{
+    match shape {
+        Shape::Load(op) => access(alloc, op, second, first),
+        Shape::Store(op) => access(alloc, op, first, second),
+        Shape::LoadAlternate(op) => alternate_access(op, second, first),
+        Shape::StoreAlternate(op) => alternate_access(op, first, second),
+        Shape::Sethi => sethi(alloc, first, second),
+        Shape::Read => from_state(first, second),
+        Shape::Jmpl => jmpl(alloc, first, second),
+        Shape::Call => call_with_number(alloc, first, second),
+        Shape::Not(op) => not(op, first, second),
+        Shape::Negate(op) => negate(op, first, second),
+        Shape::Step(op) => step(alloc, op, first, second),
+        Shape::Compare(op) => compared(alloc, op, first, second),
+        Shape::TestBits(op) => compared(alloc, op, second, first),
+        Shape::Update(op) => update(alloc, op, first, second),
+        Shape::Mov => mov(alloc, first, second),
+        _ => Err(Syntax),
+    }
+}
+
+#[tactic(auto, unfolding(crate::specs::Forms::three_of))]
+fn three_fields(
+    alloc: Global,
+    op: Operation,
+    first: Operand<'_>,
+    second: Operand<'_>,
+    to: Operand<'_>,
+) -> Result<Instruction, LineFault>
+    ensures { Gives (λ i. i) result (three_of (kind.Three op) (operand_view first.entry) (operand_view second.entry) (operand_view to.entry)) }
+{
+    let rs1 = register_in(first).ok_or(Syntax)?;
+    let rd = register_in(to).ok_or(Syntax)?;
+    let source = source_in(second).ok_or(Syntax)?;
+    format3(alloc, op, rd, rs1, source)
+}
+
+#[tactic(auto, unfolding(crate::specs::Forms::three_of))]
+fn shift(
+    alloc: Global,
+    op: ShiftOp,
+    first: Operand<'_>,
+    second: Operand<'_>,
+    to: Operand<'_>,
+) -> Result<Instruction, LineFault>
+    ensures { Gives (λ i. i) result (three_of (kind.Shift op) (operand_view first.entry) (operand_view second.entry) (operand_view to.entry)) }
+{
+    let rs1 = register_in(first).ok_or(Syntax)?;
+    let rd = register_in(to).ok_or(Syntax)?;
+    let count = count_in(second).ok_or(Syntax)?;
+    format3(alloc, Operation::Shift(op), rd, rs1, count)
+}
+
+#[tactic(auto, unfolding(crate::specs::Forms::three_of))]
+fn write_state(
+    alloc: Global,
+    first: Operand<'_>,
+    second: Operand<'_>,
+    to: Operand<'_>,
+) -> Result<Instruction, LineFault>
+    ensures { Gives (λ i. i) result (three_of kind.Write (operand_view first.entry) (operand_view second.entry) (operand_view to.entry)) }
+{
+    let rs1 = register_in(first).ok_or(Syntax)?;
+    let state = state_in(to).ok_or(Syntax)?;
+    let source = source_in(second).ok_or(Syntax)?;
+    format3(alloc, Operation::Write(state), Register::G0, rs1, source)
+}
+
+#[tactic(auto, unfolding(crate::specs::Forms::three_of))]
+fn three(
+    alloc: Global,
+    shape: Shape,
+    first: Operand<'_>,
+    second: Operand<'_>,
+    third: Operand<'_>,
+) -> Result<Instruction, LineFault>
+    ensures { Gives (λ i. i) result (three_of shape (operand_view first.entry) (operand_view second.entry) (operand_view third.entry)) }
+{
+    match shape {
+        Shape::Three(op) => three_fields(alloc, op, first, second, third),
+        Shape::Shift(op) => shift(alloc, op, first, second, third),
+        Shape::Write => write_state(alloc, first, second, third),
+        _ => Err(Syntax),
+    }
+}
+
+/// The instruction of a shape with these operands.
+#[tactic(auto, unfolding(crate::specs::Forms::instruction_of))]
+pub fn instruction(
+    alloc: Global,
+    shape: Shape,
+    operands: &[Operand<'_>],
+) -> Result<Instruction, LineFault>
+    ensures { Gives (λ i. i) result (instruction_of shape (operand_views operands.now)) }
+{
+    match operands {
+        [] => none(shape),
+        [a] => one(alloc, shape, *a),
+        [a, c] => two(alloc, shape, *a, *c),
+        [a, c, d] => three(alloc, shape, *a, *c, *d),
+        _ => Err(Syntax),
+    }
+}
