@@ -25,6 +25,14 @@ bytes_of_reading (Err e) line at names = Err e
 abbrev pub line_bytes : List ℕ → ℕ → ℕ → Names → Result (List ℕ) LineFault
 line_bytes text line at names = bytes_of_reading (reading text) line at names
 
+-- how far a line of text moves the location
+abbrev pub size_of_reading : Result Stmt LineFault → ℕ → Result ℕ LineFault
+size_of_reading (Ok s) at = size s at
+size_of_reading (Err e) at = Err e
+
+abbrev pub line_size : List ℕ → ℕ → Result ℕ LineFault
+line_size text at = size_of_reading (reading text) at
+
 -- words that stand for instructions, one after another, and their bytes, the most significant of each first
 pub record AreWordsOf (is : List Instr) (b : List ℕ) : Type 0 where
   pub words : List ℕ

@@ -13,6 +13,8 @@ pub mod laws;
 mod operand;
 mod size;
 mod symbols;
+#[cfg(test)]
+mod tests;
 mod value;
 
 pub use code::assemble;
