@@ -1,6 +1,6 @@
 -- What the words of the command line choose. `matches_of` of clap's definitions is what a command line makes of words.
-use Rattle.std.specs.Prelude.{◌≡◌, ℕ, List, [], ◌∷◌, Option, Some, None, map, codes, bytes_eq, if◌then◌else◌, true}
-use Rattle.clap.specs.Words.{App, Rule, Text, first_of, matches_of, new_rule, with_rule}
+use Rattle.std.specs.Prelude.{◌≡◌, ℕ, List, [], ◌∷◌, Option, Some, None, map, codes, bytes_eq, if◌then◌else◌, true, false}
+use Rattle.clap.specs.Words.{App, Rule, Text, first_of, matches_of, new_rule, with_rule, takes}
 use Rattle.clap.specs.Simple.{new_shape}
 use Rattle.clap.specs.declared.builder.value_parser.ValueParser.{ValueParser}
 use Rattle.clap.specs.declared.builder.value_parser.ValueParser.TheVariants.{Names}
@@ -46,3 +46,7 @@ pub record Chooses (words : List Text) (windows : ℕ) (script : Option Text) : 
   pub five : IsFiveCounts counts
   pub windows_is : windows ≡ windows_of (first_of (codes "windows") (matches_of (command_line counts) words))
   pub script_is : script ≡ first_of (codes "SCRIPT") (matches_of (command_line counts) words)
+
+-- the words are none that the command line takes
+abbrev pub IsNotTaken : List Text → Type 0
+IsNotTaken words = (counts : ValueParser) × IsFiveCounts counts × (takes (command_line counts) words ≡ false)

@@ -1,9 +1,9 @@
 //! The words of the command line.
 
-ghost use Rattle.std.specs.Prelude.{◌≡◌, IfOk, IsTrue, map, option_map};
-ghost use Rattle.clap.specs.Words.{app_of};
+ghost use Rattle.std.specs.Prelude.{◌≡◌, ◌⊎◌, IfOk, IfErr, IsTrue, map, option_map};
+ghost use Rattle.clap.specs.Words.{app_of, kind_of};
 ghost use Rattle.sparc8.specs.Windows.{is_window_count};
-ghost use Rattle.sparc8.specs.Words.{Chooses, IsSparc8, windows_of};
+ghost use Rattle.sparc8.specs.Words.{Chooses, IsNotTaken, IsSparc8, windows_of};
 
 mod chosen;
 
@@ -42,9 +42,14 @@ pub fn settings<'a>(alloc: Global, words: &'a [&'a str]) -> Result<Settings<'a>,
     ensures chosen { IfOk result (λ s.
         Chooses (map (λ w. w.now) words.entry.now) s.windows (option_map (λ t. t.now) s.script)) }
     ensures windows { IfOk result (λ s. IsTrue (is_window_count s.windows)) }
+    ensures refused { IfErr result (λ e.
+        (kind_of e ≡ ErrorKind.OutOfMemory) ⊎ IsNotTaken (map (λ w. w.now) words.entry.now)) }
 {
     let command = command_line(alloc)?;
-    let matches = command.try_get_matches_from(words)?;
+    let matches = match command.try_get_matches_from(words) {
+        Ok(matches) => matches,
+        Err(error) => return Err(error),
+    };
     Ok(Settings {
         windows: window_count(matches.get_str("windows")),
         script: matches.get_str("SCRIPT"),

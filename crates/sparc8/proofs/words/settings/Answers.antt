@@ -1,8 +1,10 @@
-use Rattle.std.proofs.Common.{ap, refl, codes, true, map, ◌≡◌, ◌∙◌}
-use Rattle.clap.specs.Words.{first_of, found_of, is_simple, matches_of, rows_of}
+use Rattle.std.proofs.Common.{ap, refl, codes, Bool, true, false, List, map, ◌≡◌, ◌∙◌, ◌⊎◌, inl, inr}
+use Rattle.clap.specs.Words.{Text, first_of, found_of, is_simple, kind_of, matches_of, rows_of, takes}
+use Rattle.clap.specs.declared.error.Error.{Error}
+use Rattle.clap.specs.declared.error.kind.ErrorKind.TheVariants.{OutOfMemory}
 use Rattle.clap.specs.declared.builder.value_parser.ValueParser.{ValueParser}
 use Rattle.clap.proofs.WalkLemmas.{first_value-rows}
-use Rattle.sparc8.specs.Words.{command_line, windows_of}
+use Rattle.sparc8.specs.Words.{IsFiveCounts, IsNotTaken, command_line, windows_of}
 use Rattle.sparc8.proofs.words.settings.Goals as goal
 
 is_plain : (counts : ValueParser) → is_simple (command_line counts) ≡ true
@@ -12,12 +14,23 @@ pub returns-clause-chosen : goal.returns-clause-chosen
 returns-clause-chosen c =
     let is = c.in_ok-command.ensures in
     let words = map (λ w. w.now) c.args.words.now in
-    let found = found_of c.in_ok-matches.matches in
+    let found = found_of c.in-Ok.matches in
     let rows : rows_of found ≡ matches_of (command_line is.0) words =
-    (c.in_ok-matches.ensures.matches (ap is_simple is.2 ∙ is_plain is.0)).0 ∙ ap (λ a. matches_of a words) is.2 in
+    (c.in-Ok.ensures.matches (ap is_simple is.2 ∙ is_plain is.0)).0 ∙ ap (λ a. matches_of a words) is.2 in
     record {
       counts = is.0;
       five = is.1;
       windows_is = c.window_count.ensures.value ∙ ap windows_of (c.get_str.ensures ∙ first_value-rows found (codes "windows") ∙ ap (first_of (codes "windows")) rows);
       script_is = c.get_str-2.ensures ∙ first_value-rows found (codes "SCRIPT") ∙ ap (first_of (codes "SCRIPT")) rows;
     }
+
+not_taken : (taken : Bool) (words : List Text) (counts : ValueParser) (e : Error) → IsFiveCounts counts → takes (command_line counts) words ≡ taken → (taken ≡ true → kind_of e ≡ OutOfMemory)
+    → (kind_of e ≡ OutOfMemory) ⊎ IsNotTaken words
+not_taken true words counts e five h why = inl (why refl)
+not_taken false words counts e five h why = inr (counts, five, h)
+
+pub returns-in-Err-clause-refused : goal.returns-in-Err-clause-refused
+returns-in-Err-clause-refused c =
+    let is = c.in_ok-command.ensures in
+    let words = map (λ w. w.now) c.args.words.now in
+    not_taken (takes (command_line is.0) words) words is.0 c.in-Err.error is.1 refl (λ h. c.in-Err.ensures.passes (ap (λ a. takes a words) is.2 ∙ h))
