@@ -1,6 +1,6 @@
 -- Codes that no row has.
-use Rattle.std.proofs.Common.{◌≡◌, ℕ, zero, suc, ◌<◌, Bool, true, false, ◌&&◌, ◌||◌, ◌==◌, List, [], ◌∷◌, Option, Some, None, find, refl, inl, inr, arith, sym, ◌∙◌}
-use Rattle.std.specs.List.{list_all, list_any}
+use Rattle.std.proofs.Common.{◌≡◌, ℕ, zero, suc, ◌<◌, Bool, true, false, cond, ◌&&◌, ◌||◌, ◌==◌, List, [], ◌∷◌, map, flat_map, Option, Some, None, find, refl, inl, inr, arith, sym, ◌∙◌}
+use Rattle.std.specs.List.{filter, list_all, list_any}
 use Rattle.std.specs.Option.{is_none}
 use Rattle.std.proofs.lemmas.Bool.{ne_eqb, cases_lt}
 use Rattle.sv8_isa.specs.Field.{field}
@@ -45,19 +45,21 @@ list_any_NoneOf : (n : ℕ) (ks : List ℕ) → NoneOf n ks → list_any (λ k. 
 list_any_NoneOf n [] h = refl
 list_any_NoneOf n (k ∷ ks) h = rw (ne_eqb n k h.0) (list_any_NoneOf n ks h.1)
 
--- op3 of the rows with op 2, and with op 3
-abbrev pub codes_2 : List ℕ
-codes_2 =
-    0x00 ∷ 0x01 ∷ 0x02 ∷ 0x03 ∷ 0x04 ∷ 0x05 ∷ 0x06 ∷ 0x07 ∷ 0x08 ∷ 0x0A ∷ 0x0B ∷ 0x0C ∷ 0x0E ∷ 0x0F
-    ∷ 0x10 ∷ 0x11 ∷ 0x12 ∷ 0x13 ∷ 0x14 ∷ 0x15 ∷ 0x16 ∷ 0x17 ∷ 0x18 ∷ 0x1A ∷ 0x1B ∷ 0x1C ∷ 0x1E ∷ 0x1F
-    ∷ 0x20 ∷ 0x21 ∷ 0x22 ∷ 0x23 ∷ 0x24 ∷ 0x25 ∷ 0x26 ∷ 0x27 ∷ 0x28 ∷ 0x29 ∷ 0x2A ∷ 0x2B
-    ∷ 0x30 ∷ 0x31 ∷ 0x32 ∷ 0x33 ∷ 0x34 ∷ 0x35 ∷ 0x36 ∷ 0x37 ∷ 0x38 ∷ 0x39 ∷ 0x3A ∷ 0x3B ∷ 0x3C ∷ 0x3D ∷ []
+-- op3 of the rows with an op, read off the table
 
-abbrev pub codes_3 : List ℕ
-codes_3 =
-    0x00 ∷ 0x01 ∷ 0x02 ∷ 0x03 ∷ 0x04 ∷ 0x05 ∷ 0x06 ∷ 0x07 ∷ 0x09 ∷ 0x0A ∷ 0x0D ∷ 0x0F
-    ∷ 0x10 ∷ 0x11 ∷ 0x12 ∷ 0x13 ∷ 0x14 ∷ 0x15 ∷ 0x16 ∷ 0x17 ∷ 0x19 ∷ 0x1A ∷ 0x1D ∷ 0x1F
-    ∷ 0x20 ∷ 0x21 ∷ 0x23 ∷ 0x24 ∷ 0x25 ∷ 0x26 ∷ 0x27 ∷ 0x30 ∷ 0x31 ∷ 0x33 ∷ 0x34 ∷ 0x35 ∷ 0x36 ∷ 0x37 ∷ []
+abbrev pub is_op : Field → Bool
+is_op op = true
+is_op f = false
+
+abbrev pub is_op3 : Field → Bool
+is_op3 op3 = true
+is_op3 f = false
+
+abbrev codes_of : ℕ → Row → List ℕ
+codes_of o r = cond (list_any (λ f. is_op f.at && f.code == o) r.fixed) (map (λ f. f.code) (filter (λ f. is_op3 f.at) r.fixed)) []
+
+abbrev pub codes : ℕ → List ℕ
+codes o = flat_map (codes_of o) table
 
 illegal_where_none : (r : Option Row) (w : ℕ) → is_none r ≡ true → Illegal ≡ instr_at r w
 illegal_where_none None w h = refl
@@ -71,8 +73,8 @@ illegal_at o ks w computed e l none =
     let h = all_below_at 64 (λ n. list_any (λ k. n == k) ks || is_none (row_at o n w)) computed n l in
     illegal_where_none (row_at o n w) w (rw (list_any_NoneOf n ks none) at h) ∙ sym (meaning_at w o n e refl)
 
-pub illegal_2 : (w : ℕ) → field w 31 30 ≡ 2 → field w 24 19 < 64 → NoneOf (field w 24 19) codes_2 → Illegal ≡ meaning w
-illegal_2 w = illegal_at 2 codes_2 w refl
+pub illegal_2 : (w : ℕ) → field w 31 30 ≡ 2 → field w 24 19 < 64 → NoneOf (field w 24 19) (codes 2) → Illegal ≡ meaning w
+illegal_2 w = illegal_at 2 (codes 2) w refl
 
-pub illegal_3 : (w : ℕ) → field w 31 30 ≡ 3 → field w 24 19 < 64 → NoneOf (field w 24 19) codes_3 → Illegal ≡ meaning w
-illegal_3 w = illegal_at 3 codes_3 w refl
+pub illegal_3 : (w : ℕ) → field w 31 30 ≡ 3 → field w 24 19 < 64 → NoneOf (field w 24 19) (codes 3) → Illegal ≡ meaning w
+illegal_3 w = illegal_at 3 (codes 3) w refl

@@ -3,5 +3,4 @@ pub mod Operands
 pub mod Registers
 pub mod Table
 pub mod Encoding
-pub mod Unencodable
 pub mod Laws

@@ -1,5 +1,5 @@
 -- The opcode table: a list of rows. A row fixes some fields of a word, and names others as operands.
-use Rattle.std.specs.Prelude.{ℕ, Bool, ◌+◌, ◌*◌, ◌^◌, ◌==◌, if◌then◌else◌, List, [], ◌∷◌, ◌++◌, Option, Some, None, find, map, true, false}
+use Rattle.std.specs.Prelude.{ℕ, Bool, ◌+◌, ◌*◌, ◌^◌, ◌==◌, ◌||◌, if◌then◌else◌, List, [], ◌∷◌, ◌++◌, Option, Some, None, find, map, true, false}
 use Rattle.std.specs.List.{list_all}
 use Rattle.sv8_isa.specs.Field.{field, signed}
 use Rattle.sv8_isa.specs.Operands.{operand_of, count_of, trap_number_of, condition_of}
@@ -124,6 +124,13 @@ alternate_immediate code = row (op is 3 ∷ op3 is code ∷ i is 1 ∷ []) (λ w
 abbrev pub whole : ℕ → ℕ → (ℕ → Instr) → Row
 whole o code make = row (op is o ∷ op3 is code ∷ []) (λ w. rd ∷ low19 ∷ []) (λ w. make w)
 
+-- STDFQ and STDCQ, the stores of the queues of the floating-point unit and the coprocessor
+abbrev pub store_fp_queue : Row
+store_fp_queue = whole 3 0x26 Fp
+
+abbrev pub store_cp_queue : Row
+store_cp_queue = whole 3 0x36 Cp
+
 -- ---- the table
 
 -- every instruction
@@ -197,16 +204,20 @@ table =
     ∷ whole 3 0x23 Fp
     ∷ whole 3 0x24 Fp
     ∷ whole 3 0x25 Fp
-    ∷ whole 3 0x26 Fp
+    ∷ store_fp_queue
     ∷ whole 3 0x27 Fp
     ∷ whole 3 0x30 Cp
     ∷ whole 3 0x31 Cp
     ∷ whole 3 0x33 Cp
     ∷ whole 3 0x34 Cp
     ∷ whole 3 0x35 Cp
-    ∷ whole 3 0x36 Cp
+    ∷ store_cp_queue
     ∷ whole 3 0x37 Cp
     ∷ []
+
+-- a word is one of the stores of a queue
+abbrev pub is_queue_store : ℕ → Bool
+is_queue_store w = fits w store_fp_queue || fits w store_cp_queue
 
 -- the first row that a word fits, and no word fits two
 abbrev pub row_of : ℕ → Option Row

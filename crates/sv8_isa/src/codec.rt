@@ -3,7 +3,7 @@
 ghost use Rattle.std.specs.Prelude.{◌≡◌, IfSome};
 ghost use Rattle.sv8_isa.specs.Encoding.{encoding};
 ghost use Rattle.sv8_isa.specs.Registers.{HasRegisters};
-ghost use Rattle.sv8_isa.specs.Table.{meaning};
+ghost use Rattle.sv8_isa.specs.Table.{meaning, is_queue_store};
 
 use crate::instr::{ArithOp, Instr, MemoryOp, ShiftOp, StateRegister, TaggedOp};
 use crate::word::{
@@ -68,9 +68,11 @@ macro_rules! opcodes {
             }
             // Loads and stores of the other units, whose word is kept whole (B.2, B.3, B.5, B.6).
             memory_whole {
-                Fp 0x20, Fp 0x21, Fp 0x23, Fp 0x24, Fp 0x25, Fp 0x26, Fp 0x27,
-                Cp 0x30, Cp 0x31, Cp 0x33, Cp 0x34, Cp 0x35, Cp 0x36, Cp 0x37
+                Fp 0x20, Fp 0x21, Fp 0x23, Fp 0x24, Fp 0x25, Fp 0x27,
+                Cp 0x30, Cp 0x31, Cp 0x33, Cp 0x34, Cp 0x35, Cp 0x37
             }
+            // The stores of their queues, STDFQ and STDCQ, likewise (B.5, B.6).
+            queue_whole { Fp 0x26, Cp 0x36 }
         }
     };
 }
@@ -95,6 +97,7 @@ macro_rules! decode_rows {
         whole { $($whole:ident $whole_code:literal),* }
         memory { $($memory:ident $normal:literal $alternate:literal),* }
         memory_whole { $($far:ident $far_code:literal),* }
+        queue_whole { $($queue:ident $queue_code:literal),* }
     ) => {{
         let rd = register($word, 25);
         let rs1 = register($word, 14);
@@ -154,6 +157,7 @@ macro_rules! decode_rows {
                     $alternate => Instr::AltImm,
                 )*
                 $($far_code => Instr::$far($word),)*
+                $($queue_code => Instr::$queue($word),)*
                 _ => Instr::Illegal,
             },
         }
@@ -165,6 +169,7 @@ macro_rules! decode_rows {
 ///
 /// Reserved bits are ignored: words that differ in them alone give the same instruction.
 #[tactic(auto, unfolding(crate::specs::Table::meaning))]
+#[inline(always)]
 pub fn decode(word: u32) -> Instr
     ensures value { result ≡ meaning word }
     ensures registers { HasRegisters result }
@@ -192,6 +197,7 @@ macro_rules! encode_rows {
         whole { $($whole:ident $whole_code:literal),* }
         memory { $($memory:ident $normal:literal $alternate:literal),* }
         memory_whole { $($far:ident $far_code:literal),* }
+        queue_whole { $($queue:ident $queue_code:literal),* }
     ) => {
         match *$instr {
             Instr::Unimp(imm22) => format_2(0, $unimp, unsigned_bits(imm22, 22)),
@@ -281,4 +287,39 @@ pub fn encode(instr: &Instr) -> Option<u32>
     ensures decodes { IfSome result (λ w. meaning w ≡ instr.now) }
 {
     opcodes!(encode_rows!(instr))
+}
+
+/// A test of a word, from the list.
+macro_rules! queue_rows {
+    (
+        [$word:ident]
+        call $call:literal
+        format_2 { Unimp $unimp:literal, Bicc $bicc:literal, Sethi $sethi:literal }
+        format_2_whole { $($near:ident $near_code:literal),* }
+        arith { $($arith:ident $plain:literal $cc:literal),* }
+        tagged { $($tagged:ident $tagged_code:literal),* }
+        three_fields { $($three:ident $three_code:literal),* }
+        two_fields { $($two:ident $two_code:literal),* }
+        shift { $($shift:ident $shift_code:literal),* }
+        trap { Ticc $ticc:literal }
+        read_y { ReadState $rdy:literal $rdy_rs1:literal, Stbar $stbar:literal $stbar_rs1:literal }
+        read { $($from:ident $read_code:literal),* }
+        write_y { WriteState $wry:literal $wry_rd:literal }
+        write { $($to:ident $write_code:literal),* }
+        whole { $($whole:ident $whole_code:literal),* }
+        memory { $($memory:ident $normal:literal $alternate:literal),* }
+        memory_whole { $($far:ident $far_code:literal),* }
+        queue_whole { $($queue:ident $queue_code:literal),* }
+    ) => {
+        bits($word, 31, 30) == 3 && ($(bits($word, 24, 19) == $queue_code)||*)
+    };
+}
+
+/// Whether a word is STDFQ or STDCQ, which store the queue of a unit (B.5, B.6).
+///
+/// In user mode these trap as privileged instructions, and not as ones of a unit that the machine does not have.
+pub fn is_queue_store(word: u32) -> bool
+    ensures { result ≡ is_queue_store word }
+{
+    opcodes!(queue_rows!(word))
 }

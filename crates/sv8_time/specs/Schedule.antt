@@ -64,7 +64,8 @@ is_poke_in step address p = p.step == step && word_of p.address == word_of addre
 abbrev pub has_word : ℕ → ℕ → List BytePoke → Bool
 has_word step address pokes = list_any (is_poke_in step address) pokes
 
--- the number of words that have poked bytes, a word counted once for each step: of the bytes of one word and step the last counts
+-- the number of words that have poked bytes, a word counted once for each step:
+-- of the bytes of one word and step the last one counts
 abbrev pub word_count : List BytePoke → ℕ
 word_count [] = 0
 word_count (p ∷ pokes) = if has_word p.step p.address pokes then word_count pokes else word_count pokes + 1

@@ -17,7 +17,7 @@ pub enum TimeFault {
     /// A step above 1,000,000.
     #[error("step too large")]
     StepTooLarge,
-    /// Not a multiple of 4, or a word that is not inside RAM.
+    /// A word at no multiple of 4, or a word or byte that is not inside RAM.
     #[error("bad address")]
     BadAddress,
     /// Not an interrupt level from 1 to 15.

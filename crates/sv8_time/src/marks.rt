@@ -30,6 +30,7 @@ impl Marks {
     }
 
     /// Whether a step is marked.
+    #[inline(always)]
     pub(crate) fn has(&self, step: u32) -> bool
         ensures { result ≡ is_marked self.now step }
     {
