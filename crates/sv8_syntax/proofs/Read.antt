@@ -19,8 +19,7 @@ use Rattle.sv8_syntax.specs.Operand.{Operand}
 use Rattle.sv8_syntax.specs.Operand as operand
 use Rattle.sv8_syntax.specs.declared.statement.Statement.{Statement}
 use Rattle.sv8_syntax.specs.declared.statement.Stmt.{Stmt}
-use Rattle.sv8_syntax.specs.Table.{look_up}
-use Rattle.sv8_syntax.specs.Mnemonics.{mnemonics}
+use Rattle.sv8_syntax.specs.Mnemonics.{shape_named}
 use Rattle.sv8_syntax.specs.Token.{Token, Word, Number, Percent, Mark, Quoted, Local}
 use Rattle.sv8_syntax.specs.Spelling.{is_reference}
 use Rattle.sv8_syntax.specs.declared.statement.Label.{Label}
@@ -178,18 +177,18 @@ behind_annul-read (Mark mark.Comma ∷ Word w ∷ ts) us h =
     rw (w_is, some_is ts us a.1) refl
 behind_annul-read _ us h = absurd cc
 
-stated-read : (name : List ℕ) (s : Shape) (ts : List Token) (b : Statement) → look_up mnemonics name ≡ Some s → shaped s ts ≡ Some b → IsStatement (Word name ∷ ts) (Some b)
+stated-read : (name : List ℕ) (s : Shape) (ts : List Token) (b : Statement) → shape_named name ≡ Some s → shaped s ts ≡ Some b → IsStatement (Word name ∷ ts) (Some b)
 stated-read name s ts b found h =
     let x = shaped-read s ts b h in
     subst (λ (us : List Token). IsStatement (Word name ∷ us) (Some b)) (sym x.1) (stated name s x.0 b found x.2)
 
-annulled-read : (name : List ℕ) (s t : Shape) (ts us : List Token) (b : Statement) → look_up mnemonics name ≡ Some s → ts ≡ Mark mark.Comma ∷ Word (codes "a") ∷ us → annulled s ≡ Some t → shaped t us ≡ Some b → IsStatement (Word name ∷ ts) (Some b)
+annulled-read : (name : List ℕ) (s t : Shape) (ts us : List Token) (b : Statement) → shape_named name ≡ Some s → ts ≡ Mark mark.Comma ∷ Word (codes "a") ∷ us → annulled s ≡ Some t → shaped t us ≡ Some b → IsStatement (Word name ∷ ts) (Some b)
 annulled-read name s t ts us b found e f h =
     let x = shaped-read t us b h in
     let whole : ts ≡ Mark mark.Comma ∷ Word (codes "a") ∷ joined (map spelled x.0) = e ∙ ap (λ (vs : List Token). Mark mark.Comma ∷ Word (codes "a") ∷ vs) x.1 in
     subst (λ (vs : List Token). IsStatement (Word name ∷ vs) (Some b)) (sym whole) (stated_annulled name s t x.0 b found f x.2)
 
-flagged-read : (name : List ℕ) (s : Shape) (ts : List Token) (o : Option (List Token)) (x : Shape × List Token) (b : Statement) → look_up mnemonics name ≡ Some s → behind_annul ts ≡ o → flagged s ts o ≡ Some x → shaped x.0 x.1 ≡ Some b → IsStatement (Word name ∷ ts) (Some b)
+flagged-read : (name : List ℕ) (s : Shape) (ts : List Token) (o : Option (List Token)) (x : Shape × List Token) (b : Statement) → shape_named name ≡ Some s → behind_annul ts ≡ o → flagged s ts o ≡ Some x → shaped x.0 x.1 ≡ Some b → IsStatement (Word name ∷ ts) (Some b)
 unfolding flagged
 flagged-read name s ts None x b found e f h =
     let same : (s, ts) ≡ x = some_is (s, ts) x f in
@@ -203,7 +202,7 @@ pub statement-read : (ts : List Token) (b : Option Statement) → statement_of t
 unfolding statement_of
 statement-read [] b h = subst (IsStatement []) (some_is None b h) blank
 statement-read (Word name ∷ ts) b h =
-    let s = bind_some (look_up mnemonics name) (λ s. flagged s ts (behind_annul ts) >>= λ x. shaped x.0 x.1 >>= λ c. Some (Some c)) b h in
+    let s = bind_some (shape_named name) (λ s. flagged s ts (behind_annul ts) >>= λ x. shaped x.0 x.1 >>= λ c. Some (Some c)) b h in
     let x = bind_some (flagged s.0 ts (behind_annul ts)) (λ x. shaped x.0 x.1 >>= λ c. Some (Some c)) b s.2 in
     let y = bind_some (shaped x.0.0 x.0.1) (λ c. Some (Some c)) b x.2 in
     subst (IsStatement (Word name ∷ ts)) (some_is (Some y.0) b y.2) (flagged-read name s.0 ts (behind_annul ts) x.0 y.0 s.1 refl x.1 y.1)

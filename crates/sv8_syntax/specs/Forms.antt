@@ -1,7 +1,9 @@
 -- The forms: the statement of each shape with its operands. The grammar and the reader both use `form_of`.
-use Rattle.std.specs.Prelude.{ℕ, List, [], ◌∷◌, true, false, Option, Some, None, if◌then◌else◌}
+use Rattle.std.specs.Prelude.{ℕ, List, [], ◌∷◌, Bool, true, false, Option, Some, None, if◌then◌else◌}
 use Rattle.sv8_isa.specs.declared.instr.ArithOp.TheVariants as arith
+use Rattle.sv8_isa.specs.declared.instr.Cond.{Cond}
 use Rattle.sv8_isa.specs.declared.instr.MemoryOp.{MemoryOp}
+use Rattle.sv8_isa.specs.declared.instr.ShiftOp.{ShiftOp}
 use Rattle.sv8_isa.specs.declared.instr.MemoryOp.TheVariants as memory
 use Rattle.sv8_syntax.specs.declared.mnemonic.Directive.{Directive}
 use Rattle.sv8_syntax.specs.declared.mnemonic.Directive.TheVariants as directive
@@ -72,32 +74,65 @@ cleared o = do
 unfoldable pub clear_of : Operand → Option Instruction
 clear_of o = if is_bracketed o then cleared_at memory.St o else cleared o
 
-unfoldable pub one_of : Shape → Operand → Option Instruction
-one_of (shape.Branch c f) a = do
-  e ← expr_in a
+-- op expr, perhaps one that annuls
+unfoldable pub branch_of : Cond → Bool → Operand → Option Instruction
+branch_of c f o = do
+  e ← expr_in o
   Some (instruction.Branch c f e)
-one_of (shape.Trap c) a = do
-  x ← trap_in a
+
+unfoldable pub trap_of : Cond → Operand → Option Instruction
+trap_of c o = do
+  x ← trap_in o
   Some (instruction.Format3 (operation.Trap c) r.G0 x.0 x.1)
-one_of shape.Call a = call_of a
-one_of (shape.To o) a = do
-  x ← place_in a
-  Some (instruction.Format3 o r.G0 x.0 x.1)
-one_of shape.Unimp a = do
-  n ← number_in a
+
+-- jmp addr, rett addr, flush addr
+unfoldable pub address_of : Operation → Operand → Option Instruction
+address_of op o = do
+  x ← place_in o
+  Some (instruction.Format3 op r.G0 x.0 x.1)
+
+unfoldable pub unimp_of : Operand → Option Instruction
+unimp_of o = do
+  n ← number_in o
   Some (instruction.Unimp n)
-one_of (shape.Test o) a = do
+
+-- tst reg
+unfoldable pub test_of : Operation → Operand → Option Instruction
+test_of op o = do
+  rs2 ← register_in o
+  Some (of_registers op r.G0 r.G0 rs2)
+
+-- not reg, reg
+unfoldable pub not_of : Operation → Operand → Operand → Option Instruction
+not_of op a d = do
+  rs1 ← register_in a
+  rd ← register_in d
+  Some (of_registers op rd rs1 r.G0)
+
+-- neg reg, reg
+unfoldable pub negate_of : Operation → Operand → Operand → Option Instruction
+negate_of op a d = do
   rs2 ← register_in a
-  Some (of_registers o r.G0 r.G0 rs2)
-one_of (shape.Not o) a = do
-  rd ← register_in a
-  Some (of_registers o rd rd r.G0)
-one_of (shape.Negate o) a = do
-  rd ← register_in a
-  Some (of_registers o rd r.G0 rd)
-one_of (shape.Step o) a = do
-  rd ← register_in a
-  Some (instruction.Format3 o rd rd (small 1))
+  rd ← register_in d
+  Some (of_registers op rd r.G0 rs2)
+
+-- inc reg
+unfoldable pub step_by_one : Operation → Operand → Option Instruction
+step_by_one op o = do
+  rd ← register_in o
+  Some (instruction.Format3 op rd rd (small 1))
+
+-- not and neg with one operand take it for both
+unfoldable pub one_of : Shape → Operand → Option Instruction
+one_of (shape.Branch c f) a = branch_of c f a
+one_of (shape.Trap c) a = trap_of c a
+one_of shape.Call a = call_of a
+one_of (shape.To op) a = address_of op a
+one_of shape.Unimp a = unimp_of a
+one_of (shape.Test op) a = test_of op a
+one_of (shape.Not op) a = not_of op a a
+one_of (shape.Negate op) a = negate_of op a a
+one_of (shape.Step op) a = step_by_one op a
 one_of (shape.ClearAt m) a = cleared_at m a
 one_of shape.Clear a = clear_of a
 one_of _ a = None
@@ -145,60 +180,83 @@ compared o a c = do
   x ← source_in c
   Some (instruction.Format3 o r.G0 rs1 x)
 
+unfoldable pub sethi_of : Operand → Operand → Option Instruction
+sethi_of a d = do
+  rd ← register_in d
+  value ← upper_in a
+  Some (instruction.Sethi value rd)
+
+unfoldable pub jmpl_of : Operand → Operand → Option Instruction
+jmpl_of a d = do
+  rd ← register_in d
+  x ← place_in a
+  Some (instruction.Format3 operation.Jmpl rd x.0 x.1)
+
+-- call with a number behind its target, which is ignored
+unfoldable pub call_with_number : Operand → Operand → Option Instruction
+call_with_number a n = do
+  ignored ← number_in n
+  call_of a
+
+-- inc imm, reg
+unfoldable pub step_of : Operation → Operand → Operand → Option Instruction
+step_of op a d = do
+  rd ← register_in d
+  i ← imm_in a
+  Some (instruction.Format3 op rd rd (source.Immediate i))
+
+-- bset reg_or_imm, reg
+unfoldable pub update_of : Operation → Operand → Operand → Option Instruction
+update_of op c d = do
+  rd ← register_in d
+  x ← source_in c
+  Some (instruction.Format3 op rd rd x)
+
 unfoldable pub two_of : Shape → Operand → Operand → Option Instruction
 two_of (shape.Load m) a d = access m d a
 two_of (shape.Store m) d a = access m d a
 two_of (shape.LoadAlternate m) a d = alternate_access m d a
 two_of (shape.StoreAlternate m) d a = alternate_access m d a
-two_of shape.Sethi a d = do
-  rd ← register_in d
-  value ← upper_in a
-  Some (instruction.Sethi value rd)
+two_of shape.Sethi a d = sethi_of a d
 two_of shape.Read a d = from_state a d
-two_of shape.Jmpl a d = do
-  rd ← register_in d
-  x ← place_in a
-  Some (instruction.Format3 operation.Jmpl rd x.0 x.1)
-two_of shape.Call a n = do
-  ignored ← number_in n
-  call_of a
-two_of (shape.Not o) a d = do
-  rs1 ← register_in a
-  rd ← register_in d
-  Some (of_registers o rd rs1 r.G0)
-two_of (shape.Negate o) a d = do
-  rs2 ← register_in a
-  rd ← register_in d
-  Some (of_registers o rd r.G0 rs2)
-two_of (shape.Step o) a d = do
-  rd ← register_in d
-  i ← imm_in a
-  Some (instruction.Format3 o rd rd (source.Immediate i))
-two_of (shape.Compare o) a c = compared o a c
-two_of (shape.TestBits o) c a = compared o a c
-two_of (shape.Update o) c d = do
-  rd ← register_in d
-  x ← source_in c
-  Some (instruction.Format3 o rd rd x)
+two_of shape.Jmpl a d = jmpl_of a d
+two_of shape.Call a n = call_with_number a n
+two_of (shape.Not op) a d = not_of op a d
+two_of (shape.Negate op) a d = negate_of op a d
+two_of (shape.Step op) a d = step_of op a d
+two_of (shape.Compare op) a c = compared op a c
+two_of (shape.TestBits op) c a = compared op a c
+two_of (shape.Update op) c d = update_of op c d
 two_of shape.Mov c d = mov_of c d
 two_of _ a d = None
 
-unfoldable pub three_of : Shape → Operand → Operand → Operand → Option Instruction
-three_of (shape.Three o) a c d = do
+-- op reg, reg_or_imm, reg
+unfoldable pub three_fields : Operation → Operand → Operand → Operand → Option Instruction
+three_fields op a c d = do
   rs1 ← register_in a
   rd ← register_in d
   x ← source_in c
-  Some (instruction.Format3 o rd rs1 x)
-three_of (shape.Shift o) a c d = do
+  Some (instruction.Format3 op rd rs1 x)
+
+unfoldable pub shift_of : ShiftOp → Operand → Operand → Operand → Option Instruction
+shift_of op a c d = do
   rs1 ← register_in a
   rd ← register_in d
   x ← count_in c
-  Some (instruction.Format3 (operation.Shift o) rd rs1 x)
-three_of shape.Write a c d = do
+  Some (instruction.Format3 (operation.Shift op) rd rs1 x)
+
+-- wr reg, reg_or_imm, special
+unfoldable pub write_of : Operand → Operand → Operand → Option Instruction
+write_of a c d = do
   rs1 ← register_in a
   s ← state_in d
   x ← source_in c
   Some (instruction.Format3 (operation.Write s) r.G0 rs1 x)
+
+unfoldable pub three_of : Shape → Operand → Operand → Operand → Option Instruction
+three_of (shape.Three op) a c d = three_fields op a c d
+three_of (shape.Shift op) a c d = shift_of op a c d
+three_of shape.Write a c d = write_of a c d
 three_of _ a c d = None
 
 unfoldable pub instruction_of : Shape → List Operand → Option Instruction

@@ -22,8 +22,7 @@ use Rattle.sv8_syntax.specs.declared.statement.Label.TheVariants as label
 use Rattle.sv8_syntax.specs.declared.statement.Stmt.{Stmt}
 use Rattle.sv8_syntax.specs.Token.{Token, Word, Number, Percent, Mark, Quoted, Local}
 use Rattle.sv8_syntax.specs.Spelling.{AllPass, is_reference, IsCutInto}
-use Rattle.sv8_syntax.specs.Table.{look_up}
-use Rattle.sv8_syntax.specs.Mnemonics.{mnemonics}
+use Rattle.sv8_syntax.specs.Mnemonics.{shape_named}
 use Rattle.sv8_syntax.specs.Forms.{form_of, annulled}
 
 -- ---- how each operand is spelled
@@ -80,9 +79,9 @@ joined (ts ∷ us ∷ parts) = ts ++ Mark mark.Comma ∷ joined (us ∷ parts)
 pub data IsStatement : List Token → Option Statement → Type 0 where
   blank : IsStatement [] None
   stated : (name : List ℕ) (s : Shape) (os : List Operand) (b : Statement)
-      → look_up mnemonics name ≡ Some s → form_of s os ≡ Some b → IsStatement (Word name ∷ joined (map spelled os)) (Some b)
+      → shape_named name ≡ Some s → form_of s os ≡ Some b → IsStatement (Word name ∷ joined (map spelled os)) (Some b)
   stated_annulled : (name : List ℕ) (s t : Shape) (os : List Operand) (b : Statement)
-      → look_up mnemonics name ≡ Some s → annulled s ≡ Some t → form_of t os ≡ Some b
+      → shape_named name ≡ Some s → annulled s ≡ Some t → form_of t os ≡ Some b
       → IsStatement (Word name ∷ Mark mark.Comma ∷ Word (codes "a") ∷ joined (map spelled os)) (Some b)
 
 abbrev pub line : Option Label → Option Statement → Stmt

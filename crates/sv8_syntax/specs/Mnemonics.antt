@@ -1,5 +1,6 @@
 -- The mnemonics, of Appendix A and of directives.
-use Rattle.std.specs.Prelude.{List, [], ◌∷◌, codes, true, false}
+use Rattle.std.specs.Prelude.{ℕ, List, [], ◌∷◌, Option, codes, true, false}
+use Rattle.std.specs.Option.{option_or}
 use Rattle.sv8_isa.specs.declared.instr.ArithOp.TheVariants as arith
 use Rattle.sv8_isa.specs.declared.instr.Cond.TheVariants as condition
 use Rattle.sv8_isa.specs.declared.instr.MemoryOp.TheVariants as memory
@@ -9,14 +10,14 @@ use Rattle.sv8_syntax.specs.declared.statement.Operation.TheVariants as operatio
 use Rattle.sv8_syntax.specs.declared.statement.Motion.TheVariants as motion
 use Rattle.sv8_syntax.specs.declared.register.Register.TheVariants as r
 use Rattle.sv8_syntax.specs.declared.statement.Width.TheVariants as width
-use Rattle.sv8_syntax.specs.Table.{Row, row}
+use Rattle.sv8_syntax.specs.Table.{Row, row, look_up}
 use Rattle.sv8_syntax.specs.declared.mnemonic.Directive.TheVariants as directive
 use Rattle.sv8_syntax.specs.declared.mnemonic.Shape.{Shape}
 use Rattle.sv8_syntax.specs.declared.mnemonic.Shape.TheVariants as shape
 
--- what follows each mnemonic
-unfoldable pub mnemonics : List (Row Shape)
-mnemonics =
+-- arithmetic, loads and stores, and state registers
+unfoldable pub operations : List (Row Shape)
+operations =
     row (codes "add") (shape.Three (operation.Arith arith.Add false)) ∷
     row (codes "addcc") (shape.Three (operation.Arith arith.Add true)) ∷
     row (codes "sub") (shape.Three (operation.Arith arith.Sub false)) ∷
@@ -81,7 +82,11 @@ mnemonics =
     row (codes "stda") (shape.StoreAlternate memory.Std) ∷
     row (codes "sethi") shape.Sethi ∷
     row (codes "rd") shape.Read ∷
-    row (codes "wr") shape.Write ∷
+    row (codes "wr") shape.Write ∷ []
+
+-- branches, traps and jumps, and what needs no register
+unfoldable pub transfers : List (Row Shape)
+transfers =
     row (codes "ba") (shape.Branch condition.Always false) ∷
     row (codes "b") (shape.Branch condition.Always false) ∷
     row (codes "bn") (shape.Branch condition.Never false) ∷
@@ -129,7 +134,11 @@ mnemonics =
     row (codes "rett") (shape.To operation.Rett) ∷
     row (codes "flush") (shape.To operation.Flush) ∷
     row (codes "stbar") shape.Stbar ∷
-    row (codes "unimp") shape.Unimp ∷
+    row (codes "unimp") shape.Unimp ∷ []
+
+-- synthetic instructions and directives
+unfoldable pub synthetics : List (Row Shape)
+synthetics =
     row (codes "nop") shape.Nop ∷
     row (codes "ret") (shape.Return r.I7) ∷
     row (codes "retl") (shape.Return r.O7) ∷
@@ -158,3 +167,10 @@ mnemonics =
     row (codes ".word") (shape.Directive (directive.Data width.Word)) ∷
     row (codes ".ascii") (shape.Directive directive.Ascii) ∷
     row (codes ".equ") (shape.Directive directive.Equ) ∷ []
+
+unfoldable pub other_shape : List ℕ → Option Shape
+other_shape name = option_or (look_up transfers name) (look_up synthetics name)
+
+-- what follows a mnemonic
+unfoldable pub shape_named : List ℕ → Option Shape
+shape_named name = option_or (look_up operations name) (other_shape name)

@@ -24,8 +24,7 @@ use Rattle.sv8_syntax.specs.declared.statement.Label.TheVariants as label
 use Rattle.sv8_syntax.specs.declared.statement.Stmt.{Stmt}
 use Rattle.sv8_syntax.specs.Spelling.{is_reference}
 use Rattle.sv8_syntax.specs.Token.{Token, Word, Number, Percent, Mark, Quoted, Local}
-use Rattle.sv8_syntax.specs.Table.{look_up}
-use Rattle.sv8_syntax.specs.Mnemonics.{mnemonics}
+use Rattle.sv8_syntax.specs.Mnemonics.{shape_named}
 use Rattle.sv8_syntax.specs.Forms.{form_of, annulled}
 use Rattle.sv8_syntax.specs.Grammar.{line, is_text_byte}
 use Rattle.sv8_syntax.specs.Lexing.{◌>>=◌, tokens_of}
@@ -169,7 +168,7 @@ flagged s ts None = Some (s, ts)
 unfoldable pub statement_of : List Token → Option (Option Statement)
 statement_of [] = Some None
 statement_of (Word name ∷ ts) = do
-  s ← look_up mnemonics name
+  s ← shape_named name
   x ← flagged s ts (behind_annul ts)
   b ← shaped x.0 x.1
   Some (Some b)

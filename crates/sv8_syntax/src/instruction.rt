@@ -1,12 +1,11 @@
 //! Instructions, each from its mnemonic's shape and its operands: a function for each form.
 
 ghost use Rattle.std.specs.Prelude.{◌≡◌, Some};
-ghost use Rattle.sv8_syntax.specs.declared.mnemonic.Shape.TheVariants as kind;
 ghost use Rattle.sv8_syntax.specs.declared.statement.Instruction.TheVariants as instruction;
 ghost use Rattle.sv8_syntax.specs.Operand.{source_view, operand_view, operand_views};
 ghost use Rattle.sv8_syntax.specs.Outcome.{Gives};
 ghost use Rattle.sv8_syntax.specs.Taking.{upper_in};
-ghost use Rattle.sv8_syntax.specs.Forms.{of_registers, small, none_of, linked, called, call_of, cleared_at, cleared, clear_of, one_of, access, alternate_access, from_state, to_state, moved, mov_of, compared, two_of, three_of, instruction_of};
+ghost use Rattle.sv8_syntax.specs.Forms.{of_registers, small, none_of, linked, called, call_of, cleared_at, cleared, clear_of, branch_of, trap_of, address_of, unimp_of, test_of, not_of, negate_of, step_by_one, one_of, access, alternate_access, from_state, to_state, moved, mov_of, compared, sethi_of, jmpl_of, call_with_number, step_of, update_of, two_of, three_fields, shift_of, write_of, three_of, instruction_of};
 
 use crate::fault::LineFault::{self, Syntax};
 use crate::mnemonic::Shape;
@@ -158,14 +157,14 @@ fn clear(alloc: Global, operand: Operand<'_>) -> Result<Instruction, LineFault>
     }
 }
 
-#[tactic(auto, unfolding(crate::specs::Forms::one_of))]
+#[tactic(auto, unfolding(crate::specs::Forms::branch_of))]
 fn branch(
     alloc: Global,
     cond: Cond,
     annul: bool,
     operand: Operand<'_>,
 ) -> Result<Instruction, LineFault>
-    ensures { Gives (λ i. i) result (one_of (kind.Branch cond annul) (operand_view operand.entry)) }
+    ensures { Gives (λ i. i) result (branch_of cond annul (operand_view operand.entry)) }
 {
     let target = expr_in(operand).ok_or(Syntax)?.owned(alloc)?;
     Ok(Instruction::Branch {
@@ -175,58 +174,42 @@ fn branch(
     })
 }
 
-#[tactic(auto, unfolding(crate::specs::Forms::one_of))]
+#[tactic(auto, unfolding(crate::specs::Forms::trap_of))]
 fn trap(alloc: Global, cond: Cond, operand: Operand<'_>) -> Result<Instruction, LineFault>
-    ensures { Gives (λ i. i) result (one_of (kind.Trap cond) (operand_view operand.entry)) }
+    ensures { Gives (λ i. i) result (trap_of cond (operand_view operand.entry)) }
 {
     let (rs1, source) = trap_in(operand).ok_or(Syntax)?;
     format3(alloc, Operation::Trap(cond), Register::G0, rs1, source)
 }
 
 /// `jmp`, `rett` and `flush`.
-#[tactic(auto, unfolding(crate::specs::Forms::one_of))]
-fn to(alloc: Global, op: Operation, operand: Operand<'_>) -> Result<Instruction, LineFault>
-    ensures { Gives (λ i. i) result (one_of (kind.To op) (operand_view operand.entry)) }
+#[tactic(auto, unfolding(crate::specs::Forms::address_of))]
+fn address(alloc: Global, op: Operation, operand: Operand<'_>) -> Result<Instruction, LineFault>
+    ensures { Gives (λ i. i) result (address_of op (operand_view operand.entry)) }
 {
     let (rs1, source) = place_in(operand).ok_or(Syntax)?;
     format3(alloc, op, Register::G0, rs1, source)
 }
 
-#[tactic(auto, unfolding(crate::specs::Forms::one_of))]
+#[tactic(auto, unfolding(crate::specs::Forms::unimp_of))]
 fn unimp(operand: Operand<'_>) -> Result<Instruction, LineFault>
-    ensures { Gives (λ i. i) result (one_of kind.Unimp (operand_view operand.entry)) }
+    ensures { Gives (λ i. i) result (unimp_of (operand_view operand.entry)) }
 {
     let number = number_in(operand).ok_or(Syntax)?;
     Ok(Instruction::Unimp(number))
 }
 
-#[tactic(auto, unfolding(crate::specs::Forms::one_of))]
+#[tactic(auto, unfolding(crate::specs::Forms::test_of))]
 fn test(op: Operation, operand: Operand<'_>) -> Result<Instruction, LineFault>
-    ensures { Gives (λ i. i) result (one_of (kind.Test op) (operand_view operand.entry)) }
+    ensures { Gives (λ i. i) result (test_of op (operand_view operand.entry)) }
 {
     let rs2 = register_in(operand).ok_or(Syntax)?;
     Ok(of_registers(op, Register::G0, Register::G0, rs2))
 }
 
-#[tactic(auto, unfolding(crate::specs::Forms::one_of))]
-fn not_self(op: Operation, to: Operand<'_>) -> Result<Instruction, LineFault>
-    ensures { Gives (λ i. i) result (one_of (kind.Not op) (operand_view to.entry)) }
-{
-    let rd = register_in(to).ok_or(Syntax)?;
-    Ok(of_registers(op, rd, rd, Register::G0))
-}
-
-#[tactic(auto, unfolding(crate::specs::Forms::one_of))]
-fn negate_self(op: Operation, to: Operand<'_>) -> Result<Instruction, LineFault>
-    ensures { Gives (λ i. i) result (one_of (kind.Negate op) (operand_view to.entry)) }
-{
-    let rd = register_in(to).ok_or(Syntax)?;
-    Ok(of_registers(op, rd, Register::G0, rd))
-}
-
-#[tactic(auto, unfolding(crate::specs::Forms::one_of))]
+#[tactic(auto, unfolding(crate::specs::Forms::step_by_one))]
 fn step_by_one(op: Operation, to: Operand<'_>) -> Result<Instruction, LineFault>
-    ensures { Gives (λ i. i) result (one_of (kind.Step op) (operand_view to.entry)) }
+    ensures { Gives (λ i. i) result (step_by_one op (operand_view to.entry)) }
 {
     let rd = register_in(to).ok_or(Syntax)?;
     Ok(of_number(op, rd, rd, 1))
@@ -240,11 +223,11 @@ fn one(alloc: Global, shape: Shape, operand: Operand<'_>) -> Result<Instruction,
         Shape::Branch { cond, annul } => branch(alloc, cond, annul, operand),
         Shape::Trap(cond) => trap(alloc, cond, operand),
         Shape::Call => call(alloc, operand),
-        Shape::To(op) => to(alloc, op, operand),
+        Shape::To(op) => address(alloc, op, operand),
         Shape::Unimp => unimp(operand),
         Shape::Test(op) => test(op, operand),
-        Shape::Not(op) => not_self(op, operand),
-        Shape::Negate(op) => negate_self(op, operand),
+        Shape::Not(op) => not(op, operand, operand),
+        Shape::Negate(op) => negate(op, operand, operand),
         Shape::Step(op) => step_by_one(op, operand),
         Shape::ClearAt(op) => cleared_at(alloc, op, operand),
         Shape::Clear => clear(alloc, operand),
@@ -287,9 +270,9 @@ fn alternate_access(
     })
 }
 
-#[tactic(auto, unfolding(crate::specs::Forms::two_of))]
+#[tactic(auto, unfolding(crate::specs::Forms::sethi_of))]
 fn sethi(alloc: Global, value: Operand<'_>, to: Operand<'_>) -> Result<Instruction, LineFault>
-    ensures { Gives (λ i. i) result (two_of kind.Sethi (operand_view value.entry) (operand_view to.entry)) }
+    ensures { Gives (λ i. i) result (sethi_of (operand_view value.entry) (operand_view to.entry)) }
 {
     let rd = register_in(to).ok_or(Syntax)?;
     let value = upper_in(alloc, value)?;
@@ -345,9 +328,9 @@ fn mov(alloc: Global, from: Operand<'_>, to: Operand<'_>) -> Result<Instruction,
     }
 }
 
-#[tactic(auto, unfolding(crate::specs::Forms::two_of))]
+#[tactic(auto, unfolding(crate::specs::Forms::jmpl_of))]
 fn jmpl(alloc: Global, target: Operand<'_>, to: Operand<'_>) -> Result<Instruction, LineFault>
-    ensures { Gives (λ i. i) result (two_of kind.Jmpl (operand_view target.entry) (operand_view to.entry)) }
+    ensures { Gives (λ i. i) result (jmpl_of (operand_view target.entry) (operand_view to.entry)) }
 {
     let rd = register_in(to).ok_or(Syntax)?;
     let (rs1, source) = place_in(target).ok_or(Syntax)?;
@@ -355,30 +338,30 @@ fn jmpl(alloc: Global, target: Operand<'_>, to: Operand<'_>) -> Result<Instructi
 }
 
 /// `call` with a number behind it, which is ignored.
-#[tactic(auto, unfolding(crate::specs::Forms::two_of))]
+#[tactic(auto, unfolding(crate::specs::Forms::call_with_number))]
 fn call_with_number(
     alloc: Global,
     target: Operand<'_>,
     number: Operand<'_>,
 ) -> Result<Instruction, LineFault>
-    ensures { Gives (λ i. i) result (two_of kind.Call (operand_view target.entry) (operand_view number.entry)) }
+    ensures { Gives (λ i. i) result (call_with_number (operand_view target.entry) (operand_view number.entry)) }
 {
     number_in(number).ok_or(Syntax)?;
     call(alloc, target)
 }
 
-#[tactic(auto, unfolding(crate::specs::Forms::two_of))]
+#[tactic(auto, unfolding(crate::specs::Forms::not_of))]
 fn not(op: Operation, from: Operand<'_>, to: Operand<'_>) -> Result<Instruction, LineFault>
-    ensures { Gives (λ i. i) result (two_of (kind.Not op) (operand_view from.entry) (operand_view to.entry)) }
+    ensures { Gives (λ i. i) result (not_of op (operand_view from.entry) (operand_view to.entry)) }
 {
     let rs1 = register_in(from).ok_or(Syntax)?;
     let rd = register_in(to).ok_or(Syntax)?;
     Ok(of_registers(op, rd, rs1, Register::G0))
 }
 
-#[tactic(auto, unfolding(crate::specs::Forms::two_of))]
+#[tactic(auto, unfolding(crate::specs::Forms::negate_of))]
 fn negate(op: Operation, from: Operand<'_>, to: Operand<'_>) -> Result<Instruction, LineFault>
-    ensures { Gives (λ i. i) result (two_of (kind.Negate op) (operand_view from.entry) (operand_view to.entry)) }
+    ensures { Gives (λ i. i) result (negate_of op (operand_view from.entry) (operand_view to.entry)) }
 {
     let rs2 = register_in(from).ok_or(Syntax)?;
     let rd = register_in(to).ok_or(Syntax)?;
@@ -386,14 +369,14 @@ fn negate(op: Operation, from: Operand<'_>, to: Operand<'_>) -> Result<Instructi
 }
 
 /// `inc` and `dec` by a value.
-#[tactic(auto, unfolding(crate::specs::Forms::two_of))]
+#[tactic(auto, unfolding(crate::specs::Forms::step_of))]
 fn step(
     alloc: Global,
     op: Operation,
     by: Operand<'_>,
     to: Operand<'_>,
 ) -> Result<Instruction, LineFault>
-    ensures { Gives (λ i. i) result (two_of (kind.Step op) (operand_view by.entry) (operand_view to.entry)) }
+    ensures { Gives (λ i. i) result (step_of op (operand_view by.entry) (operand_view to.entry)) }
 {
     let rd = register_in(to).ok_or(Syntax)?;
     let by = imm_in(by).ok_or(Syntax)?;
@@ -416,14 +399,14 @@ fn compared(
 }
 
 /// `bset`, `bclr` and `btog`.
-#[tactic(auto, unfolding(crate::specs::Forms::two_of))]
+#[tactic(auto, unfolding(crate::specs::Forms::update_of))]
 fn update(
     alloc: Global,
     op: Operation,
     by: Operand<'_>,
     to: Operand<'_>,
 ) -> Result<Instruction, LineFault>
-    ensures { Gives (λ i. i) result (two_of (kind.Update op) (operand_view by.entry) (operand_view to.entry)) }
+    ensures { Gives (λ i. i) result (update_of op (operand_view by.entry) (operand_view to.entry)) }
 {
     let rd = register_in(to).ok_or(Syntax)?;
     let source = source_in(by).ok_or(Syntax)?;
@@ -459,7 +442,7 @@ fn two(
     }
 }
 
-#[tactic(auto, unfolding(crate::specs::Forms::three_of))]
+#[tactic(auto, unfolding(crate::specs::Forms::three_fields))]
 fn three_fields(
     alloc: Global,
     op: Operation,
@@ -467,7 +450,7 @@ fn three_fields(
     second: Operand<'_>,
     to: Operand<'_>,
 ) -> Result<Instruction, LineFault>
-    ensures { Gives (λ i. i) result (three_of (kind.Three op) (operand_view first.entry) (operand_view second.entry) (operand_view to.entry)) }
+    ensures { Gives (λ i. i) result (three_fields op (operand_view first.entry) (operand_view second.entry) (operand_view to.entry)) }
 {
     let rs1 = register_in(first).ok_or(Syntax)?;
     let rd = register_in(to).ok_or(Syntax)?;
@@ -475,7 +458,7 @@ fn three_fields(
     format3(alloc, op, rd, rs1, source)
 }
 
-#[tactic(auto, unfolding(crate::specs::Forms::three_of))]
+#[tactic(auto, unfolding(crate::specs::Forms::shift_of))]
 fn shift(
     alloc: Global,
     op: ShiftOp,
@@ -483,7 +466,7 @@ fn shift(
     second: Operand<'_>,
     to: Operand<'_>,
 ) -> Result<Instruction, LineFault>
-    ensures { Gives (λ i. i) result (three_of (kind.Shift op) (operand_view first.entry) (operand_view second.entry) (operand_view to.entry)) }
+    ensures { Gives (λ i. i) result (shift_of op (operand_view first.entry) (operand_view second.entry) (operand_view to.entry)) }
 {
     let rs1 = register_in(first).ok_or(Syntax)?;
     let rd = register_in(to).ok_or(Syntax)?;
@@ -491,14 +474,14 @@ fn shift(
     format3(alloc, Operation::Shift(op), rd, rs1, count)
 }
 
-#[tactic(auto, unfolding(crate::specs::Forms::three_of))]
+#[tactic(auto, unfolding(crate::specs::Forms::write_of))]
 fn write_state(
     alloc: Global,
     first: Operand<'_>,
     second: Operand<'_>,
     to: Operand<'_>,
 ) -> Result<Instruction, LineFault>
-    ensures { Gives (λ i. i) result (three_of kind.Write (operand_view first.entry) (operand_view second.entry) (operand_view to.entry)) }
+    ensures { Gives (λ i. i) result (write_of (operand_view first.entry) (operand_view second.entry) (operand_view to.entry)) }
 {
     let rs1 = register_in(first).ok_or(Syntax)?;
     let state = state_in(to).ok_or(Syntax)?;

@@ -2,7 +2,7 @@
 
 ghost use Rattle.std.specs.Prelude.{◌≡◌};
 ghost use Rattle.sv8_syntax.specs.Table.{look_up};
-ghost use Rattle.sv8_syntax.specs.Mnemonics.{mnemonics};
+ghost use Rattle.sv8_syntax.specs.Mnemonics.{operations, transfers, synthetics, other_shape, shape_named};
 
 use crate::register::Register;
 use crate::statement::{Motion, Operation, Width};
@@ -64,7 +64,8 @@ macro_rules! entries {
     };
 }
 
-const MNEMONICS: [Entry<Shape>; 141] = entries! {
+/// Arithmetic, loads and stores, and state registers.
+const OPERATIONS: [Entry<Shape>; 65] = entries! {
     b"add" => Shape::Three(Operation::Arith { op: ArithOp::Add, cc: false }),
     b"addcc" => Shape::Three(Operation::Arith { op: ArithOp::Add, cc: true }),
     b"sub" => Shape::Three(Operation::Arith { op: ArithOp::Sub, cc: false }),
@@ -130,6 +131,10 @@ const MNEMONICS: [Entry<Shape>; 141] = entries! {
     b"sethi" => Shape::Sethi,
     b"rd" => Shape::Read,
     b"wr" => Shape::Write,
+};
+
+/// Branches, traps and jumps, and what needs no register.
+const TRANSFERS: [Entry<Shape>; 48] = entries! {
     b"ba" => Shape::Branch { cond: Cond::Always, annul: false },
     b"b" => Shape::Branch { cond: Cond::Always, annul: false },
     b"bn" => Shape::Branch { cond: Cond::Never, annul: false },
@@ -178,6 +183,10 @@ const MNEMONICS: [Entry<Shape>; 141] = entries! {
     b"flush" => Shape::To(Operation::Flush),
     b"stbar" => Shape::Stbar,
     b"unimp" => Shape::Unimp,
+};
+
+/// Synthetic instructions and directives.
+const SYNTHETICS: [Entry<Shape>; 28] = entries! {
     b"nop" => Shape::Nop,
     b"ret" => Shape::Return(Register::I7),
     b"retl" => Shape::Return(Register::O7),
@@ -208,10 +217,44 @@ const MNEMONICS: [Entry<Shape>; 141] = entries! {
     b".equ" => Shape::Directive(Directive::Equ),
 };
 
-/// The shape of the statements of a mnemonic.
-#[tactic(auto, unfolding(crate::specs::Mnemonics::mnemonics))]
-pub fn shape_of(name: &[u8]) -> Option<Shape>
-    ensures { result ≡ look_up mnemonics name.now }
+#[tactic(auto, unfolding(crate::specs::Mnemonics::operations))]
+fn operation(name: &[u8]) -> Option<Shape>
+    ensures { result ≡ look_up operations name.now }
 {
-    find(&MNEMONICS, name)
+    find(&OPERATIONS, name)
+}
+
+#[tactic(auto, unfolding(crate::specs::Mnemonics::transfers))]
+fn transfer(name: &[u8]) -> Option<Shape>
+    ensures { result ≡ look_up transfers name.now }
+{
+    find(&TRANSFERS, name)
+}
+
+#[tactic(auto, unfolding(crate::specs::Mnemonics::synthetics))]
+fn synthetic(name: &[u8]) -> Option<Shape>
+    ensures { result ≡ look_up synthetics name.now }
+{
+    find(&SYNTHETICS, name)
+}
+
+#[tactic(auto, unfolding(crate::specs::Mnemonics::other_shape))]
+fn other_shape(name: &[u8]) -> Option<Shape>
+    ensures { result ≡ other_shape name.now }
+{
+    match transfer(name) {
+        None => synthetic(name),
+        found => found,
+    }
+}
+
+/// The shape of the statements of a mnemonic.
+#[tactic(auto, unfolding(crate::specs::Mnemonics::shape_named))]
+pub fn shape_of(name: &[u8]) -> Option<Shape>
+    ensures { result ≡ shape_named name.now }
+{
+    match operation(name) {
+        None => other_shape(name),
+        found => found,
+    }
 }
