@@ -14,4 +14,4 @@ pub marked : (labels : List (Vec LocalLabel Global)) (d : ℕ) (l : LocalLabel) 
 marked labels d l new w below e =
     map-set lines_of labels d new
     ∙ ap (set (marks_in labels) d)
-      (ap (map mark_of) e ∙ map-append mark_of (get_or labels d w).items (l ∷ []) ∙ ap (λ ms. ms ++ mark_of l ∷ []) (sym (get_or-map lines_of labels d w [] below)))
+    (ap (map mark_of) e ∙ map-append mark_of (get_or labels d w).items (l ∷ []) ∙ ap (λ ms. ms ++ mark_of l ∷ []) (sym (get_or-map lines_of labels d w [] below)))

@@ -77,12 +77,7 @@ fn gather(
 }
 
 /// The number of a value in memory.
-fn datum_number(
-    width: Width,
-    expr: &Expr,
-    line: u32,
-    names: &Symbols,
-) -> Result<i128, LineFault>
+fn datum_number(width: Width, expr: &Expr, line: u32, names: &Symbols) -> Result<i128, LineFault>
     ensures value { on_ok result (datum_bytes width) ≡ datum names.now line width expr.now }
     ensures low { IfOk result (λ v. negsuc (2 ^ 31) ≤ℤ v) }
     ensures high { IfOk result (λ v. v ≤ℤ pos (2 ^ 32)) }
@@ -107,7 +102,12 @@ fn data_bytes(
     let mut fault = None;
     let mut rest = values;
     while let [first, after @ ..] = rest {
-        fault = gather(&mut bytes, fault, width, datum_number(width, first, line, names))?;
+        fault = gather(
+            &mut bytes,
+            fault,
+            width,
+            datum_number(width, first, line, names),
+        )?;
         rest = after;
     }
     match fault {

@@ -9,7 +9,6 @@
 mod code;
 mod instruction;
 pub mod laws;
-
 mod operand;
 mod size;
 mod symbols;

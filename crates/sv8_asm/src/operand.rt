@@ -32,12 +32,7 @@ fn most_immediate(operation: Operation) -> i128
 }
 
 /// The number in the place of the second source.
-fn immediate(
-    operation: Operation,
-    imm: &Imm,
-    line: u32,
-    names: &Symbols,
-) -> Result<i32, LineFault>
+fn immediate(operation: Operation, imm: &Imm, line: u32, names: &Symbols) -> Result<i32, LineFault>
     ensures { result ≡ immediate names.now line operation imm.now }
 {
     match imm {

@@ -123,8 +123,14 @@ impl Symbols {
         ensures { result ≡ get self.now text.now line }
     {
         match text {
-            [digit @ b'0'..=b'9', b'b'] => last_up_to(line, &self.labels[usize::from(*digit - b'0')]),
-            [digit @ b'0'..=b'9', b'f'] => first_behind(line, &self.labels[usize::from(*digit - b'0')]),
+            [digit @ b'0'..=b'9', b'b'] => last_up_to(
+                line,
+                &self.labels[usize::from(*digit - b'0')],
+            ),
+            [digit @ b'0'..=b'9', b'f'] => first_behind(
+                line,
+                &self.labels[usize::from(*digit - b'0')],
+            ),
             _ => self.defined(text),
         }
     }

@@ -29,10 +29,12 @@ fn places(alloc: Global, text: &[u8], count: usize, names: &Symbols) -> Result<b
 
 /// Whether lines that place bytes do: one word, two, data, and a text.
 fn all_place(alloc: Global, names: &Symbols) -> Result<bool, Fail> {
-    Ok(places(alloc, b"ba 1f", 4, names)?
-        && places(alloc, b"set x, %g1", 8, names)?
-        && places(alloc, b".half x, 1b, 2", 6, names)?
-        && places(alloc, b".ascii \"abc\"", 3, names)?)
+    Ok(
+        places(alloc, b"ba 1f", 4, names)?
+            && places(alloc, b"set x, %g1", 8, names)?
+            && places(alloc, b".half x, 1b, 2", 6, names)?
+            && places(alloc, b".ascii \"abc\"", 3, names)?,
+    )
 }
 
 #[test]

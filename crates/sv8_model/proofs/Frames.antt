@@ -52,7 +52,7 @@ word_alike : (cs : Cells) (o o' : Outside) (k : ℕ) → Alike cs o o' → Spare
 unfolding word_of
 word_alike cs o o' k h u =
     let at : (j : ℕ) → j < 4 → get_or o.ram (4 * k + j) 0 ≡ get_or o'.ram (4 * k + j) 0 =
-      λ j l. ap byte_of (h.same (ram_byte (4 * k + j)) (u (ram_byte (4 * k + j)) (let e : 4 * ((4 * k + j) / 4) ≡ 4 * k = omega arith in grind (arith, nat_tests, e)))) in
+    λ j l. ap byte_of (h.same (ram_byte (4 * k + j)) (u (ram_byte (4 * k + j)) (let e : 4 * ((4 * k + j) / 4) ≡ 4 * k = omega arith in grind (arith, nat_tests, e)))) in
     let zero_more : 4 * k + 0 ≡ 4 * k = omega arith in
     let b0 : get_or o.ram (4 * k) 0 ≡ get_or o'.ram (4 * k) 0 = subst (λ n. get_or o.ram n 0 ≡ get_or o'.ram n 0) zero_more (at 0 (omega arith)) in
     let b1 = at 1 (omega arith) in
@@ -157,7 +157,7 @@ same cs (store_word k v a) o o' h u =
 same cs (load_byte i g) o o' h u =
     let ds = without cs (Read (word_address i)) in
     let ih = subst (λ b. Same ds (g (get_or o.ram i 0)) (g b) o o') (spared_byte cs o o' i h u.0 i refl)
-      (same ds (g (get_or o.ram i 0)) o o' (alike_on cs o o' (Read (word_address i)) (read_covers (word_address i)) h) u.1) in
+    (same ds (g (get_or o.ram i 0)) o o' (alike_on cs o o' (Read (word_address i)) (read_covers (word_address i)) h) u.1) in
     record { result = ih.result; touched = ap (λ ts. Read (word_address i) ∷ ts) ih.touched; alike = ih.alike }
 same cs (store_byte i v a) o o' h u =
     let ih = same (without cs (Read (word_address i))) a _ _ (alike_on cs _ _ (Read (word_address i)) (read_covers (word_address i)) (byte_alike cs o o' i v h)) u.1 in

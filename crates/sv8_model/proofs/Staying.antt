@@ -36,9 +36,9 @@ then_keeps t ts o p q h k = record {
   size = k.size ∙ h.size;
   levels = k.levels ∙ h.levels;
   same = λ c u v.
-    let u2 = sym (is_read-more t ts c) ∙ u in
-    let v2 = sym (is_covered-more t ts c) ∙ v in
-    k.same c (rest_false _ _ u2) (rest_false _ _ v2) ∙ h.same c (first_false _ _ u2) (first_false _ _ v2);
+      let u2 = sym (is_read-more t ts c) ∙ u in
+      let v2 = sym (is_covered-more t ts c) ∙ v in
+      k.same c (rest_false _ _ u2) (rest_false _ _ v2) ∙ h.same c (first_false _ _ u2) (first_false _ _ v2);
 }
 
 store_keeps : (k v : ℕ) (o : Outside) → KeepsOne (Write (4 * k)) o (record o { ram = with_word o.ram k v })
@@ -96,6 +96,7 @@ clear_keeps w o sound = record { size = refl; levels = length-unmasked 0 w o.pen
     | inl below ↦ absurd (true≢false (sym (every_bit (suc l) (omega arith) below) ∙ u))
     | inr beyond ↦ get_or_past o.pending (suc l) false (omega (arith, sound.count))
   ]
+
   at : (c : Cell) → hits (Levels every_level) c ≡ false → covers (Levels every_level) c ≡ false → get c (record o { pending = cleared w o.pending }) ≡ get c o
   at (ram_byte i) u v = refl
   at waiting_bytes u v = refl
@@ -160,6 +161,7 @@ keeps (emit b a) o h = emitted (keeps a (record o { output = o.output ++ b ∷ [
   at (ram_byte i) = refl
   at waiting_bytes = refl
   at (pending_level l) = refl
+
   emitted : {ts : List Touch} {q : Outside} → Keeps ts (record o { output = o.output ++ b ∷ [] }) q → Keeps ts o q
   emitted k = record { size = k.size; levels = k.levels; same = λ c u v. k.same c u v ∙ at c }
 keeps (ask_levels w g) o h = then_keeps _ _ o o _ (one_self _ o) (keeps (g _) o h)
