@@ -1,0 +1,37 @@
+//! What is true of every source, as contracts of functions that do nothing, and some sources worked out.
+
+ghost use Rattle.std.specs.Prelude.{◌≡◌, Some, codes, map, [], ◌∷◌};
+ghost use Rattle.sv8_source.specs.declared.fault.SourceFault.TheVariants.{Syntax, UnknownName, DuplicateLabel, OutOfRange, BadAlignment, OrgBackwards, ImageTooLarge};
+ghost use Rattle.sv8_source.specs.Listing.{listing};
+ghost use Rattle.sv8_source.specs.Text.{fault};
+ghost use Rattle.sv8_source.specs.Laws.{TextsAreLines, LinesRise};
+
+/// The listing of a source that assembles has its lines, in order.
+pub fn texts_are_lines()
+    ensures { TextsAreLines }
+{}
+
+/// Each line of a listing begins behind the bytes of those before it, so no two lines place the same byte.
+pub fn lines_rise()
+    ensures { LinesRise }
+{}
+
+/// Sources that are refused, with the line at fault.
+pub fn worked_faults()
+    ensures duplicate { fault (record { limit = 0x100000; lines = codes "x: nop" ∷ codes "x: nop" ∷ [] }) ≡ Some (DuplicateLabel 2) }
+    ensures range { fault (record { limit = 0x100000; lines = codes "add %g0, 4096, %g1" ∷ [] }) ≡ Some (OutOfRange 1) }
+    ensures alignment { fault (record { limit = 0x100000; lines = codes ".byte 1" ∷ codes "nop" ∷ [] }) ≡ Some (BadAlignment 2) }
+    ensures backwards { fault (record { limit = 0x100000; lines = codes ".org 8" ∷ codes ".org 4" ∷ [] }) ≡ Some (OrgBackwards 2) }
+    ensures too_large { fault (record { limit = 0x100000; lines = codes ".org 0x100000" ∷ codes "nop" ∷ [] }) ≡ Some (ImageTooLarge 2) }
+    ensures layout_first { fault (record { limit = 0x100000; lines = codes "bne nowhere" ∷ codes "add" ∷ [] }) ≡ Some (Syntax 2) }
+    ensures unknown { fault (record { limit = 0x100000; lines = codes ".word 7" ∷ codes "bne nowhere" ∷ [] }) ≡ Some (UnknownName 2) }
+    ensures no_label { fault (record { limit = 0x100000; lines = codes "1: nop" ∷ codes "ba 1f" ∷ codes "nop" ∷ codes "ba 1b" ∷ codes "nop" ∷ [] }) ≡ Some (UnknownName 2) }
+{}
+
+/// What the lines of sources place, with their bytes as another assembler gives them.
+pub fn worked_listings()
+    ensures program { map (λ l. l.bytes) (listing (record { limit = 0x100000; lines = codes "start: mov 5, %g1" ∷ codes "add %g1, 1, %g2" ∷ codes "ba start" ∷ codes "nop" ∷ [] })) ≡ (0x82 ∷ 0x10 ∷ 0x20 ∷ 0x05 ∷ []) ∷ (0x84 ∷ 0x00 ∷ 0x60 ∷ 0x01 ∷ []) ∷ (0x10 ∷ 0xBF ∷ 0xFF ∷ 0xFE ∷ []) ∷ (0x01 ∷ 0x00 ∷ 0x00 ∷ 0x00 ∷ []) ∷ [] }
+    ensures local { map (λ l. l.bytes) (listing (record { limit = 0x100000; lines = codes "1: nop" ∷ codes "ba 1f" ∷ codes "nop" ∷ codes "1: ba 1b" ∷ codes "nop" ∷ [] })) ≡ (0x01 ∷ 0x00 ∷ 0x00 ∷ 0x00 ∷ []) ∷ (0x10 ∷ 0x80 ∷ 0x00 ∷ 0x02 ∷ []) ∷ (0x01 ∷ 0x00 ∷ 0x00 ∷ 0x00 ∷ []) ∷ (0x10 ∷ 0x80 ∷ 0x00 ∷ 0x00 ∷ []) ∷ (0x01 ∷ 0x00 ∷ 0x00 ∷ 0x00 ∷ []) ∷ [] }
+    ensures moved { map (λ l. l.bytes) (listing (record { limit = 0x100000; lines = codes "ba x" ∷ codes "nop" ∷ codes "nop" ∷ codes "x: nop" ∷ [] })) ≡ (0x10 ∷ 0x80 ∷ 0x00 ∷ 0x03 ∷ []) ∷ (0x01 ∷ 0x00 ∷ 0x00 ∷ 0x00 ∷ []) ∷ (0x01 ∷ 0x00 ∷ 0x00 ∷ 0x00 ∷ []) ∷ (0x01 ∷ 0x00 ∷ 0x00 ∷ 0x00 ∷ []) ∷ [] }
+    ensures number { map (λ l. l.bytes) (listing (record { limit = 0x100000; lines = codes ".equ n, 6" ∷ codes "mov n, %g1" ∷ [] })) ≡ ([]) ∷ (0x82 ∷ 0x10 ∷ 0x20 ∷ 0x06 ∷ []) ∷ [] }
+{}
