@@ -1,0 +1,15 @@
+//! The processor and its traps: the table of traps, and what a trap or an interrupt makes of the registers and counters.
+//! The SPARC Architecture Manual, Version 8, chapter 7.
+#![tactic(auto)]
+
+mod entry;
+mod laws;
+mod processor;
+mod table;
+#[cfg(test)]
+mod tests;
+
+pub use laws::{the_first_is_taken, worked_interrupts, worked_table, worked_traps};
+pub use entry::highest_level;
+pub use processor::Processor;
+pub use table::{Row, Trap, select};
