@@ -1,55 +1,100 @@
--- Each instruction in three parts: what it raises, the access that it asks for, and what becomes of the registers once the access is answered
--- (Appendices B and C). A row that the machine does not have yet raises illegal_instruction.
-use Rattle.std.specs.Prelude.{ℕ, ◌*◌, ◌%◌, ◌^◌, Bool, false, List, [], ◌∷◌, Option, Some, None, nat_lt, if◌then◌else◌, bit_or}
+-- Each instruction in three parts: the traps that it raises before its access, the access that it asks for, and what becomes of the
+-- processor once the access is answered. A row of the opcode table has its clause in each part; what the clauses say stands in the
+-- file of its group: Arithmetic, Control, Windows, StateRegisters, Memory.
+use Rattle.std.specs.Prelude.{ℕ, Bool, true, not, ◌&&◌, List, [], ◌∷◌, ◌++◌, if◌then◌else◌}
+use Rattle.sv8_isa.specs.Table.{is_queue_store}
 use Rattle.sv8_isa.specs.declared.instr.Instr.{Instr}
 use Rattle.sv8_isa.specs.declared.instr.Instr.TheVariants as row
-use Rattle.sv8_isa.specs.declared.instr.ArithOp.TheVariants as operation
-use Rattle.sv8_isa.specs.declared.instr.Cond.TheVariants as condition
-use Rattle.sv8_regs.specs.Ring.{read}
-use Rattle.sv8_cpu.specs.Word.{plus, word_of_number}
-use Rattle.sv8_cpu.specs.Processor.{Processor, operand_value, advanced, with_result}
-use Rattle.sv8_cpu.specs.declared.trap.Trap.{Trap}
-use Rattle.sv8_cpu.specs.declared.trap.Trap.TheVariants.{InstructionAccessException, IllegalInstruction}
+use Rattle.sv8_isa.specs.declared.instr.Operand.TheVariants.{Register}
+use Rattle.sv8_trap.specs.declared.table.Trap.{Trap}
+use Rattle.sv8_trap.specs.declared.table.Trap.TheVariants.{PrivilegedInstruction, IllegalInstruction, FpDisabled, CpDisabled, DataAccessException}
+use Rattle.sv8_trap.specs.Entry.{with_trap, with_return_trap, returned}
+use Rattle.sv8_trap.specs.Processor.{Processor, advanced}
 use Rattle.sv8_cpu.specs.declared.access.Request.{Request}
-use Rattle.sv8_cpu.specs.declared.access.Request.TheVariants as request
+use Rattle.sv8_cpu.specs.declared.access.Request.TheVariants.{Nothing}
+use Rattle.sv8_cpu.specs.Operands.{sum_of_sources, when}
+use Rattle.sv8_cpu.specs.Arithmetic.{arithmetic, arithmetic_traps, tagged, tagged_traps, multiply_step, shifted, upper_set}
+use Rattle.sv8_cpu.specs.Control.{branched, called, jump_traps, jumped, return_traps, number_traps}
+use Rattle.sv8_cpu.specs.Windows.{save_traps, restore_traps, saved, restored}
+use Rattle.sv8_cpu.specs.StateRegisters.{privilege_traps, state_read, write_traps, written_word, state_written}
+use Rattle.sv8_cpu.specs.Memory.{memory_traps, access_of, transferred_data}
+
+-- ---- before the access
+
+-- in user mode a privileged instruction traps as one
+abbrev pub unless_supervisor : Processor → List Trap
+unless_supervisor p = when (not p.registers.psr.s) PrivilegedInstruction
+
+-- there is no floating-point unit and no coprocessor; their queue stores are privileged (B.5, B.6)
+unfoldable pub disabled_traps : Processor → ℕ → Trap → List Trap
+disabled_traps p word disabled = when (is_queue_store word && not p.registers.psr.s) PrivilegedInstruction ++ disabled ∷ []
+
+-- alternate spaces are the supervisor's; none of them is served until the memory management unit is there
+unfoldable pub alternate_traps : Processor → List Trap → List Trap
+alternate_traps p traps = unless_supervisor p ++ traps ++ DataAccessException ∷ []
+
+-- an alternate space form with i = 1
+unfoldable pub immediate_traps : Processor → List Trap
+immediate_traps p = unless_supervisor p ++ IllegalInstruction ∷ []
 
 -- the traps that an instruction raises before its access
-abbrev pub raised : Instr → List Trap
-raised (row.Arith operation.Add false rd rs1 operand) = []
-raised (row.Arith operation.Or false rd rs1 operand) = []
-raised (row.Sethi imm22 rd) = []
-raised (row.Bicc condition.Always annul disp22) = []
-raised i = IllegalInstruction ∷ []
+abbrev pub raised : ℕ → Processor → Instr → List Trap
+raised windows p (row.Unimp imm22) = IllegalInstruction ∷ []
+raised windows p (row.Bicc cond annul disp22) = []
+raised windows p (row.Sethi imm22 rd) = []
+raised windows p (row.Call disp30) = []
+raised windows p (row.Arith op cc rd rs1 operand) = arithmetic_traps windows p op operand
+raised windows p (row.Tagged op rd rs1 operand) = tagged_traps windows p op rs1 operand
+raised windows p (row.Mulscc rd rs1 operand) = []
+raised windows p (row.Shift op rd rs1 count) = []
+raised windows p (row.ReadState register rd) = privilege_traps p register
+raised windows p row.Stbar = []
+raised windows p (row.WriteState register rs1 operand) = write_traps windows p register rs1 operand
+raised windows p (row.Jmpl rd rs1 operand) = jump_traps windows p rs1 operand
+raised windows p (row.Rett rs1 operand) = return_traps windows p rs1 operand
+raised windows p (row.Ticc cond rs1 operand) = number_traps windows p cond rs1 operand
+raised windows p (row.Flush rs1 operand) = []
+raised windows p (row.Save rd rs1 operand) = save_traps windows p
+raised windows p (row.Restore rd rs1 operand) = restore_traps windows p
+raised windows p (row.Memory op rd rs1 operand) = memory_traps op rd (sum_of_sources windows p rs1 operand)
+raised windows p (row.Alternate op rd rs1 rs2 asi) = alternate_traps p (memory_traps op rd (sum_of_sources windows p rs1 (Register rs2)))
+raised windows p (row.Fp word) = disabled_traps p word FpDisabled
+raised windows p (row.Cp word) = disabled_traps p word CpDisabled
+raised windows p row.AltImm = immediate_traps p
+raised windows p row.Illegal = IllegalInstruction ∷ []
 
--- the priority of a trap, 1 being the highest (table 7-1)
-abbrev pub priority : Trap → ℕ
-priority InstructionAccessException = 5
-priority IllegalInstruction = 7
+-- what a trap that an instruction raises makes of the processor
+abbrev pub trapped : ℕ → Processor → Instr → Trap → Processor
+trapped windows p (row.Rett rs1 operand) t = with_return_trap windows p t
+trapped windows p i t = with_trap windows p t
 
--- of two traps the one of the lower priority number
-abbrev pub first_of : Trap → List Trap → Trap
-first_of t [] = t
-first_of t (u ∷ us) = first_of (if nat_lt (priority u) (priority t) then u else t) us
+-- ---- the access
 
--- the trap that is taken of those raised
-abbrev pub taken : List Trap → Option Trap
-taken [] = None
-taken (t ∷ ts) = Some (first_of t ts)
+-- the address space of plain loads and stores: user or supervisor data
+abbrev pub data_space : Processor → ℕ
+data_space p = if p.registers.psr.s then 0x0b else 0x0a
 
 -- the access to memory that an instruction asks for
-abbrev pub asked : Instr → Request
-asked i = request.Nothing
+abbrev pub asked : ℕ → Processor → Instr → Request
+asked windows p (row.Memory op rd rs1 operand) = access_of windows p op (data_space p) rd (sum_of_sources windows p rs1 operand)
+asked windows p i = Nothing
 
--- a taken branch: the delay slot is next, and the target follows it (Appendix B.21)
-unfoldable pub branched : Processor → Bool → ℕ → Processor
-branched p annul distance = record p { pc = p.npc; npc = plus p.pc distance; annul = annul }
+-- ---- behind the access
 
--- the end of an instruction that raises no trap, with the values that its access gave
-abbrev pub complete : ℕ → Processor → Instr → ℕ → ℕ → Processor
-complete windows p (row.Arith operation.Add false rd rs1 operand) high low =
-    with_result windows p rd (plus (read windows p.registers rs1) (operand_value windows p operand))
-complete windows p (row.Arith operation.Or false rd rs1 operand) high low =
-    with_result windows p rd (bit_or (read windows p.registers rs1) (operand_value windows p operand))
-complete windows p (row.Sethi imm22 rd) high low = with_result windows p rd (imm22 * 2 ^ 10 % 2 ^ 32)
-complete windows p (row.Bicc condition.Always annul disp22) high low = branched p annul (word_of_number disp22 * 4 % 2 ^ 32)
-complete windows p i high low = advanced p
+-- the end of an instruction that raised no trap, with the value that its access gave
+abbrev pub complete : ℕ → Processor → Instr → ℕ → Processor
+complete windows p (row.Bicc cond annul disp22) value = branched p cond annul disp22
+complete windows p (row.Sethi imm22 rd) value = upper_set windows p rd imm22
+complete windows p (row.Call disp30) value = called windows p disp30
+complete windows p (row.Arith op cc rd rs1 operand) value = arithmetic windows p op cc rd rs1 operand
+complete windows p (row.Tagged op rd rs1 operand) value = tagged windows p op rd rs1 operand
+complete windows p (row.Mulscc rd rs1 operand) value = multiply_step windows p rd rs1 operand
+complete windows p (row.Shift op rd rs1 count) value = shifted windows p op rd rs1 count
+complete windows p (row.ReadState register rd) value = state_read windows p register rd
+complete windows p (row.WriteState register rs1 operand) value = state_written windows p register (written_word windows p rs1 operand)
+complete windows p (row.Jmpl rd rs1 operand) value = jumped windows p rd (sum_of_sources windows p rs1 operand)
+complete windows p (row.Rett rs1 operand) value = returned windows p (sum_of_sources windows p rs1 operand)
+complete windows p (row.Save rd rs1 operand) value = saved windows p rd rs1 operand
+complete windows p (row.Restore rd rs1 operand) value = restored windows p rd rs1 operand
+complete windows p (row.Memory op rd rs1 operand) value = transferred_data windows p op rd value
+complete windows p i value = advanced p

@@ -1,38 +1,52 @@
 -- The whole state of the machine.
-use Rattle.std.specs.Prelude.{ℕ, false, List, [], replicate}
+use Rattle.std.specs.Prelude.{ℕ, ◌+◌, ◌-◌, List, length, drop}
 use Rattle.sv8_model.specs.Outside.{Outside}
-use Rattle.sv8_phys.specs.declared.timer.Timer.{Timer}
+use Rattle.sv8_time.specs.Schedule.{Schedule}
 use Rattle.sv8_phys.specs.Memory.{ram_size}
+use Rattle.sv8_phys.specs.Contents.{Contents, empty_contents, arrived, outside_of}
 use Rattle.sv8_source.specs.Text.{Text}
 use Rattle.sv8_source.specs.Image.{image_bytes}
-use Rattle.sv8_cpu.specs.declared.state.MmuRegisters.{MmuRegisters}
-use Rattle.sv8_cpu.specs.Processor.{Processor, reset_processor}
+use Rattle.sv8_trap.specs.Processor.{Processor, reset_processor}
+use Rattle.sv8_cpu.specs.declared.mmu.MmuRegisters.{MmuRegisters}
+use Rattle.sv8_cpu.specs.Step.{Inner}
 
--- what is not outside the processor
-pub record Inner : Type 0 where
+-- of the console's input it has the number of bytes taken: which bytes wait follows from the timeline
+pub record State : Type 0 where
   pub processor : Processor
   pub mmu : MmuRegisters
-  pub timer : Timer
+  -- RAM, the console, the timer and the pending levels
+  pub memory : Contents
 
-pub record State : Type 0 where
-  pub inner : Inner
-  pub outside : Outside
+-- the bytes that wait at the console in the state at step n: those that came in at the steps below it, but for those taken
+abbrev pub waiting : Schedule → ℕ → State → List ℕ
+waiting schedule n s = drop s.memory.taken (arrived n schedule)
 
--- RAM with a source's image in it, over zeros
-abbrev pub loaded_ram : ℕ → Text → List ℕ
-loaded_ram pages source = image_bytes source (ram_size pages)
-
--- nothing waits at the console, nothing was put out, and no level is pending
-abbrev pub empty_outside : List ℕ → Outside
-empty_outside ram = record { ram = ram; waiting = []; output = []; pending = replicate 16 false }
-
--- the state after reset
+-- after reset: the image of a source in RAM over zeros, and everything else at rest
 unfoldable pub reset_state : ℕ → ℕ → Text → State
 reset_state windows pages source = record {
-  inner = record {
-    processor = reset_processor windows;
-    mmu = record { control = 0; table_pointer = 0; context = 0; fault_status = 0; fault_address = 0 };
-    timer = record { count = 0; reload = 0 };
+  processor = reset_processor windows;
+  mmu = record { control = 0; table_pointer = 0; context = 0; fault_status = 0; fault_address = 0 };
+  memory = record (empty_contents pages) { ram = image_bytes source (ram_size pages) };
+}
+
+-- the state as its parts outside and not outside
+abbrev pub inner_of : State → Inner
+inner_of s = record { processor = s.processor; units = record { mmu = s.mmu; timer = s.memory.timer } }
+
+-- at step n the bytes of that step and of those before it have come in
+abbrev pub outside_at : Schedule → ℕ → Contents → Outside
+outside_at schedule n m = outside_of m (arrived (n + 1) schedule)
+
+-- the state that an action leaves: the bytes that no longer wait have been taken
+abbrev pub left_by : Inner → Contents → Outside → Outside → State
+left_by inner m o o' = record {
+  processor = inner.processor;
+  mmu = inner.units.mmu;
+  memory = record {
+    ram = o'.ram;
+    taken = m.taken + (length o.waiting - length o'.waiting);
+    output = o'.output;
+    pending = o'.pending;
+    timer = inner.units.timer;
   };
-  outside = empty_outside (loaded_ram pages source);
 }

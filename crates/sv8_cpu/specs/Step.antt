@@ -1,66 +1,82 @@
--- One step of the machine, and runs of steps.
-use Rattle.std.specs.Prelude.{ℕ, zero, suc, List, Option, Some, None, if◌then◌else◌}
+-- One step of the machine behind its events, as an action: the timer, and then an interrupt, an annulled slot, or one instruction.
+use Rattle.std.specs.Prelude.{ℕ, ◌==◌, Option, Some, None, if◌then◌else◌}
 use Rattle.sv8_isa.specs.declared.instr.Instr.{Instr}
 use Rattle.sv8_isa.specs.Table.{meaning}
-use Rattle.sv8_model.specs.declared.touch.Touch.{Touch}
-use Rattle.sv8_model.specs.Action.{Action, done, ◌>>=◌, result_of, after, touches}
-use Rattle.sv8_source.specs.Text.{Text}
-use Rattle.sv8_cpu.specs.declared.trap.Trap.{Trap}
-use Rattle.sv8_cpu.specs.declared.access.Request.TheVariants as request
+use Rattle.sv8_model.specs.Action.{Action, done, ask_levels, ◌>>=◌}
+use Rattle.sv8_phys.specs.declared.timer.Timer.{Timer}
+use Rattle.sv8_phys.specs.Devices.{tick}
+use Rattle.sv8_trap.specs.declared.table.Trap.{Trap}
+use Rattle.sv8_trap.specs.Table.{taken}
+use Rattle.sv8_trap.specs.Processor.{Processor, slot_skipped}
+use Rattle.sv8_trap.specs.Entry.{with_trap, interrupted}
+use Rattle.sv8_trap.specs.Interrupt.{unmasked, highest}
+use Rattle.sv8_cpu.specs.declared.access.Request.TheVariants.{Fetch}
 use Rattle.sv8_cpu.specs.declared.access.Response.{Response}
-use Rattle.sv8_cpu.specs.declared.access.Response.TheVariants.{Values, Refused}
-use Rattle.sv8_cpu.specs.Processor.{slot_skipped}
-use Rattle.sv8_cpu.specs.Entry.{with_trap}
-use Rattle.sv8_cpu.specs.Instruction.{raised, taken, asked, complete}
+use Rattle.sv8_cpu.specs.declared.access.Response.TheVariants.{Value, Refused}
+use Rattle.sv8_cpu.specs.Memory.{low_word}
+use Rattle.sv8_cpu.specs.Instruction.{raised, trapped, asked, complete}
+use Rattle.sv8_cpu.specs.Units.{Units, Served}
 use Rattle.sv8_cpu.specs.Access.{access}
-use Rattle.sv8_phys.specs.Memory.{ram_size}
-use Rattle.sv8_cpu.specs.State.{Inner, State, reset_state}
 
--- a trap, which changes the processor alone
-abbrev pub trapped : ℕ → Inner → Trap → Inner
-trapped windows m t = record m { processor = with_trap windows m.processor t }
+-- what is not outside
+pub record Inner : Type 0 where
+  pub processor : Processor
+  pub units : Units
 
--- what becomes of the processor once the instruction's access is answered
-abbrev pub answered : ℕ → Inner → Instr → Response → Inner
-answered windows m i (Values high low) = record m { processor = complete windows m.processor i high low }
-answered windows m i (Refused t) = trapped windows m t
+-- ---- one instruction
 
--- an instruction that raises nothing makes its access
-abbrev pub executed : ℕ → ℕ → Inner → Instr → Option Trap → Action Inner
-executed windows size m i (Some t) = done (trapped windows m t)
-executed windows size m i None = access size (asked i) >>= λ response. done (answered windows m i response)
+-- the instruction's access is answered
+abbrev pub answered : ℕ → Processor → Instr → Response → Processor
+answered windows p i (Value value) = complete windows p i value
+answered windows p i (Refused t) = with_trap windows p t
+
+abbrev pub finished_access : ℕ → Processor → Instr → Served → Inner
+finished_access windows p i s = record { processor = answered windows p i s.response; units = s.units }
+
+-- an instruction that raises a trap takes it; one that raises none makes its access
+unfoldable pub executed : ℕ → ℕ → Inner → Instr → Option Trap → Action Inner
+executed windows limit m i (Some t) = done (record m { processor = trapped windows m.processor i t })
+executed windows limit m i None = access limit m.units (asked windows m.processor i) >>= λ s. done (finished_access windows m.processor i s)
 
 -- the word that was fetched is carried out
-abbrev pub fetched : ℕ → ℕ → Inner → Response → Action Inner
-fetched windows size m (Refused t) = done (trapped windows m t)
-fetched windows size m (Values high low) = executed windows size m (meaning low) (taken (raised (meaning low)))
+abbrev pub carried_out : ℕ → ℕ → Inner → ℕ → Action Inner
+carried_out windows limit m word = executed windows limit m (meaning word) (taken (raised windows m.processor (meaning word)))
+
+abbrev pub fetched : ℕ → ℕ → Processor → Response → Units → Action Inner
+fetched windows limit p (Refused t) u = done (record { processor = with_trap windows p t; units = u })
+fetched windows limit p (Value value) u = carried_out windows limit (record { processor = p; units = u }) (low_word value)
 
 -- one instruction is fetched and carried out
 unfoldable pub instruction : ℕ → ℕ → Inner → Action Inner
-instruction windows size m = access size (request.Fetch m.processor.registers.psr.s m.processor.pc) >>= fetched windows size m
+instruction windows limit m =
+    access limit m.units (Fetch m.processor.registers.psr.s m.processor.pc) >>= λ s. fetched windows limit m.processor s.response s.units
 
--- what a step does: nothing in error mode, an annulled slot is passed over, else one instruction is carried out
+-- ---- the whole step
+
+-- an annulled slot is passed over with no access to memory
+unfoldable pub continued : ℕ → ℕ → Inner → Action Inner
+continued windows limit m = if m.processor.annul then done (record m { processor = slot_skipped m.processor }) else instruction windows limit m
+
+-- the highest of the pending levels that are not masked interrupts; where there is none, the program goes on
+unfoldable pub requested : ℕ → ℕ → Inner → ℕ → Action Inner
+requested windows limit m word =
+    if highest word == 0 then continued windows limit m else done (record m { processor = interrupted windows m.processor (highest word) })
+
+-- with traps enabled, every level that is not masked is asked for
+unfoldable pub interruptible : ℕ → ℕ → Inner → Action Inner
+interruptible windows limit m =
+    if m.processor.registers.psr.et
+    then (ask_levels (unmasked m.processor.registers.psr.pil) (λ word. done word) >>= requested windows limit m)
+    else continued windows limit m
+
+-- the machine with another timer
+abbrev pub with_timer : Inner → Timer → Inner
+with_timer m timer = record m { units = record m.units { timer = timer } }
+
+-- the timer's step comes before all else
+unfoldable pub awake : ℕ → ℕ → Inner → Action Inner
+awake windows limit m = tick m.units.timer >>= λ timer. interruptible windows limit (with_timer m timer)
+
+-- in error mode nothing happens, not even at the timer
 unfoldable pub action : ℕ → ℕ → Inner → Action Inner
-action windows size m =
-    if m.processor.running
-    then (if m.processor.annul then done (record m { processor = slot_skipped m.processor }) else instruction windows size m)
-    else done m
-
--- the state after a step
-unfoldable pub step : ℕ → ℕ → State → State
-step windows pages s =
-    let a = action windows (ram_size pages) s.inner in
-    record { inner = result_of a s.outside; outside = after a s.outside }
-
--- what a step touches of the outside
-abbrev pub footprint : ℕ → ℕ → State → List Touch
-footprint windows pages s = touches (action windows (ram_size pages) s.inner) s.outside
-
--- the state after n steps
-unfoldable pub steps : ℕ → ℕ → ℕ → State → State
-steps windows pages zero s = s
-steps windows pages (suc n) s = step windows pages (steps windows pages n s)
-
--- the state that is shown at step n: n steps from reset
-abbrev pub state_at : ℕ → ℕ → Text → ℕ → State
-state_at windows pages source n = steps windows pages n (reset_state windows pages source)
+action windows limit m = if m.processor.running then awake windows limit m else done m

@@ -1,12 +1,19 @@
--- The state that the parts of a machine make.
+-- What the parts of a machine stand for.
 use Rattle.std.specs.Prelude.{ℕ}
-use Rattle.sv8_cpu.specs.State.{Inner, State}
+use Rattle.sv8_cpu.specs.declared.memory.Memory.{Memory}
 use Rattle.sv8_cpu.specs.declared.machine.Parts.{Parts}
+use Rattle.sv8_cpu.specs.Units.{Units}
+use Rattle.sv8_cpu.specs.Step.{Inner}
+use Rattle.sv8_cpu.specs.State.{State}
 
--- what is not outside the processor
-abbrev pub inner_of : {windows pages : ℕ} → Parts windows pages → Inner
-inner_of p = record { processor = p.processor; mmu = p.mmu; timer = p.timer }
+-- the units of a memory
+abbrev pub units_of : {pages : ℕ} → Memory pages → Units
+units_of m = record { mmu = m.mmu; timer = m.phys.timer }
 
--- the whole state; the memory's own view is the outside
+-- what is not outside
+abbrev pub inner_of_parts : {windows pages : ℕ} → Parts windows pages → Inner
+inner_of_parts p = record { processor = p.processor; units = units_of p.memory }
+
+-- the whole state
 abbrev pub state_of : {windows pages : ℕ} → Parts windows pages → State
-state_of p = record { inner = inner_of p; outside = p.memory }
+state_of p = record { processor = p.processor; mmu = p.memory.mmu; memory = p.memory.phys }

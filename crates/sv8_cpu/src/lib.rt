@@ -2,15 +2,12 @@
 #![tactic(auto)]
 
 mod access;
-mod laws;
+mod instruction;
 mod machine;
 mod memory;
-mod processor;
-mod state;
-#[cfg(test)]
-mod tests;
-mod trap;
+mod mmu;
+mod work;
 
-pub use laws::{worked_steps, worked_trap};
-pub use machine::Machine;
-pub use state::MmuRegisters;
+pub use machine::Parts;
+pub use mmu::{Fault, MmuRegisters};
+pub use work::Work;

@@ -1,106 +1,117 @@
-//! Memory, and what else is outside the processor.
+//! Memory as the processor reaches it: RAM, the devices, and the registers that record faults.
 
-ghost use Rattle.std.specs.Prelude.{◌≡◌, ℕ, ◌+◌, ◌*◌, ◌%◌, ◌/◌, ◌≤◌, ◌<◌, ◌^◌, length, IfOk};
-ghost use Rattle.sv8_model.specs.Outside.{word_of};
-ghost use Rattle.sv8_model.specs.Does.{DoesUnnoted};
-ghost use Rattle.sv8_model.specs.Levels.{levels_word};
-ghost use Rattle.sv8_phys.specs.Memory.{ram_size};
-ghost use Rattle.sv8_cpu.specs.Access.{access, IsAligned};
-ghost use Rattle.sv8_cpu.specs.State.{empty_outside, loaded_ram};
+ghost use Rattle.std.specs.Prelude.{◌≡◌, ℕ, ◌+◌, ◌*◌, ◌%◌, ◌/◌, ◌≤◌, ◌<◌, ◌∷◌, List, true, IfOk, OnErr};
+ghost use Rattle.sv8_model.specs.Does.{Does};
+ghost use Rattle.sv8_time.specs.Schedule.{bytes_below};
+ghost use Rattle.sv8_phys.specs.Memory.{bytes_in, ram_size};
+ghost use Rattle.sv8_phys.specs.Contents.{arrived, outside_of};
+ghost use Rattle.sv8_cpu.specs.Units.{served, failed};
+ghost use Rattle.sv8_cpu.specs.Access.{load_type, store_type, bus_fault, fetched_from, load_answer, is_word, loaded_from, answer_to_store, stored_at, exchanged_at, instruction_space, access, IsAligned};
+ghost use Rattle.sv8_cpu.specs.View.{units_of};
 
 use crate::access::{Request, Response};
-use crate::trap::Trap;
-use std::alloc::{AllocError, Global};
-use std::marker::Model;
-use sv8_source::Source;
+use crate::mmu::{Fault, MmuRegisters};
+use std::alloc::AllocError;
+use sv8_phys::{BusError, INPUT, Phys, Size, Touches, WAITING};
+use sv8_time::Timeline;
+use sv8_trap::Trap;
 
-/// RAM of `PAGES` pages.
+/// Physical memory of `PAGES` pages of RAM with the devices, and the memory management unit's registers.
 #[derive(Drop)]
 pub struct Memory<const PAGES: usize> {
-    ram: Vec<u8>,
+    pub phys: Phys<PAGES>,
+    pub mmu: MmuRegisters,
 }
 
-impl<const PAGES: usize> Model for Memory<PAGES> {
-    ghost use Rattle.std.specs.Prelude.{◌≡◌, ◌≤◌, ◌*◌, length};
-    ghost use Rattle.sv8_model.specs.Outside.{Outside};
-    ghost use Rattle.sv8_phys.specs.Memory.{ram_size};
-    ghost use Rattle.sv8_cpu.specs.State.{empty_outside};
+/// The access type of a load from an address space.
+#[inline(always)]
+#[tactic(auto, unfolding(crate::specs::Access::load_type))]
+fn load_type(asi: u8) -> u8
+    ensures value { result ≡ load_type asi }
+    ensures small { result ≤ 7 }
+{
+    match asi {
+        0x08 => 2,
+        0x09 => 3,
+        0x0a => 0,
+        _ => 1,
+    }
+}
 
-    ghost Value = { Outside };
+/// The access type of a store to an address space.
+#[inline(always)]
+#[tactic(auto, unfolding(crate::specs::Access::store_type))]
+fn store_type(asi: u8) -> u8
+    ensures value { result ≡ store_type asi }
+    ensures small { result ≤ 7 }
+{
+    match asi {
+        0x08 => 6,
+        0x09 => 7,
+        0x0a => 4,
+        _ => 5,
+    }
+}
 
-    ghost view = { λ m. empty_outside m.ram.items };
+/// The address space that instructions are fetched from.
+#[inline(always)]
+fn instruction_space(supervisor: bool) -> u8
+    ensures { result ≡ instruction_space supervisor }
+{
+    if supervisor { 0x09 } else { 0x08 }
+}
 
-    ghost invariant = { λ m. (length m.ram.items ≡ ram_size PAGES) × (PAGES ≤ 65536) };
+#[inline(always)]
+fn is_word(size: Size) -> bool
+    ensures { result ≡ is_word size }
+{
+    matches!(size, Size::Word)
 }
 
 impl<const PAGES: usize> Memory<PAGES> {
-    /// RAM with the image of a source in it.
-    pub fn new(alloc: Global, source: &Source) -> Result<Self, AllocError>
-        requires { PAGES ≤ 65536 }
-        ensures { IfOk result (λ m. m ≡ empty_outside (loaded_ram PAGES source.now)) }
+    /// Records that nothing serves a physical address, and raises the trap unless the fault is hidden.
+    #[cold]
+    #[tactic(auto, unfolding(crate::specs::Units::failed))]
+    fn fail(&mut self, trap: Trap, asi: u8, access_type: u8, at: u32) -> Response
+        requires { access_type ≤ 7 }
+        ensures served { record { response = result; units = units_of self.new } ≡ failed (units_of self.old) trap asi (bus_fault access_type at) }
+        ensures memory { self.new.phys ≡ self.old.phys }
     {
-        let ram = source.image(alloc, 4096 * PAGES)?;
-        Ok(Memory { ram })
-    }
-
-    /// Makes an access.
-    #[inline(always)]
-    #[tactic(auto, unfolding(crate::specs::Access::access))]
-    pub fn access(&self, request: Request) -> Response
-        requires { IsAligned request }
-        ensures { DoesUnnoted (access (ram_size PAGES) request) self.now self.now result }
-    {
-        match request {
-            Request::Nothing => Response::Values { high: 0, low: 0 },
-            Request::Fetch { at, .. } => {
-                let at = at as usize;
-                if at < self.ram.len() {
-                    Response::Values {
-                        high: 0,
-                        low: word_at(&self.ram, at),
-                    }
-                } else {
-                    Response::Refused(Trap::InstructionAccessException)
-                }
-            }
+        let hidden = self.mmu.hides_fault(asi);
+        self.mmu.record(Fault {
+            level: 0,
+            access_type,
+            fault_type: 5,
+            address: at,
+        });
+        if hidden {
+            Response::Value(0)
+        } else {
+            Response::Refused(trap)
         }
     }
 
-    /// The pending interrupt levels, bit l for level l. Nothing makes one pending yet.
-    pub fn pending(&self) -> u32
-        ensures { result ≡ levels_word self.now.pending }
-    {
-        let _ram = &self.ram;
-        0
-    }
-
-    /// How many bytes wait at the console. Nothing comes in yet.
-    pub fn waiting_count(&self) -> u32
-        ensures { result ≡ length self.now.waiting }
-    {
-        let _ram = &self.ram;
-        0
-    }
-
-    /// The word of RAM at an address.
+    /// What a load leads to.
     #[inline(always)]
-    pub fn word(&self, at: u32) -> u32
-        requires aligned { at % 4 ≡ 0 }
-        requires within { at < ram_size PAGES }
-        ensures { result ≡ word_of self.now.ram (at / 4) }
+    fn load_answer(&mut self, asi: u8, at: u32, answer: Result<u64, BusError>) -> Response
+        ensures served { record { response = result; units = units_of self.new } ≡ load_answer (units_of self.old) asi at answer }
+        ensures memory { self.new.phys ≡ self.old.phys }
     {
-        word_at(&self.ram, at as usize)
+        match answer {
+            Ok(value) => Response::Value(value),
+            Err(_) => self.fail(Trap::DataAccessException, asi, load_type(asi), at),
+        }
     }
-}
 
-/// The word at an address that is a multiple of 4.
-#[inline(always)]
-#[tactic(auto, unfolding(sv8_model::specs::Outside::word_of))]
-fn word_at(ram: &[u8], at: usize) -> u32
-    requires aligned { at % 4 ≡ 0 }
-    requires within { at < length ram.now }
-    requires words { length ram.now % 4 ≡ 0 }
-    ensures { result ≡ word_of ram.now (at / 4) }
-{
-    u32::from_be_bytes([ram[at], ram[at + 1], ram[at + 2], ram[at + 3]])
+    /// What a store leads to.
+    #[inline(always)]
+    fn store_answer(&mut self, asi: u8, at: u32, answer: Result<(), BusError>) -> Response
+        ensures served { record { response = result; units = units_of self.new } ≡ answer_to_store (units_of self.old) asi at self.old.phys.timer answer }
+        ensures memory { self.new.phys ≡ self.old.phys }
+    {
+        match answer {
+            Ok(()) => Response::Value(0),
+            Err(_) => self.fail(Trap::DataAccessException, asi, store_type(asi), at),
+        }
+    }
 }

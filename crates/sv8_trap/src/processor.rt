@@ -63,6 +63,17 @@ impl<const NW: usize> Processor<NW> {
         }
     }
 
+    /// The number of windows, `NW`.
+    #[inline(always)]
+    pub fn windows(&self) -> u32
+        ensures value { result ≡ NW }
+        ensures some { 2 ≤ result }
+        ensures few { result ≤ 32 }
+    {
+        let _pc = self.pc;
+        NW as u32
+    }
+
     /// The registers (chapter 4).
     #[inline(always)]
     pub fn registers(&self) -> &Regs<NW>

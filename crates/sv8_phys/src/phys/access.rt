@@ -75,9 +75,13 @@ impl<const PAGES: usize> Phys<PAGES> {
         }
     }
 
-    /// Loads from RAM.
+    /// Loads from RAM: the access of a fetch, a table walk, or an instruction that loads and stores at once.
+    ///
+    /// # Errors
+    ///
+    /// `AllocError` where memory for a note cannot be had.
     #[inline(always)]
-    fn read_ram<T: Touches>(&self, pa: u64, size: Size, notes: &mut T) -> Result<u64, AllocError>
+    pub fn read_ram<T: Touches>(&self, pa: u64, size: Size, notes: &mut T) -> Result<u64, AllocError>
         requires within { pa < ram_size PAGES }
         requires aligned { pa % bytes_in size ≡ 0 }
         ensures ok { IfOk result (λ v. (bytes : List ℕ) → Does T.KEEPS (ram_load size pa)
@@ -89,9 +93,13 @@ impl<const PAGES: usize> Phys<PAGES> {
         Ok(ram.read(pa as usize, size))
     }
 
-    /// Stores to RAM.
+    /// Stores the low bytes of a number to RAM.
+    ///
+    /// # Errors
+    ///
+    /// `AllocError` where memory for a page that is shared or for a note cannot be had; memory is then as it was.
     #[inline(always)]
-    fn write_ram<T: Touches>(
+    pub fn write_ram<T: Touches>(
         &mut self,
         pa: u64,
         size: Size,

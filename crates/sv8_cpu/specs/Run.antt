@@ -1,0 +1,42 @@
+-- Steps under a timeline, and runs of them.
+use Rattle.std.specs.Prelude.{ℕ, zero, suc, List}
+use Rattle.sv8_model.specs.declared.touch.Touch.{Touch}
+use Rattle.sv8_model.specs.Action.{Action, result_of, after, touches}
+use Rattle.sv8_time.specs.Schedule.{Schedule}
+use Rattle.sv8_phys.specs.Memory.{ram_size}
+use Rattle.sv8_source.specs.Text.{Text}
+use Rattle.sv8_cpu.specs.Step.{Inner, action}
+use Rattle.sv8_cpu.specs.Events.{with_events}
+use Rattle.sv8_cpu.specs.State.{State, reset_state, inner_of, outside_at, left_by}
+
+-- the state behind the events of step n
+abbrev pub eventful : Schedule → ℕ → State → State
+eventful schedule n s = record s { memory = with_events schedule n s.memory }
+
+-- what a step does behind its events
+abbrev pub step_action : ℕ → ℕ → State → Action Inner
+step_action windows pages s = action windows (ram_size pages) (inner_of s)
+
+-- the state that an action of a step leads to
+abbrev pub acted : Schedule → ℕ → State → Action Inner → State
+acted schedule n s a =
+    let o = outside_at schedule n s.memory in
+    left_by (result_of a o) s.memory o (after a o)
+
+-- step n: its events, and then what it does
+unfoldable pub step : ℕ → ℕ → Schedule → ℕ → State → State
+step windows pages schedule n s = acted schedule n (eventful schedule n s) (step_action windows pages (eventful schedule n s))
+
+-- what step n touches of the outside; its events are no part of that
+unfoldable pub footprint : ℕ → ℕ → Schedule → ℕ → State → List Touch
+footprint windows pages schedule n s =
+    touches (step_action windows pages (eventful schedule n s)) (outside_at schedule n (with_events schedule n s.memory))
+
+-- the state after n steps
+unfoldable pub steps : ℕ → ℕ → Schedule → ℕ → State → State
+steps windows pages schedule zero s = s
+steps windows pages schedule (suc n) s = step windows pages schedule n (steps windows pages schedule n s)
+
+-- the state that is shown at step n: n steps from reset
+abbrev pub state_at : ℕ → ℕ → Text → Schedule → ℕ → State
+state_at windows pages source schedule n = steps windows pages schedule n (reset_state windows pages source)

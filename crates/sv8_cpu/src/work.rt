@@ -1,0 +1,44 @@
+//! The count of steps.
+
+ghost use Rattle.std.specs.Prelude.{◌≡◌, ◌+◌, min};
+ghost use Rattle.sv8_cpu.specs.Work.{counted};
+
+use std::marker::Model;
+
+/// How many steps were made with it. It cannot be copied, so no step is counted in a copy that is then lost.
+#[derive(Drop)]
+pub struct Work {
+    done: u64,
+}
+
+impl Model for Work {
+    ghost use Rattle.std.specs.Prelude.{ℕ};
+
+    ghost Value = { ℕ };
+
+    ghost view = { λ w. w.done };
+}
+
+impl Work {
+    /// No steps.
+    pub fn new() -> Self
+        ensures { result ≡ 0 }
+    {
+        Work { done: 0 }
+    }
+
+    /// The number of steps made so far; 2^64 - 1 where it is that or more.
+    pub fn done(&self) -> u64
+        ensures { result ≡ self.now }
+    {
+        self.done
+    }
+
+    /// One step more.
+    #[inline(always)]
+    pub(crate) fn raise(&mut self)
+        ensures { self.new ≡ counted self.old }
+    {
+        self.done = self.done.saturating_add(1);
+    }
+}
