@@ -3,7 +3,6 @@
 use Rattle.std.specs.Prelude.{◌≡◌, ℕ, ◌/◌, ◌%◌, ◌==◌, ◌&&◌, Bool, true, false, nat_lt, Result, Ok, Err, if◌then◌else◌}
 use Rattle.sv8_model.specs.Action.{Action, done, take_input, count_waiting, ◌>>=◌}
 use Rattle.sv8_phys.specs.declared.fault.BusError.{BusError}
-use Rattle.sv8_phys.specs.declared.timer.Timer.{Timer}
 use Rattle.sv8_phys.specs.declared.size.Size.{Size}
 use Rattle.sv8_phys.specs.declared.size.Size.TheVariants.{Byte, Half, Word, Double}
 use Rattle.sv8_phys.specs.Memory.{bytes_in}
@@ -44,19 +43,31 @@ abbrev pub is_word : Size → Bool
 is_word Word = true
 is_word size = false
 
--- a load of a word takes a byte of the console's input, or counts the bytes that wait; else RAM or another device serves it
+-- a load of a word at the console's input
+abbrev pub takes_byte : Size → ℕ → Bool
+takes_byte size at = is_word size && at == input_address
+
+-- a load of a word at the count of the bytes that wait
+abbrev pub counts_bytes : Size → ℕ → Bool
+counts_bytes size at = is_word size && at == waiting_address
+
+-- RAM or a device but the console's input serves it
+unfoldable pub plainly_loaded : ℕ → Units → Size → ℕ → ℕ → Action Served
+plainly_loaded limit u size asi at = load limit u.timer size at >>= λ answer. done (load_answer u asi at answer)
+
+-- a load of a word takes a byte of the console's input, or counts the bytes that wait; else it is a plain one
 unfoldable pub loaded_from : ℕ → Units → Size → ℕ → ℕ → Action Served
 loaded_from limit u size asi at =
-    if is_word size && at == input_address then (take_input (λ byte. done byte) >>= λ byte. done (served u byte)) else
-    (if is_word size && at == waiting_address then (count_waiting (λ count. done count) >>= λ count. done (served u count)) else
-    (load limit u.timer size at >>= λ answer. done (load_answer u asi at answer)))
+    if takes_byte size at then (take_input (λ byte. done byte) >>= λ byte. done (served u byte)) else
+    (if counts_bytes size at then (count_waiting (λ count. done count) >>= λ count. done (served u count)) else
+    plainly_loaded limit u size asi at)
 
-abbrev pub answer_to_store : Units → ℕ → ℕ → Timer → Result (Unit {0}) BusError → Served
-answer_to_store u asi at timer (Ok nothing) = served (record u { timer = timer }) 0
-answer_to_store u asi at timer (Err e) = failed u DataAccessException asi (bus_fault (store_type asi) at)
+abbrev pub answer_to_store : Units → ℕ → ℕ → Result (Unit {0}) BusError → Served
+answer_to_store u asi at (Ok nothing) = served u 0
+answer_to_store u asi at (Err e) = failed u DataAccessException asi (bus_fault (store_type asi) at)
 
 abbrev pub store_answer : Units → ℕ → ℕ → Stored → Served
-store_answer u asi at s = answer_to_store u asi at s.timer s.answer
+store_answer u asi at s = answer_to_store (record u { timer = s.timer }) asi at s.answer
 
 unfoldable pub stored_at : ℕ → Units → Size → ℕ → ℕ → ℕ → Action Served
 stored_at limit u size asi at value = store limit u.timer size at value >>= λ s. done (store_answer u asi at s)

@@ -1,12 +1,12 @@
 //! Memory as the processor reaches it: RAM, the devices, and the registers that record faults.
 
-ghost use Rattle.std.specs.Prelude.{◌≡◌, ℕ, ◌+◌, ◌*◌, ◌%◌, ◌/◌, ◌≤◌, ◌<◌, ◌∷◌, List, true, IfOk, OnErr};
+ghost use Rattle.std.specs.Prelude.{◌≡◌, ℕ, ◌+◌, ◌*◌, ◌%◌, ◌/◌, ◌≤◌, ◌<◌, ◌∷◌, List, true, IfOk, OnOk};
 ghost use Rattle.sv8_model.specs.Does.{Does};
 ghost use Rattle.sv8_time.specs.Schedule.{bytes_below};
 ghost use Rattle.sv8_phys.specs.Memory.{bytes_in, ram_size};
 ghost use Rattle.sv8_phys.specs.Contents.{arrived, outside_of};
 ghost use Rattle.sv8_cpu.specs.Units.{served, failed};
-ghost use Rattle.sv8_cpu.specs.Access.{load_type, store_type, bus_fault, fetched_from, load_answer, is_word, loaded_from, answer_to_store, stored_at, exchanged_at, instruction_space, access, IsAligned};
+ghost use Rattle.sv8_cpu.specs.Access.{load_type, store_type, bus_fault, fetched_from, load_answer, is_word, takes_byte, counts_bytes, plainly_loaded, loaded_from, answer_to_store, stored_at, exchanged_at, instruction_space, access, IsAligned};
 ghost use Rattle.sv8_cpu.specs.View.{units_of};
 
 use crate::access::{Request, Response};
@@ -68,6 +68,22 @@ fn is_word(size: Size) -> bool
     matches!(size, Size::Word)
 }
 
+/// Whether a load takes a byte of the console's input.
+#[inline(always)]
+fn takes_byte(size: Size, at: u32) -> bool
+    ensures { result ≡ takes_byte size at }
+{
+    is_word(size) && at as u64 == INPUT
+}
+
+/// Whether a load counts the bytes that wait at the console.
+#[inline(always)]
+fn counts_bytes(size: Size, at: u32) -> bool
+    ensures { result ≡ counts_bytes size at }
+{
+    is_word(size) && at as u64 == WAITING
+}
+
 impl<const PAGES: usize> Memory<PAGES> {
     /// Records that nothing serves a physical address, and raises the trap unless the fault is hidden.
     #[cold]
@@ -106,12 +122,176 @@ impl<const PAGES: usize> Memory<PAGES> {
     /// What a store leads to.
     #[inline(always)]
     fn store_answer(&mut self, asi: u8, at: u32, answer: Result<(), BusError>) -> Response
-        ensures served { record { response = result; units = units_of self.new } ≡ answer_to_store (units_of self.old) asi at self.old.phys.timer answer }
+        ensures served { record { response = result; units = units_of self.new } ≡ answer_to_store (units_of self.old) asi at answer }
         ensures memory { self.new.phys ≡ self.old.phys }
     {
         match answer {
             Ok(()) => Response::Value(0),
             Err(_) => self.fail(Trap::DataAccessException, asi, store_type(asi), at),
+        }
+    }
+}
+
+impl<const PAGES: usize> Memory<PAGES> {
+    /// Fetches an instruction.
+    #[inline(always)]
+    #[tactic(auto, unfolding(crate::specs::Access::fetched_from))]
+    fn fetch<T: Touches>(
+        &mut self,
+        asi: u8,
+        at: u32,
+        notes: &mut T,
+    ) -> Result<Response, AllocError>
+        requires { at % 4 ≡ 0 }
+        ensures ok { IfOk result (λ r. (bytes : List ℕ) → Does T.KEEPS (fetched_from (ram_size PAGES) (units_of self.old) asi at)
+            (outside_of self.old.phys bytes) (outside_of self.new.phys bytes) (record { response = r; units = units_of self.new }) (T.noted notes.old) (T.noted notes.new)) }
+        ensures taken { OnOk result (self.new.phys.taken ≡ self.old.phys.taken) }
+    {
+        if self.phys.is_ram(at as u64) {
+            let word = self.phys.read_ram(at as u64, Size::Word, notes)?;
+            Ok(Response::Value(word))
+        } else {
+            Ok(self.fail(Trap::InstructionAccessException, asi, load_type(asi), at))
+        }
+    }
+
+    /// Loads from RAM or a device, but for the console's input.
+    #[inline(always)]
+    fn load_plain<T: Touches>(
+        &mut self,
+        size: Size,
+        asi: u8,
+        at: u32,
+        notes: &mut T,
+    ) -> Result<Response, AllocError>
+        requires { at % bytes_in size ≡ 0 }
+        ensures ok { IfOk result (λ r. (bytes : List ℕ) → Does T.KEEPS (plainly_loaded (ram_size PAGES) (units_of self.old) size asi at)
+            (outside_of self.old.phys bytes) (outside_of self.new.phys bytes) (record { response = r; units = units_of self.new }) (T.noted notes.old) (T.noted notes.new)) }
+        ensures taken { OnOk result (self.new.phys.taken ≡ self.old.phys.taken) }
+    {
+        let answer = self.phys.read(at as u64, size, notes)?;
+        Ok(self.load_answer(asi, at, answer))
+    }
+
+    /// Loads from RAM or a device.
+    #[inline(always)]
+    #[tactic(auto, unfolding(crate::specs::Access::loaded_from))]
+    fn load<T: Touches>(
+        &mut self,
+        size: Size,
+        asi: u8,
+        at: u32,
+        before: u32,
+        timeline: &Timeline,
+        notes: &mut T,
+    ) -> Result<Response, AllocError>
+        requires aligned { at % bytes_in size ≡ 0 }
+        requires delivered { self.old.phys.taken ≤ bytes_below before timeline.now.inputs }
+        ensures ok { IfOk result (λ r. Does T.KEEPS (loaded_from (ram_size PAGES) (units_of self.old) size asi at)
+            (outside_of self.old.phys (arrived before timeline.now)) (outside_of self.new.phys (arrived before timeline.now))
+            (record { response = r; units = units_of self.new }) (T.noted notes.old) (T.noted notes.new)) }
+        ensures taken { OnOk result (self.new.phys.taken ≤ bytes_below before timeline.now.inputs) }
+    {
+        if takes_byte(size, at) {
+            let byte = self.phys.take_input(before, timeline, notes)?;
+            Ok(Response::Value(byte as u64))
+        } else if counts_bytes(size, at) {
+            let count = self.phys.waiting(before, timeline, notes)?;
+            Ok(Response::Value(count as u64))
+        } else {
+            let response = self.load_plain(size, asi, at, notes)?;
+            Ok(response)
+        }
+    }
+
+    /// Stores to RAM or a device.
+    #[inline(always)]
+    #[tactic(auto, unfolding(crate::specs::Access::stored_at))]
+    fn store<T: Touches>(
+        &mut self,
+        size: Size,
+        asi: u8,
+        at: u32,
+        value: u64,
+        notes: &mut T,
+    ) -> Result<Response, AllocError>
+        requires { at % bytes_in size ≡ 0 }
+        ensures ok { IfOk result (λ r. (bytes : List ℕ) → Does T.KEEPS (stored_at (ram_size PAGES) (units_of self.old) size asi at value)
+            (outside_of self.old.phys bytes) (outside_of self.new.phys bytes) (record { response = r; units = units_of self.new }) (T.noted notes.old) (T.noted notes.new)) }
+        ensures taken { OnOk result (self.new.phys.taken ≡ self.old.phys.taken) }
+    {
+        let answer = self.phys.write(at as u64, size, value, notes)?;
+        Ok(self.store_answer(asi, at, answer))
+    }
+
+    /// Loads from RAM, and stores in the same place.
+    #[tactic(auto, unfolding(crate::specs::Access::exchanged_at))]
+    fn exchange<T: Touches>(
+        &mut self,
+        size: Size,
+        asi: u8,
+        at: u32,
+        value: u64,
+        notes: &mut T,
+    ) -> Result<Response, AllocError>
+        requires { at % bytes_in size ≡ 0 }
+        ensures ok { IfOk result (λ r. (bytes : List ℕ) → Does T.KEEPS (exchanged_at (ram_size PAGES) (units_of self.old) size asi at value)
+            (outside_of self.old.phys bytes) (outside_of self.new.phys bytes) (record { response = r; units = units_of self.new }) (T.noted notes.old) (T.noted notes.new)) }
+        ensures taken { OnOk result (self.new.phys.taken ≡ self.old.phys.taken) }
+    {
+        if !self.phys.is_ram(at as u64) {
+            return Ok(self.fail(Trap::DataAccessException, asi, store_type(asi), at));
+        }
+        let old = self.phys.read_ram(at as u64, size, notes)?;
+        self.phys.write_ram(at as u64, size, value, notes)?;
+        Ok(Response::Value(old))
+    }
+
+    /// Makes an access. The bytes that came in at the console at the steps below `before` have arrived.
+    #[inline(always)]
+    #[tactic(auto, unfolding(crate::specs::Access::access))]
+    pub fn access<T: Touches>(
+        &mut self,
+        request: Request,
+        before: u32,
+        timeline: &Timeline,
+        notes: &mut T,
+    ) -> Result<Response, AllocError>
+        requires aligned { IsAligned request }
+        requires delivered { self.old.phys.taken ≤ bytes_below before timeline.now.inputs }
+        ensures ok { IfOk result (λ r. Does T.KEEPS (access (ram_size PAGES) (units_of self.old) request)
+            (outside_of self.old.phys (arrived before timeline.now)) (outside_of self.new.phys (arrived before timeline.now))
+            (record { response = r; units = units_of self.new }) (T.noted notes.old) (T.noted notes.new)) }
+        ensures taken { OnOk result (self.new.phys.taken ≤ bytes_below before timeline.now.inputs) }
+    {
+        match request {
+            Request::Nothing => Ok(Response::Value(0)),
+            Request::Fetch { supervisor, at } => {
+                let response = self.fetch(instruction_space(supervisor), at, notes)?;
+                Ok(response)
+            }
+            Request::Load { size, asi, at } => {
+                let response = self.load(size, asi, at, before, timeline, notes)?;
+                Ok(response)
+            }
+            Request::Store {
+                size,
+                asi,
+                at,
+                value,
+            } => {
+                let response = self.store(size, asi, at, value, notes)?;
+                Ok(response)
+            }
+            Request::Exchange {
+                size,
+                asi,
+                at,
+                value,
+            } => {
+                let response = self.exchange(size, asi, at, value, notes)?;
+                Ok(response)
+            }
         }
     }
 }
