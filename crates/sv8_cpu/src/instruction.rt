@@ -4,7 +4,6 @@ ghost use Rattle.std.specs.Prelude.{◌≡◌, ◌<◌, ◌≤◌, ◌%◌, ◌*
 ghost use Rattle.sv8_isa.specs.Registers.{HasRegisters, OperandHasRegister};
 ghost use Rattle.sv8_model.specs.Words.{word_of_number};
 ghost use Rattle.sv8_trap.specs.Table.{taken};
-ghost use Rattle.sv8_trap.specs.IsTrap.{IsTrap};
 ghost use Rattle.sv8_isa.specs.Table.{is_queue_store};
 ghost use Rattle.sv8_cpu.specs.Operands.{operand_value, sum_of_sources};
 ghost use Rattle.sv8_cpu.specs.Memory.{memory_traps};
@@ -135,7 +134,6 @@ pub fn raised_by<const NW: usize>(p: &Processor<NW>, instr: Instr) -> Option<Tra
 
 /// Takes a trap that an instruction raises; RETT's are special.
 pub fn take<const NW: usize>(p: &mut Processor<NW>, instr: Instr, trap: Trap)
-    requires { IsTrap trap }
     ensures { p.new ≡ trapped NW p.old instr trap }
 {
     match instr {

@@ -1,11 +1,262 @@
 //! The machine, one step at a time.
 
+ghost use Rattle.std.specs.Prelude.{◌≡◌, ℕ, ◌+◌, ◌<◌, ◌≤◌, ◌%◌, ◌/◌, ◌++◌, None, length, IfOk, OnOk};
+ghost use Rattle.sv8_isa.specs.Registers.{HasRegisters};
+ghost use Rattle.sv8_model.specs.Does.{Does};
+ghost use Rattle.sv8_time.specs.Schedule.{bytes_below};
+ghost use Rattle.sv8_trap.specs.Table.{taken};
+ghost use Rattle.sv8_phys.specs.Memory.{ram_size};
+ghost use Rattle.sv8_phys.specs.Contents.{arrived, outside_of};
+ghost use Rattle.sv8_cpu.specs.Instruction.{raised};
+ghost use Rattle.sv8_cpu.specs.Step.{answered, executed, fetched, instruction, continued, requested, interruptible, awake, action};
+ghost use Rattle.sv8_cpu.specs.View.{inner_of_parts, units_of};
+
+use crate::access::{Request, Response};
+use crate::instruction::{asked, complete, low_word, raised_by, take};
 use crate::memory::Memory;
-use sv8_trap::Processor;
+use std::alloc::AllocError;
+use sv8_isa::{Instr, decode};
+use sv8_phys::Touches;
+use sv8_time::Timeline;
+use sv8_trap::{Processor, highest_level};
 
 /// The state of a machine, kept in one place so that a step changes it where it stands.
 #[derive(Drop)]
 pub struct Parts<const NW: usize, const PAGES: usize> {
     pub processor: Processor<NW>,
     pub memory: Memory<PAGES>,
+}
+
+/// The end of an instruction whose access was answered.
+#[inline(always)]
+fn answer<const NW: usize>(p: &mut Processor<NW>, instr: Instr, response: Response)
+    requires registers { HasRegisters instr }
+    requires no_trap { taken (raised NW p.old instr) ≡ None }
+    ensures { p.new ≡ answered NW p.old instr response }
+{
+    match response {
+        Response::Value(value) => complete(p, instr, value),
+        Response::Refused(trap) => p.take(trap),
+    }
+}
+
+impl<const NW: usize, const PAGES: usize> Parts<NW, PAGES> {
+    /// Makes the access of an instruction that raises no trap, and completes it.
+    #[inline(always)]
+    fn make_access<T: Touches>(
+        &mut self,
+        instr: Instr,
+        before: u32,
+        timeline: &Timeline,
+        notes: &mut T,
+    ) -> Result<(), AllocError>
+        requires registers { HasRegisters instr }
+        requires no_trap { taken (raised NW self.old.processor instr) ≡ None }
+        requires delivered { self.old.memory.phys.taken ≤ bytes_below before timeline.now.inputs }
+        ensures ok { OnOk result (Does T.KEEPS (executed NW (ram_size PAGES) (inner_of_parts self.old) instr None)
+            (outside_of self.old.memory.phys (arrived before timeline.now)) (outside_of self.new.memory.phys (arrived before timeline.now))
+            (inner_of_parts self.new) (T.noted notes.old) (T.noted notes.new)) }
+        ensures taken { OnOk result (self.new.memory.phys.taken ≤ bytes_below before timeline.now.inputs) }
+    {
+        let request = asked(&self.processor, instr);
+        let response = self.memory.access(request, before, timeline, notes)?;
+        answer(&mut self.processor, instr, response);
+        Ok(())
+    }
+
+    /// Carries an instruction out: takes the trap that it raises, or makes its access and completes it.
+    #[inline(always)]
+    fn execute<T: Touches>(
+        &mut self,
+        instr: Instr,
+        before: u32,
+        timeline: &Timeline,
+        notes: &mut T,
+    ) -> Result<(), AllocError>
+        requires registers { HasRegisters instr }
+        requires delivered { self.old.memory.phys.taken ≤ bytes_below before timeline.now.inputs }
+        ensures ok { OnOk result (Does T.KEEPS (executed NW (ram_size PAGES) (inner_of_parts self.old) instr (taken (raised NW self.old.processor instr)))
+            (outside_of self.old.memory.phys (arrived before timeline.now)) (outside_of self.new.memory.phys (arrived before timeline.now))
+            (inner_of_parts self.new) (T.noted notes.old) (T.noted notes.new)) }
+        ensures taken { OnOk result (self.new.memory.phys.taken ≤ bytes_below before timeline.now.inputs) }
+    {
+        match raised_by(&self.processor, instr) {
+            Some(trap) => {
+                take(&mut self.processor, instr, trap);
+                Ok(())
+            }
+            None => {
+                self.make_access(instr, before, timeline, notes)?;
+                Ok(())
+            }
+        }
+    }
+
+    /// Carries out a word that was fetched, or takes the trap of its fetch.
+    #[inline(always)]
+    fn carry_out<T: Touches>(
+        &mut self,
+        response: Response,
+        before: u32,
+        timeline: &Timeline,
+        notes: &mut T,
+    ) -> Result<(), AllocError>
+        requires delivered { self.old.memory.phys.taken ≤ bytes_below before timeline.now.inputs }
+        ensures ok { OnOk result (Does T.KEEPS (fetched NW (ram_size PAGES) self.old.processor response (units_of self.old.memory))
+            (outside_of self.old.memory.phys (arrived before timeline.now)) (outside_of self.new.memory.phys (arrived before timeline.now))
+            (inner_of_parts self.new) (T.noted notes.old) (T.noted notes.new)) }
+        ensures taken { OnOk result (self.new.memory.phys.taken ≤ bytes_below before timeline.now.inputs) }
+    {
+        match response {
+            Response::Refused(trap) => {
+                self.processor.take(trap);
+                Ok(())
+            }
+            Response::Value(value) => {
+                self.execute(decode(low_word(value)), before, timeline, notes)?;
+                Ok(())
+            }
+        }
+    }
+
+    /// Fetches the instruction at PC and carries it out.
+    #[inline(always)]
+    fn run_instruction<T: Touches>(
+        &mut self,
+        before: u32,
+        timeline: &Timeline,
+        notes: &mut T,
+    ) -> Result<(), AllocError>
+        requires delivered { self.old.memory.phys.taken ≤ bytes_below before timeline.now.inputs }
+        ensures ok { OnOk result (Does T.KEEPS (instruction NW (ram_size PAGES) (inner_of_parts self.old))
+            (outside_of self.old.memory.phys (arrived before timeline.now)) (outside_of self.new.memory.phys (arrived before timeline.now))
+            (inner_of_parts self.new) (T.noted notes.old) (T.noted notes.new)) }
+        ensures taken { OnOk result (self.new.memory.phys.taken ≤ bytes_below before timeline.now.inputs) }
+    {
+        let request = Request::Fetch {
+            supervisor: self.processor.registers().psr().s,
+            at: self.processor.pc(),
+        };
+        let response = self.memory.access(request, before, timeline, notes)?;
+        self.carry_out(response, before, timeline, notes)?;
+        Ok(())
+    }
+
+    /// Passes over an annulled slot, or carries an instruction out.
+    #[inline(always)]
+    #[tactic(auto, unfolding(crate::specs::Step::continued))]
+    fn go_on<T: Touches>(
+        &mut self,
+        before: u32,
+        timeline: &Timeline,
+        notes: &mut T,
+    ) -> Result<(), AllocError>
+        requires delivered { self.old.memory.phys.taken ≤ bytes_below before timeline.now.inputs }
+        ensures ok { OnOk result (Does T.KEEPS (continued NW (ram_size PAGES) (inner_of_parts self.old))
+            (outside_of self.old.memory.phys (arrived before timeline.now)) (outside_of self.new.memory.phys (arrived before timeline.now))
+            (inner_of_parts self.new) (T.noted notes.old) (T.noted notes.new)) }
+        ensures taken { OnOk result (self.new.memory.phys.taken ≤ bytes_below before timeline.now.inputs) }
+    {
+        if self.processor.annul() {
+            self.processor.skip_slot();
+            Ok(())
+        } else {
+            self.run_instruction(before, timeline, notes)?;
+            Ok(())
+        }
+    }
+
+    /// Enters the handler of the highest of these levels; where there is none, the program goes on.
+    #[inline(always)]
+    #[tactic(auto, unfolding(crate::specs::Step::requested))]
+    fn serve<T: Touches>(
+        &mut self,
+        levels: u32,
+        before: u32,
+        timeline: &Timeline,
+        notes: &mut T,
+    ) -> Result<(), AllocError>
+        requires delivered { self.old.memory.phys.taken ≤ bytes_below before timeline.now.inputs }
+        ensures ok { OnOk result (Does T.KEEPS (requested NW (ram_size PAGES) (inner_of_parts self.old) levels)
+            (outside_of self.old.memory.phys (arrived before timeline.now)) (outside_of self.new.memory.phys (arrived before timeline.now))
+            (inner_of_parts self.new) (T.noted notes.old) (T.noted notes.new)) }
+        ensures taken { OnOk result (self.new.memory.phys.taken ≤ bytes_below before timeline.now.inputs) }
+    {
+        let level = highest_level(levels);
+        if level == 0 {
+            self.go_on(before, timeline, notes)?;
+            Ok(())
+        } else {
+            self.processor.interrupt(level);
+            Ok(())
+        }
+    }
+
+    /// Takes an interrupt where one is to be taken; else the program goes on.
+    #[inline(always)]
+    #[tactic(auto, unfolding(crate::specs::Step::interruptible))]
+    fn go_on_or_interrupt<T: Touches>(
+        &mut self,
+        before: u32,
+        timeline: &Timeline,
+        notes: &mut T,
+    ) -> Result<(), AllocError>
+        requires delivered { self.old.memory.phys.taken ≤ bytes_below before timeline.now.inputs }
+        ensures ok { OnOk result (Does T.KEEPS (interruptible NW (ram_size PAGES) (inner_of_parts self.old))
+            (outside_of self.old.memory.phys (arrived before timeline.now)) (outside_of self.new.memory.phys (arrived before timeline.now))
+            (inner_of_parts self.new) (T.noted notes.old) (T.noted notes.new)) }
+        ensures taken { OnOk result (self.new.memory.phys.taken ≤ bytes_below before timeline.now.inputs) }
+    {
+        if self.processor.registers().psr().et {
+            let levels = self.processor.unmasked_levels();
+            let pending = self.memory.phys.pending_among(levels, notes)?;
+            self.serve(pending, before, timeline, notes)?;
+            Ok(())
+        } else {
+            self.go_on(before, timeline, notes)?;
+            Ok(())
+        }
+    }
+
+    /// The timer's step, and then the rest.
+    #[inline(always)]
+    #[tactic(auto, unfolding(crate::specs::Step::awake))]
+    fn tick_and_go_on<T: Touches>(
+        &mut self,
+        before: u32,
+        timeline: &Timeline,
+        notes: &mut T,
+    ) -> Result<(), AllocError>
+        requires delivered { self.old.memory.phys.taken ≤ bytes_below before timeline.now.inputs }
+        ensures ok { OnOk result (Does T.KEEPS (awake NW (ram_size PAGES) (inner_of_parts self.old))
+            (outside_of self.old.memory.phys (arrived before timeline.now)) (outside_of self.new.memory.phys (arrived before timeline.now))
+            (inner_of_parts self.new) (T.noted notes.old) (T.noted notes.new)) }
+        ensures taken { OnOk result (self.new.memory.phys.taken ≤ bytes_below before timeline.now.inputs) }
+    {
+        self.memory.phys.tick(notes)?;
+        self.go_on_or_interrupt(before, timeline, notes)?;
+        Ok(())
+    }
+
+    /// What a step does behind its events: in error mode nothing.
+    #[inline(always)]
+    #[tactic(auto, unfolding(crate::specs::Step::action))]
+    pub fn act<T: Touches>(
+        &mut self,
+        before: u32,
+        timeline: &Timeline,
+        notes: &mut T,
+    ) -> Result<(), AllocError>
+        requires delivered { self.old.memory.phys.taken ≤ bytes_below before timeline.now.inputs }
+        ensures ok { OnOk result (Does T.KEEPS (action NW (ram_size PAGES) (inner_of_parts self.old))
+            (outside_of self.old.memory.phys (arrived before timeline.now)) (outside_of self.new.memory.phys (arrived before timeline.now))
+            (inner_of_parts self.new) (T.noted notes.old) (T.noted notes.new)) }
+        ensures taken { OnOk result (self.new.memory.phys.taken ≤ bytes_below before timeline.now.inputs) }
+    {
+        if !self.processor.is_running() {
+            return Ok(());
+        }
+        self.tick_and_go_on(before, timeline, notes)?;
+        Ok(())
+    }
 }

@@ -1,4 +1,3 @@
-pub mod IsTrap
 pub mod Table
 pub mod Processor
 pub mod Entry

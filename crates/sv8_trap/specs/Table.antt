@@ -1,5 +1,5 @@
 -- The traps with their priorities and types (table 7-1), and which of several is taken (section 7.4).
-use Rattle.std.specs.Prelude.{ℕ, ◌+◌, ◌-◌, ◌==◌, ◌&&◌, ◌||◌, Bool, nat_lt, if◌then◌else◌, List, [], ◌∷◌, Option, Some, None}
+use Rattle.std.specs.Prelude.{ℕ, ◌+◌, ◌-◌, ◌%◌, ◌==◌, ◌&&◌, ◌||◌, Bool, nat_lt, if◌then◌else◌, List, [], ◌∷◌, Option, Some, None}
 use Rattle.sv8_trap.specs.declared.table.Trap.{Trap}
 use Rattle.sv8_trap.specs.declared.table.Trap.TheVariants.{InstructionAccessException, PrivilegedInstruction, IllegalInstruction, FpDisabled, CpDisabled, WindowOverflow, WindowUnderflow, MemAddressNotAligned, DataAccessException, TagOverflow, DivisionByZero, TrapInstruction, Interrupt}
 use Rattle.sv8_trap.specs.declared.table.Row.{Row}
@@ -7,7 +7,8 @@ use Rattle.sv8_trap.specs.declared.table.Row.{Row}
 abbrev pub row : ℕ → ℕ → Row
 row priority trap_type = record { priority = priority; trap_type = trap_type }
 
--- the row of a trap: its priority, 1 being the highest, and its type, tt
+-- the row of a trap: its priority, 1 being the highest, and its type, tt; of a trap instruction's number the low seven bits count,
+-- and of a level the low four
 unfoldable pub row_of : Trap → Row
 row_of InstructionAccessException = row 5 0x01
 row_of PrivilegedInstruction = row 6 0x03
@@ -20,8 +21,8 @@ row_of MemAddressNotAligned = row 10 0x07
 row_of DataAccessException = row 13 0x09
 row_of TagOverflow = row 14 0x0a
 row_of DivisionByZero = row 15 0x2a
-row_of (TrapInstruction number) = row 16 (0x80 + number)
-row_of (Interrupt level) = row (32 - level) (0x10 + level)
+row_of (TrapInstruction number) = row 16 (0x80 + number % 0x80)
+row_of (Interrupt level) = row (32 - level % 0x10) (0x10 + level % 0x10)
 
 -- a row comes before another: it has the lower priority number, or with the same one the lower type
 abbrev pub is_before : Row → Row → Bool

@@ -2,7 +2,6 @@
 
 ghost use Rattle.std.specs.Prelude.{◌≡◌, ◌<◌, ◌≤◌, ◌%◌, ◌^◌, suc};
 ghost use Rattle.sv8_model.specs.Words.{bit};
-ghost use Rattle.sv8_trap.specs.IsTrap.{IsTrap};
 ghost use Rattle.sv8_trap.specs.Table.{row_of};
 ghost use Rattle.sv8_trap.specs.Entry.{trap_registers, entered_from, entered, interrupted, stopped, with_trap, with_return_trap, returned};
 ghost use Rattle.sv8_trap.specs.Interrupt.{unmasked, highest, highest_from};
@@ -15,7 +14,6 @@ impl<const NW: usize> Processor<NW> {
     /// Traps off, supervisor mode with the mode before it in PS, the window below, and the trap's type.
     #[tactic(auto, unfolding(crate::specs::Entry::trap_registers))]
     fn prepare_handler(&mut self, trap: Trap)
-        requires { IsTrap trap }
         ensures { self.new ≡ record self.old { registers = trap_registers NW self.old.registers trap } }
     {
         let psr = self.registers.psr();
@@ -32,7 +30,6 @@ impl<const NW: usize> Processor<NW> {
     /// Enters the handler of a trap, which goes back to these addresses.
     #[tactic(auto, unfolding(crate::specs::Entry::entered_from))]
     fn enter_from(&mut self, trap: Trap, pc: u32, npc: u32)
-        requires { IsTrap trap }
         ensures { self.new ≡ entered_from NW self.old trap pc npc }
     {
         self.prepare_handler(trap);
@@ -46,7 +43,6 @@ impl<const NW: usize> Processor<NW> {
     /// Enters the handler of a trap: in supervisor mode, in the window below and with traps off. Locals 1 and 2 of
     /// that window keep PC and nPC (section 7.3).
     pub fn enter(&mut self, trap: Trap)
-        requires { IsTrap trap }
         ensures { self.new ≡ entered NW self.old trap }
     {
         self.enter_from(trap, self.pc, self.npc);
@@ -56,8 +52,6 @@ impl<const NW: usize> Processor<NW> {
     /// addresses behind the slot.
     #[tactic(auto, unfolding(crate::specs::Entry::interrupted))]
     pub fn interrupt(&mut self, level: u8)
-        requires some { 1 ≤ level }
-        requires most { level ≤ 15 }
         ensures { self.new ≡ interrupted NW self.old level }
     {
         if self.annul {
@@ -77,7 +71,6 @@ impl<const NW: usize> Processor<NW> {
     /// Takes a trap: enters its handler where traps are enabled, and error mode where they are not (section 7.3).
     #[tactic(auto, unfolding(crate::specs::Entry::with_trap))]
     pub fn take(&mut self, trap: Trap)
-        requires { IsTrap trap }
         ensures { self.new ≡ with_trap NW self.old trap }
     {
         if self.registers.psr().et {
@@ -90,7 +83,6 @@ impl<const NW: usize> Processor<NW> {
     /// Takes a trap of RETT, which writes its type also where it leads to error mode (B.26).
     #[tactic(auto, unfolding(crate::specs::Entry::with_return_trap))]
     pub fn take_in_return(&mut self, trap: Trap)
-        requires { IsTrap trap }
         ensures { self.new ≡ with_return_trap NW self.old trap }
     {
         if self.registers.psr().et {

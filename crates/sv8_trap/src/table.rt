@@ -2,7 +2,6 @@
 
 ghost use Rattle.std.specs.Prelude.{◌≡◌, ◌<◌, ◌≤◌, length, Some};
 ghost use Rattle.sv8_trap.specs.Table.{row_of, is_before, first_of, first_among, taken};
-ghost use Rattle.sv8_trap.specs.IsTrap.{IsTrap, AreTraps};
 
 /// A trap, by its name in table 7-1.
 #[derive(Clone, Copy, PartialEq, Eq, Debug)]
@@ -18,9 +17,9 @@ pub enum Trap {
     DataAccessException,
     TagOverflow,
     DivisionByZero,
-    /// A trap instruction (Ticc) with its number, below 128.
+    /// A trap instruction (Ticc) with its number, of which the low seven bits count.
     TrapInstruction(u8),
-    /// An interrupt request with its level, 1 to 15.
+    /// An interrupt request with its level, 1 to 15, of which the low four bits count.
     Interrupt(u8),
 }
 
@@ -47,7 +46,6 @@ impl Trap {
     /// The trap's row of the table: its priority and its type.
     #[tactic(auto, unfolding(crate::specs::Table::row_of))]
     pub fn row(self) -> Row
-        requires { IsTrap self }
         ensures { result ≡ row_of self }
     {
         match self {
@@ -62,8 +60,8 @@ impl Trap {
             Trap::DataAccessException => make_row(13, 0x09),
             Trap::TagOverflow => make_row(14, 0x0a),
             Trap::DivisionByZero => make_row(15, 0x2a),
-            Trap::TrapInstruction(number) => make_row(16, 0x80 + number),
-            Trap::Interrupt(level) => make_row(32 - level, 0x10 + level),
+            Trap::TrapInstruction(number) => make_row(16, 0x80 + number % 0x80),
+            Trap::Interrupt(level) => make_row(32 - level % 0x10, 0x10 + level % 0x10),
         }
     }
 }
@@ -77,18 +75,13 @@ fn is_before(a: Row, b: Row) -> bool
 
 /// Of two traps the one that comes first.
 fn first_of(t: Trap, u: Trap) -> Trap
-    requires left { IsTrap t }
-    requires right { IsTrap u }
-    ensures value { result ≡ first_of t u }
-    ensures trap { IsTrap result }
+    ensures { result ≡ first_of t u }
 {
     if is_before(u.row(), t.row()) { u } else { t }
 }
 
 /// Of a trap and others the one that comes first.
 fn first_among(first: Trap, others: &[Trap]) -> Trap
-    requires left { IsTrap first }
-    requires right { AreTraps others.now }
     ensures { result ≡ first_among first others.now }
 {
     let mut first = first;
@@ -103,8 +96,7 @@ fn first_among(first: Trap, others: &[Trap]) -> Trap
 /// Of several traps the one that is taken: that of the lowest priority number, and of two with the same number the one of
 /// the lower type. Section 7.4.
 pub fn select(traps: &[Trap]) -> Trap
-    requires some { 0 < length traps.now }
-    requires traps { AreTraps traps.now }
+    requires { 0 < length traps.now }
     ensures { Some result ≡ taken traps.now }
 {
     match traps {
