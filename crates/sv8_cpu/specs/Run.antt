@@ -1,13 +1,14 @@
 -- Steps under a timeline, and runs of them.
-use Rattle.std.specs.Prelude.{ℕ, zero, suc, List}
+use Rattle.std.specs.Prelude.{ℕ, zero, suc, ◌+◌, List}
 use Rattle.sv8_model.specs.declared.touch.Touch.{Touch}
 use Rattle.sv8_model.specs.Action.{Action, result_of, after, touches}
 use Rattle.sv8_time.specs.Schedule.{Schedule}
 use Rattle.sv8_phys.specs.Memory.{ram_size}
+use Rattle.sv8_phys.specs.Contents.{arrived, outside_of}
 use Rattle.sv8_source.specs.Text.{Text}
 use Rattle.sv8_cpu.specs.Step.{Inner, action}
 use Rattle.sv8_cpu.specs.Events.{with_events}
-use Rattle.sv8_cpu.specs.State.{State, reset_state, inner_of, outside_at, left_by}
+use Rattle.sv8_cpu.specs.State.{State, reset_state, inner_of, left_by}
 
 -- the state behind the events of step n
 abbrev pub eventful : Schedule → ℕ → State → State
@@ -17,20 +18,21 @@ eventful schedule n s = record s { memory = with_events schedule n s.memory }
 abbrev pub step_action : ℕ → ℕ → State → Action Inner
 step_action windows pages s = action windows (ram_size pages) (inner_of s)
 
--- the state that an action of a step leads to
-abbrev pub acted : Schedule → ℕ → State → Action Inner → State
-acted schedule n s a =
-    let o = outside_at schedule n s.memory in
-    left_by (result_of a o) s.memory o (after a o)
+-- the state that an action of a step leads to, once some bytes have come in
+abbrev pub acted_on : List ℕ → State → Action Inner → State
+acted_on bytes s a = left_by (result_of a (outside_of s.memory bytes)) s.memory (outside_of s.memory bytes) (after a (outside_of s.memory bytes))
 
--- step n: its events, and then what it does
+-- step n: its events, and then what it does once the bytes of that step and of those before it have come in
 unfoldable pub step : ℕ → ℕ → Schedule → ℕ → State → State
-step windows pages schedule n s = acted schedule n (eventful schedule n s) (step_action windows pages (eventful schedule n s))
+step windows pages schedule n s = acted_on (arrived (n + 1) schedule) (eventful schedule n s) (step_action windows pages (eventful schedule n s))
 
--- what step n touches of the outside; its events are no part of that
+-- what a step touches of the outside behind its events
+abbrev pub touched : ℕ → ℕ → List ℕ → State → List Touch
+touched windows pages bytes s = touches (step_action windows pages s) (outside_of s.memory bytes)
+
+-- what step n touches; its events are no part of that
 unfoldable pub footprint : ℕ → ℕ → Schedule → ℕ → State → List Touch
-footprint windows pages schedule n s =
-    touches (step_action windows pages (eventful schedule n s)) (outside_at schedule n (with_events schedule n s.memory))
+footprint windows pages schedule n s = touched windows pages (arrived (n + 1) schedule) (eventful schedule n s)
 
 -- the state after n steps
 unfoldable pub steps : ℕ → ℕ → Schedule → ℕ → State → State

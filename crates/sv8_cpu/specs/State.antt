@@ -3,7 +3,7 @@ use Rattle.std.specs.Prelude.{ℕ, ◌+◌, ◌-◌, List, length, drop}
 use Rattle.sv8_model.specs.Outside.{Outside}
 use Rattle.sv8_time.specs.Schedule.{Schedule}
 use Rattle.sv8_phys.specs.Memory.{ram_size}
-use Rattle.sv8_phys.specs.Contents.{Contents, empty_contents, arrived, outside_of}
+use Rattle.sv8_phys.specs.Contents.{Contents, empty_contents, arrived}
 use Rattle.sv8_source.specs.Text.{Text}
 use Rattle.sv8_source.specs.Image.{image_bytes}
 use Rattle.sv8_trap.specs.Processor.{Processor, reset_processor}
@@ -32,10 +32,6 @@ reset_state windows pages source = record {
 -- the state as its parts outside and not outside
 abbrev pub inner_of : State → Inner
 inner_of s = record { processor = s.processor; units = record { mmu = s.mmu; timer = s.memory.timer } }
-
--- at step n the bytes of that step and of those before it have come in
-abbrev pub outside_at : Schedule → ℕ → Contents → Outside
-outside_at schedule n m = outside_of m (arrived (n + 1) schedule)
 
 -- the state that an action leaves: the bytes that no longer wait have been taken
 abbrev pub left_by : Inner → Contents → Outside → Outside → State

@@ -2,12 +2,13 @@
 #![tactic(auto)]
 
 mod access;
+mod events;
 mod instruction;
 mod machine;
 mod memory;
 mod mmu;
 mod work;
 
-pub use machine::Parts;
+pub use machine::Machine;
 pub use mmu::{Fault, MmuRegisters};
 pub use work::Work;

@@ -2,21 +2,24 @@
 
 ghost use Rattle.std.specs.Prelude.{◌≡◌, ℕ, ◌+◌, ◌<◌, ◌≤◌, ◌%◌, ◌/◌, ◌++◌, None, length, IfOk, OnOk};
 ghost use Rattle.sv8_isa.specs.Registers.{HasRegisters};
-ghost use Rattle.sv8_model.specs.Does.{Does};
+ghost use Rattle.sv8_model.specs.Does.{Does, kept};
+ghost use Rattle.sv8_phys.specs.Notes.{told};
+ghost use Rattle.sv8_cpu.specs.Run.{acted_on, step_action, touched};
 ghost use Rattle.sv8_time.specs.Schedule.{bytes_below};
 ghost use Rattle.sv8_trap.specs.Table.{taken};
 ghost use Rattle.sv8_phys.specs.Memory.{ram_size};
 ghost use Rattle.sv8_phys.specs.Contents.{arrived, outside_of};
 ghost use Rattle.sv8_cpu.specs.Instruction.{raised};
 ghost use Rattle.sv8_cpu.specs.Step.{answered, executed, fetched, instruction, continued, requested, interruptible, awake, action};
-ghost use Rattle.sv8_cpu.specs.View.{inner_of_parts, units_of};
+ghost use Rattle.sv8_cpu.specs.View.{inner_of_parts, units_of, state_of};
 
 use crate::access::{Request, Response};
 use crate::instruction::{asked, complete, low_word, raised_by, take};
 use crate::memory::Memory;
 use std::alloc::AllocError;
+use std::marker::Model;
 use sv8_isa::{Instr, decode};
-use sv8_phys::Touches;
+use sv8_phys::{NoTouches, StepTouches, Touches};
 use sv8_time::Timeline;
 use sv8_trap::{Processor, highest_level};
 
@@ -260,3 +263,63 @@ impl<const NW: usize, const PAGES: usize> Parts<NW, PAGES> {
         Ok(())
     }
 }
+
+/// What a step does behind its events, with no notes.
+#[inline(always)]
+fn act_unnoted<const NW: usize, const PAGES: usize>(
+    parts: &mut Parts<NW, PAGES>,
+    before: u32,
+    timeline: &Timeline,
+) -> Result<(), AllocError>
+    requires few_windows { NW ≤ 32 }
+    requires delivered { parts.old.memory.phys.taken ≤ bytes_below before timeline.now.inputs }
+    ensures ok { OnOk result (state_of parts.new ≡ acted_on (arrived before timeline.now) (state_of parts.old) (step_action NW PAGES (state_of parts.old))) }
+    ensures taken { OnOk result (parts.new.memory.phys.taken ≤ bytes_below before timeline.now.inputs) }
+{
+    parts.act(before, timeline, &mut NoTouches)?;
+    Ok(())
+}
+
+/// What a step does behind its events; then its notes are told.
+#[inline(always)]
+fn act_noted<const NW: usize, const PAGES: usize, T: Touches>(
+    parts: &mut Parts<NW, PAGES>,
+    touches: &mut StepTouches,
+    before: u32,
+    timeline: &Timeline,
+    notes: &mut T,
+) -> Result<(), AllocError>
+    requires few_windows { NW ≤ 32 }
+    requires delivered { parts.old.memory.phys.taken ≤ bytes_below before timeline.now.inputs }
+    ensures ok { OnOk result (state_of parts.new ≡ acted_on (arrived before timeline.now) (state_of parts.old) (step_action NW PAGES (state_of parts.old))) }
+    ensures taken { OnOk result (parts.new.memory.phys.taken ≤ bytes_below before timeline.now.inputs) }
+    ensures noted { OnOk result (T.noted notes.new ≡ T.noted notes.old ++ kept T.KEEPS (told (touched NW PAGES (arrived before timeline.now) (state_of parts.old)))) }
+{
+    touches.clear();
+    parts.act(before, timeline, touches)?;
+    touches.tell(notes)?;
+    Ok(())
+}
+
+/// A machine with `NW` register windows (2 to 32) and `PAGES` pages of 4,096 bytes of RAM (1 to 65,536).
+///
+/// Its state is on the heap, so a machine moves at the cost of a pointer.
+#[derive(Drop)]
+pub struct Machine<const NW: usize, const PAGES: usize> {
+    parts: Box<Parts<NW, PAGES>>,
+    /// The notes of the step under way.
+    touches: StepTouches,
+}
+
+impl<const NW: usize, const PAGES: usize> Model for Machine<NW, PAGES> {
+    ghost use Rattle.std.specs.Prelude.{◌≤◌};
+    ghost use Rattle.sv8_cpu.specs.State.{State};
+    ghost use Rattle.sv8_cpu.specs.View.{state_of};
+
+    ghost Value = { State };
+
+    ghost view = { λ m. state_of m.parts.value };
+
+    ghost invariant = { λ m. (2 ≤ NW) × (NW ≤ 32) × (PAGES ≤ 65536) };
+}
+

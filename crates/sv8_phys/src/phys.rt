@@ -76,6 +76,7 @@ impl<const PAGES: usize> Phys<PAGES> {
     #[inline(always)]
     pub fn ram_size(&self) -> u64
         ensures value { result ≡ ram_size PAGES }
+        ensures most { result ≤ 0x1000_0000 }
         ensures contents { AreContents PAGES self.now }
     {
         self.ram.len() as u64
