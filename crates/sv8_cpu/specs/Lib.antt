@@ -11,5 +11,6 @@ pub mod Step
 pub mod Events
 pub mod State
 pub mod Run
+pub mod Loading
 pub mod Work
 pub mod View

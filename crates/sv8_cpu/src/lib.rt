@@ -4,6 +4,7 @@
 mod access;
 mod events;
 mod instruction;
+mod loading;
 mod machine;
 mod memory;
 mod mmu;

@@ -1,25 +1,32 @@
 //! The machine, one step at a time.
 
-ghost use Rattle.std.specs.Prelude.{◌≡◌, ℕ, ◌+◌, ◌<◌, ◌≤◌, ◌%◌, ◌/◌, ◌++◌, None, length, IfOk, OnOk};
+ghost use Rattle.std.specs.Prelude.{◌≡◌, ℕ, ◌+◌, ◌<◌, ◌≤◌, ◌%◌, ◌/◌, ◌++◌, None, length, IfOk, OnOk, OnErr};
 ghost use Rattle.sv8_isa.specs.Registers.{HasRegisters};
 ghost use Rattle.sv8_model.specs.Does.{Does, kept};
 ghost use Rattle.sv8_phys.specs.Notes.{told};
-ghost use Rattle.sv8_cpu.specs.Run.{acted_on, step_action, touched};
+ghost use Rattle.sv8_cpu.specs.Run.{acted_on, eventful, step_action, touched, step, footprint};
 ghost use Rattle.sv8_time.specs.Schedule.{bytes_below};
 ghost use Rattle.sv8_trap.specs.Table.{taken};
 ghost use Rattle.sv8_phys.specs.Memory.{ram_size};
 ghost use Rattle.sv8_phys.specs.Contents.{arrived, outside_of};
 ghost use Rattle.sv8_cpu.specs.Instruction.{raised};
 ghost use Rattle.sv8_cpu.specs.Step.{answered, executed, fetched, instruction, continued, requested, interruptible, awake, action};
+ghost use Rattle.sv8_cpu.specs.State.{reset_state};
+ghost use Rattle.sv8_cpu.specs.Work.{counted};
 ghost use Rattle.sv8_cpu.specs.View.{inner_of_parts, units_of, state_of};
 
 use crate::access::{Request, Response};
+use crate::events::{end_of, happen};
 use crate::instruction::{asked, complete, low_word, raised_by, take};
+use crate::loading::load;
 use crate::memory::Memory;
-use std::alloc::AllocError;
+use crate::mmu::MmuRegisters;
+use crate::work::Work;
+use std::alloc::{AllocError, Global};
 use std::marker::Model;
 use sv8_isa::{Instr, decode};
-use sv8_phys::{NoTouches, StepTouches, Touches};
+use sv8_phys::{NoTouches, Phys, StepTouches, Touches};
+use sv8_source::Source;
 use sv8_time::Timeline;
 use sv8_trap::{Processor, highest_level};
 
@@ -301,6 +308,66 @@ fn act_noted<const NW: usize, const PAGES: usize, T: Touches>(
     Ok(())
 }
 
+/// The events of step n. Tells below which step input bytes have come in then.
+#[inline(always)]
+fn begin<const NW: usize, const PAGES: usize>(
+    parts: &mut Parts<NW, PAGES>,
+    n: u32,
+    timeline: &Timeline,
+) -> Result<u32, AllocError>
+    requires few_windows { NW ≤ 32 }
+    requires limit { timeline.now.limit ≡ ram_size PAGES }
+    requires delivered { parts.old.memory.phys.taken ≤ bytes_below n timeline.now.inputs }
+    ensures state { OnOk result (state_of parts.new ≡ eventful timeline.now n (state_of parts.old)) }
+    ensures arrived { IfOk result (λ before. arrived before timeline.now ≡ arrived (n + 1) timeline.now) }
+    ensures below { IfOk result (λ before. bytes_below before timeline.now.inputs ≡ bytes_below (n + 1) timeline.now.inputs) }
+    ensures taken { IfOk result (λ before. parts.new.memory.phys.taken ≤ bytes_below before timeline.now.inputs) }
+{
+    happen(&mut parts.memory.phys, n, timeline)?;
+    Ok(end_of(n, timeline))
+}
+
+/// Step n, with no notes.
+#[inline(always)]
+#[tactic(auto, unfolding(crate::specs::Run::step))]
+fn step_unnoted<const NW: usize, const PAGES: usize>(
+    parts: &mut Parts<NW, PAGES>,
+    n: u32,
+    timeline: &Timeline,
+) -> Result<(), AllocError>
+    requires few_windows { NW ≤ 32 }
+    requires limit { timeline.now.limit ≡ ram_size PAGES }
+    requires delivered { parts.old.memory.phys.taken ≤ bytes_below n timeline.now.inputs }
+    ensures ok { OnOk result (state_of parts.new ≡ step NW PAGES timeline.now n (state_of parts.old)) }
+    ensures taken { OnOk result (parts.new.memory.phys.taken ≤ bytes_below (n + 1) timeline.now.inputs) }
+{
+    let before = begin(parts, n, timeline)?;
+    act_unnoted(parts, before, timeline)?;
+    Ok(())
+}
+
+/// Step n; its notes are told.
+#[inline(always)]
+#[tactic(auto, unfolding(crate::specs::Run::step, crate::specs::Run::footprint))]
+fn step_noted<const NW: usize, const PAGES: usize, T: Touches>(
+    parts: &mut Parts<NW, PAGES>,
+    touches: &mut StepTouches,
+    n: u32,
+    timeline: &Timeline,
+    notes: &mut T,
+) -> Result<(), AllocError>
+    requires few_windows { NW ≤ 32 }
+    requires limit { timeline.now.limit ≡ ram_size PAGES }
+    requires delivered { parts.old.memory.phys.taken ≤ bytes_below n timeline.now.inputs }
+    ensures ok { OnOk result (state_of parts.new ≡ step NW PAGES timeline.now n (state_of parts.old)) }
+    ensures taken { OnOk result (parts.new.memory.phys.taken ≤ bytes_below (n + 1) timeline.now.inputs) }
+    ensures noted { OnOk result (T.noted notes.new ≡ T.noted notes.old ++ kept T.KEEPS (told (footprint NW PAGES timeline.now n (state_of parts.old)))) }
+{
+    let before = begin(parts, n, timeline)?;
+    act_noted(parts, touches, before, timeline, notes)?;
+    Ok(())
+}
+
 /// A machine with `NW` register windows (2 to 32) and `PAGES` pages of 4,096 bytes of RAM (1 to 65,536).
 ///
 /// Its state is on the heap, so a machine moves at the cost of a pointer.
@@ -314,7 +381,9 @@ pub struct Machine<const NW: usize, const PAGES: usize> {
 impl<const NW: usize, const PAGES: usize> Model for Machine<NW, PAGES> {
     ghost use Rattle.std.specs.Prelude.{◌≤◌};
     ghost use Rattle.sv8_cpu.specs.State.{State};
-    ghost use Rattle.sv8_cpu.specs.View.{state_of};
+    ghost use Rattle.sv8_cpu.specs.State.{reset_state};
+ghost use Rattle.sv8_cpu.specs.Work.{counted};
+ghost use Rattle.sv8_cpu.specs.View.{state_of};
 
     ghost Value = { State };
 
@@ -323,3 +392,88 @@ impl<const NW: usize, const PAGES: usize> Model for Machine<NW, PAGES> {
     ghost invariant = { λ m. (2 ≤ NW) × (NW ≤ 32) × (PAGES ≤ 65536) };
 }
 
+
+impl<const NW: usize, const PAGES: usize> Machine<NW, PAGES> {
+    /// The machine after reset (chapter 7), with the image of a source in its RAM over zeros: PC 0, nPC 4, S = 1
+    /// and ET = 0, and every other register 0. RAM shares one page of zeros where no line places a byte.
+    ///
+    /// # Errors
+    ///
+    /// `AllocError` where memory for the state cannot be had.
+    #[tactic(auto, unfolding(crate::specs::State::reset_state))]
+    pub fn reset(alloc: Global, source: &Source) -> Result<Self, AllocError>
+        requires some_windows { 2 ≤ NW }
+        requires few_windows { NW ≤ 32 }
+        requires few_pages { PAGES ≤ 65536 }
+        ensures { IfOk result (λ m. m ≡ reset_state NW PAGES source.now) }
+    {
+        let mut phys = Phys::new(alloc)?;
+        load(&mut phys, source)?;
+        let parts = Parts {
+            processor: Processor::new(),
+            memory: Memory {
+                phys,
+                mmu: MmuRegisters::new(),
+            },
+        };
+        let parts = Box::new(alloc, parts)?;
+        Ok(Machine {
+            parts,
+            touches: StepTouches::new(alloc),
+        })
+    }
+
+    /// Step n (section 5.1.2 for the order of PC and nPC, chapter 7 for traps and interrupts): the events of n in the
+    /// timeline, and then the timer, and an interrupt, an annulled slot or one instruction. In error mode only the events
+    /// happen.
+    ///
+    /// What the step touches is told to `notes`, where those keep notes, and `work` counts the step.
+    ///
+    /// # Errors
+    ///
+    /// `AllocError` where memory for a page, for the output or for a note cannot be had. The machine is given up with it, and
+    /// a caller that wants to go on must go back to an earlier state; `work` stays.
+    #[inline]
+    pub fn step<T: Touches>(
+        self,
+        n: u32,
+        timeline: &Timeline,
+        notes: &mut T,
+        work: &mut Work,
+    ) -> Result<Self, AllocError>
+        requires limit { timeline.now.limit ≡ ram_size PAGES }
+        requires delivered { self.memory.taken ≤ bytes_below n timeline.now.inputs }
+        ensures ok { IfOk result (λ m. m ≡ step NW PAGES timeline.now n self.entry) }
+        ensures delivered { IfOk result (λ m. m.memory.taken ≤ bytes_below (n + 1) timeline.now.inputs) }
+        ensures noted { OnOk result (T.noted notes.new ≡ T.noted notes.old ++ kept T.KEEPS (told (footprint NW PAGES timeline.now n self.entry))) }
+        ensures counted { OnOk result (work.new ≡ counted work.old) }
+        ensures uncounted { OnErr result (work.new ≡ work.old) }
+    {
+        let mut machine = self;
+        machine.advance(n, timeline, notes)?;
+        work.raise();
+        Ok(machine)
+    }
+
+    /// Step n.
+    #[inline(always)]
+    fn advance<T: Touches>(
+        &mut self,
+        n: u32,
+        timeline: &Timeline,
+        notes: &mut T,
+    ) -> Result<(), AllocError>
+        requires limit { timeline.now.limit ≡ ram_size PAGES }
+        requires delivered { self.old.memory.taken ≤ bytes_below n timeline.now.inputs }
+        ensures ok { OnOk result (self.new ≡ step NW PAGES timeline.now n self.old) }
+        ensures delivered { OnOk result (self.new.memory.taken ≤ bytes_below (n + 1) timeline.now.inputs) }
+        ensures noted { OnOk result (T.noted notes.new ≡ T.noted notes.old ++ kept T.KEEPS (told (footprint NW PAGES timeline.now n self.old))) }
+    {
+        if T::KEEPS {
+            step_noted(&mut self.parts, &mut self.touches, n, timeline, notes)?;
+        } else {
+            step_unnoted(&mut self.parts, n, timeline)?;
+        }
+        Ok(())
+    }
+}

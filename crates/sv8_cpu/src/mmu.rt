@@ -56,6 +56,19 @@ fn status_of(old: u32, fault: Fault) -> u32
 }
 
 impl MmuRegisters {
+    /// All registers 0, as after reset: no translation.
+    pub(crate) fn new() -> Self
+        ensures { result ≡ record { control = 0; table_pointer = 0; context = 0; fault_status = 0; fault_address = 0 } }
+    {
+        MmuRegisters {
+            control: 0,
+            table_pointer: 0,
+            context: 0,
+            fault_status: 0,
+            fault_address: 0,
+        }
+    }
+
     /// Records a fault.
     #[tactic(auto, unfolding(crate::specs::Units::recorded))]
     pub(crate) fn record(&mut self, fault: Fault)

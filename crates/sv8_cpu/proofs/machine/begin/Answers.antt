@@ -1,0 +1,14 @@
+use Rattle.std.proofs.Common.{refl, sym, ap, arith, ◌≡◌, ◌≤◌, ℕ}
+use Rattle.sv8_time.specs.Schedule.{bytes_below}
+use Rattle.sv8_cpu.specs.Events.{with_events}
+use Rattle.sv8_cpu.proofs.Late.{below_grows}
+use Rattle.sv8_cpu.proofs.machine.begin.Goals as goal
+
+pub returns-clause-taken : goal.returns-clause-taken
+unfolding with_events
+returns-clause-taken g c =
+    let grows = below_grows c.args.n c.args.timeline.now.inputs in
+    let old = c.requires.delivered in
+    let same : c.happen.new.phys.taken ≡ c.args.parts.now.memory.phys.taken = ap (λ m. m.taken) c.in_ok-happen.ensures in
+    let end = c.end_of.ensures.below in
+    omega (arith, grows, old, same, end)
