@@ -36,7 +36,7 @@ waiting_falls (clear_levels w a) o = waiting_falls a _
 waiting_falls (expire a) o = waiting_falls a _
 
 -- what is left of a list once some are dropped
-length-dropped : (n : ℕ) (bs : List ℕ) → length (drop n bs) ≡ length bs - n
+pub length-dropped : (n : ℕ) (bs : List ℕ) → length (drop n bs) ≡ length bs - n
 length-dropped zero bs = omega arith
 length-dropped (suc n) [] = omega arith
 length-dropped (suc n) (b ∷ bs) = let rest = length-dropped n bs in omega (arith, rest)

@@ -8,6 +8,7 @@ mod loading;
 mod machine;
 mod memory;
 mod mmu;
+mod readers;
 mod work;
 
 pub use machine::Machine;

@@ -373,9 +373,9 @@ fn step_noted<const NW: usize, const PAGES: usize, T: Touches>(
 /// Its state is on the heap, so a machine moves at the cost of a pointer.
 #[derive(Drop)]
 pub struct Machine<const NW: usize, const PAGES: usize> {
-    parts: Box<Parts<NW, PAGES>>,
+    pub(crate) parts: Box<Parts<NW, PAGES>>,
     /// The notes of the step under way.
-    touches: StepTouches,
+    pub(crate) touches: StepTouches,
 }
 
 impl<const NW: usize, const PAGES: usize> Model for Machine<NW, PAGES> {

@@ -1,0 +1,13 @@
+use Rattle.std.proofs.Common.{◌≡◌, ℕ, ◌-◌, length, drop, arith}
+use Rattle.sv8_phys.specs.Contents.{arrived}
+use Rattle.sv8_phys.proofs.Arrivals.{length-arrived}
+use Rattle.sv8_cpu.proofs.Leaving.{length-dropped}
+use Rattle.sv8_cpu.proofs.machine.Machine.waiting_count.Goals as goal
+
+pub returns : goal.returns
+returns g c =
+    let all = length-arrived c.args.n c.args.timeline.now in
+    let left = length-dropped c.args.self.now.memory.taken (arrived c.args.n c.args.timeline.now) in
+    let delivered = c.delivered.ensures.value in
+    let taken = c.taken.ensures in
+    omega (arith, all, left, delivered, taken)

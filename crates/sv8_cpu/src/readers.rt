@@ -1,0 +1,164 @@
+//! What is read of a machine, and what its keeper does with its state.
+
+ghost use Rattle.std.specs.Prelude.{◌≡◌, ◌<◌, ◌≤◌, ◌%◌, ◌/◌, length, drop, IfOk, slice_set};
+ghost use Rattle.sv8_model.specs.Levels.{levels_word};
+ghost use Rattle.sv8_model.specs.Outside.{word_of};
+ghost use Rattle.sv8_time.specs.Schedule.{bytes_below};
+ghost use Rattle.sv8_phys.specs.Memory.{ram_size, page_of, with_page};
+ghost use Rattle.sv8_cpu.specs.State.{waiting};
+
+use crate::machine::{Machine, Parts};
+use crate::memory::Memory;
+use crate::mmu::MmuRegisters;
+use std::alloc::{AllocError, Global};
+use sv8_phys::{Page, StepTouches, Timer};
+use sv8_regs::Regs;
+use sv8_time::Timeline;
+
+impl<const NW: usize, const PAGES: usize> Machine<NW, PAGES> {
+    /// The registers of the integer unit (chapter 4).
+    pub fn registers(&self) -> &Regs<NW>
+        ensures { result.now ≡ self.now.processor.registers }
+    {
+        self.parts.processor.registers()
+    }
+
+    /// PC, the address of the instruction that the next step carries out (section 4.2).
+    pub fn pc(&self) -> u32
+        ensures value { result ≡ self.now.processor.pc }
+        ensures aligned { result % 4 ≡ 0 }
+    {
+        self.parts.processor.pc()
+    }
+
+    /// nPC, the address of the instruction that follows the one at PC (section 4.2).
+    pub fn npc(&self) -> u32
+        ensures value { result ≡ self.now.processor.npc }
+        ensures aligned { result % 4 ≡ 0 }
+    {
+        self.parts.processor.npc()
+    }
+
+    /// Whether the next step leaves the instruction at PC out, as a control transfer with a = 1 asked for (section 5.1.2).
+    pub fn annul(&self) -> bool
+        ensures { result ≡ self.now.processor.annul }
+    {
+        self.parts.processor.annul()
+    }
+
+    /// Whether the machine runs; if not, it is in error mode and stays so (chapter 7).
+    pub fn is_running(&self) -> bool
+        ensures { result ≡ self.now.processor.running }
+    {
+        self.parts.processor.is_running()
+    }
+
+    /// The registers of the memory management unit (Appendix H).
+    pub fn mmu(&self) -> MmuRegisters
+        ensures { result ≡ self.now.mmu }
+    {
+        self.parts.memory.mmu
+    }
+
+    /// The timer.
+    pub fn timer(&self) -> Timer
+        ensures { result ≡ self.now.memory.timer }
+    {
+        self.parts.memory.phys.timer()
+    }
+
+    /// The pending interrupt levels, bit l for level l, from 1 to 15.
+    pub fn pending(&self) -> u32
+        ensures { result ≡ levels_word self.now.memory.pending }
+    {
+        self.parts.memory.phys.pending()
+    }
+
+    /// How many bytes of the console's input have been taken.
+    pub fn taken(&self) -> u32
+        ensures { result ≡ self.now.memory.taken }
+    {
+        self.parts.memory.phys.taken()
+    }
+
+    /// How many bytes wait at the console in the state at step n: of those that came in at the steps below n, all that have
+    /// not been taken.
+    pub fn waiting_count(&self, n: u32, timeline: &Timeline) -> u32
+        requires { self.now.memory.taken ≤ bytes_below n timeline.now.inputs }
+        ensures { result ≡ length (waiting timeline.now n self.now) }
+    {
+        timeline.delivered(n) - self.taken()
+    }
+
+    /// The bytes put out at the console so far.
+    ///
+    /// # Errors
+    ///
+    /// `AllocError` where memory for them cannot be had.
+    pub fn output(&self, alloc: Global) -> Result<Vec<u8>, AllocError>
+        ensures { IfOk result (λ v. v.items ≡ self.now.memory.output) }
+    {
+        self.parts.memory.phys.output(alloc)
+    }
+
+    /// The word of RAM at a physical address, the byte at the lowest address being its most significant one.
+    pub fn word(&self, at: u32) -> u32
+        requires aligned { at % 4 ≡ 0 }
+        requires within { at < ram_size PAGES }
+        ensures { result ≡ word_of self.now.memory.ram (at / 4) }
+    {
+        self.parts.memory.phys.word(at)
+    }
+
+    /// Makes an interrupt level pending, or no longer pending; nothing else changes.
+    pub fn set_pending(&mut self, level: u32, pending: bool)
+        requires some { 1 ≤ level }
+        requires most { level ≤ 15 }
+        ensures { self.new ≡ record self.old { memory = record self.old.memory { pending = slice_set self.old.memory.pending level pending } } }
+    {
+        self.parts.memory.phys.set_pending(level, pending);
+    }
+
+    /// The page of RAM with an address, which is shared.
+    ///
+    /// # Errors
+    ///
+    /// `AllocError` where the page is shared as often as can be counted.
+    pub fn page(&self, pa: u32) -> Result<Page, AllocError>
+        requires { pa < ram_size PAGES }
+        ensures { IfOk result (λ p. p ≡ page_of self.now.memory.ram (pa / 4096)) }
+    {
+        self.parts.memory.phys.page(pa)
+    }
+
+    /// Puts a page in the place of the page of RAM with an address. It takes no memory, and nothing else changes.
+    pub fn put_page(&mut self, pa: u32, page: Page)
+        requires { pa < ram_size PAGES }
+        ensures { self.new ≡ record self.old { memory = record self.old.memory { ram = with_page self.old.memory.ram (pa / 4096) page } } }
+    {
+        self.parts.memory.phys.put_page(pa, page);
+    }
+
+    /// The same machine once more. RAM and the bytes put out are shared until they are written.
+    ///
+    /// # Errors
+    ///
+    /// `AllocError` where memory for it cannot be had.
+    pub fn snapshot(&self, alloc: Global) -> Result<Self, AllocError>
+        ensures { IfOk result (λ m. m ≡ self.now) }
+    {
+        let phys = self.parts.memory.phys.snapshot()?;
+        let parts = Parts {
+            processor: self.parts.processor.copy(),
+            memory: Memory {
+                phys,
+                mmu: self.parts.memory.mmu,
+            },
+        };
+        let parts = Box::new(alloc, parts)?;
+        Ok(Machine {
+            parts,
+            touches: StepTouches::new(alloc),
+        })
+    }
+}
