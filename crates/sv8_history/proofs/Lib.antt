@@ -18,3 +18,6 @@ pub mod Input
 pub mod Words
 pub mod Acting
 pub mod Toy
+pub mod Events
+pub mod Numbers
+pub mod TraceNumbers

@@ -9,3 +9,6 @@ pub mod Patches
 pub mod Input
 pub mod Laws
 pub mod Toy
+pub mod Runs
+pub mod Worked
+pub mod WorkedTraces
