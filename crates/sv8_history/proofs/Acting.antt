@@ -41,15 +41,15 @@ foot_of : (p : Acting) → IsActing p → (e f : p.machine.Event) (s q : p.machi
 foot_of p law e f s q same =
     let x = law.foot_is f q in let y = law.foot_is e s in rw (x, y, same) (foot_same (p.foot (p.come e s)))
 
-input : (p : Acting) → IsActing p → (e f : p.machine.Event) (s : p.machine.State) → p.machine.AlikeInput e f → (p.machine.foot e s).takes ≡ false → p.machine.step f s ≡ p.machine.step e s
-input p law e f s alike untaken =
+input : (p : Acting) → IsActing p → (e f : p.machine.Event) (s : p.machine.State) → p.machine.Sound s → p.machine.AlikeInput e f → (p.machine.foot e s).takes ≡ false → p.machine.step f s ≡ p.machine.step e s
+input p law e f s sound alike untaken =
     let foot = law.foot_is e s in
     let taken : (p.foot (p.come e s)).takes ≡ false = rw (← foot) untaken in
     let came = law.delivers e f s alike in
-    law.step_is f s ∙ ap p.act came.1 ∙ law.untaken came.0 (p.come e s) taken ∙ sym (law.step_is e s)
+    law.step_is f s ∙ ap p.act came.1 ∙ law.untaken came.0 (p.come e s) (law.sound_come e s sound) taken ∙ sym (law.step_is e s)
 
-input_foot : (p : Acting) → IsActing p → (e f : p.machine.Event) (s : p.machine.State) → p.machine.AlikeInput e f → (p.machine.foot e s).takes ≡ false → SameFoot (p.machine.foot f s) (p.machine.foot e s)
-input_foot p law e f s alike untaken = go (law.delivers e f s alike)
+input_foot : (p : Acting) → IsActing p → (e f : p.machine.Event) (s : p.machine.State) → p.machine.Sound s → p.machine.AlikeInput e f → (p.machine.foot e s).takes ≡ false → SameFoot (p.machine.foot f s) (p.machine.foot e s)
+input_foot p law e f s sound alike untaken = go (law.delivers e f s alike)
   where
     go : (w : p.Waiting) × (p.come f s ≡ p.wait w (p.come e s)) → SameFoot (p.machine.foot f s) (p.machine.foot e s)
     go came =
@@ -57,7 +57,7 @@ input_foot p law e f s alike untaken = go (law.delivers e f s alike)
         let other = law.foot_is f s in
         let taken : (p.foot (p.come e s)).takes ≡ false = rw (← foot) untaken in
         let there = came.1 in
-        rw (foot, other, there) (law.untaken_foot came.0 (p.come e s) taken)
+        rw (foot, other, there) (law.untaken_foot came.0 (p.come e s) (law.sound_come e s sound) taken)
 
 pub acting_frames : (p : Acting) → ActingFrames p
 acting_frames p cells events law = record {

@@ -11,6 +11,10 @@ use Rattle.sv8_history.proofs.Least.{right_count, cut_unread, least_after}
 use Rattle.sv8_history.proofs.Silent.{IsSilent, silent_state, silent_foot, silent_keeps}
 use Rattle.sv8_history.proofs.Cut.{cut_keeps}
 
+sound_at : (m : Machine) → IsFramed m → (run : Run m) → m.Sound run.start → (n : ℕ) → m.Sound (state_at m run n)
+sound_at m law run h zero = h
+sound_at m law run h (suc n) = law.cells.sound_step (run.events n) (state_at m run n) (sound_at m law run h n)
+
 -- other input, that no step takes
 silent_input : (m : Machine) → IsFramed m → (old new : Run m) (t r : ℕ) → IsRefed m t old new → ((n : ℕ) → n < r → takes_edit m (foot_at m old) t n ≡ false) → IsSilent m old new r
 silent_input m law old new t r fed untaken = record {
@@ -25,11 +29,11 @@ silent_input m law old new t r fed untaken = record {
 
     step : (n : ℕ) → n < r → (n < t) ⊎ (t ≤ n) → m.step (new.events n) (state_at m old n) ≡ m.step (old.events n) (state_at m old n)
     step n l (inl h) = let e = fed.before n h in rw e
-    step n l (inr h) = law.input (old.events n) (new.events n) (state_at m old n) (fed.alike n) (none n l h)
+    step n l (inr h) = law.input (old.events n) (new.events n) (state_at m old n) (sound_at m law old fed.sound n) (fed.alike n) (none n l h)
 
     foot : (n : ℕ) → n < r → (n < t) ⊎ (t ≤ n) → SameFoot (m.foot (new.events n) (state_at m old n)) (foot_at m old n)
     foot n l (inl h) = let e = fed.before n h in rw e (foot_same (foot_at m old n))
-    foot n l (inr h) = law.input_foot (old.events n) (new.events n) (state_at m old n) (fed.alike n) (none n l h)
+    foot n l (inr h) = law.input_foot (old.events n) (new.events n) (state_at m old n) (sound_at m law old fed.sound n) (fed.alike n) (none n l h)
 
 takes_like : (m : Machine) (x y : Notes m) (t r : ℕ) → AreAlike m x y r → (n : ℕ) → n < r → takes_edit m x t n ≡ takes_edit m y t n
 takes_like m x y t r alike n l = ap (λ b. leb t n && b) ((alike n l).takes)
@@ -83,6 +87,7 @@ input_edit_feeds m law old new t r refed untaken taken delivered redelivered fed
 
 refed_back : (m : Machine) → IsFramed m → (t : ℕ) (old new : Run m) → IsRefed m t old new → IsRefed m t new old
 refed_back m law t old new fed = record {
+  sound = let e = fed.start in rw e fed.sound;
   start = sym fed.start;
   before = λ n l. sym (fed.before n l);
   alike = λ n. law.events.input_back (old.events n) (new.events n) (fed.alike n);

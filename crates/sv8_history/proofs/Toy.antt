@@ -59,6 +59,7 @@ toy_cells = record {
   get-put = λ a v s has. get-put a v s;
   get-put_other = get-put_other;
   get_fits = λ a s has. get_fits a s;
+  sound_step = λ e s sound. tt;
   has_step = λ a e s has. tt;
   has_put = λ a b v s has fit. tt;
 }
@@ -229,13 +230,14 @@ toy_acts : IsActing toy_parts
 toy_acts = record {
   step_is = λ e s. refl;
   foot_is = λ e s. refl;
+  sound_come = λ e s sound. tt;
   has_come = λ a e s has. tt;
   comes = λ a v e f s has fit alike. comes a v e f s alike;
   delivers = λ e f s alike. (f.delivered, ap (λ x. come x s) alike);
   quiet = λ a v r has fit unread. quiet a v r unread;
   quiet_foot = λ a v r has fit unread. same_foot a v r.state;
-  untaken = λ bytes r none. untaken (code_of r.state) bytes r.delivered (tick r.state) none;
-  untaken_foot = λ bytes r none. record { reads = λ a. refl; writes = λ a. refl; takes = refl };
+  untaken = λ bytes r sound none. untaken (code_of r.state) bytes r.delivered (tick r.state) none;
+  untaken_foot = λ bytes r sound none. record { reads = λ a. refl; writes = λ a. refl; takes = refl };
 }
 
 pub toy_framed : IsFramed toy

@@ -15,13 +15,15 @@ pub record Acting : Type 1 where
   pub put : machine.Cell → machine.Value → Ready → Ready
   pub Waiting : Type 0
   pub wait : Waiting → Ready → Ready
-  -- it has the cell, and is sound besides
+  -- it is sound, and it has the cell and is sound
+  pub Sound : Ready → Type 0
   pub Has : machine.Cell → Ready → Type 0
 
 pub record IsActing (p : Acting) : Type 0 where
   -- a step is its two parts
   pub step_is : (e : p.machine.Event) (s : p.machine.State) → p.machine.step e s ≡ p.act (p.come e s)
   pub foot_is : (e : p.machine.Event) (s : p.machine.State) → p.machine.foot e s ≡ p.foot (p.come e s)
+  pub sound_come : (e : p.machine.Event) (s : p.machine.State) → p.machine.Sound s → p.Sound (p.come e s)
   pub has_come : (a : p.machine.Cell) (e : p.machine.Event) (s : p.machine.State) → p.machine.Has a s → p.Has a (p.come e s)
   -- THE EVENT: what came of two states and two events that differ in one cell differs there alone. It holds what was poked, or else what it had.
   pub comes : (a : p.machine.Cell) (v : p.machine.Value) (e f : p.machine.Event) (s : p.machine.State) → p.machine.Has a s → p.machine.Fits a v
@@ -35,8 +37,8 @@ pub record IsActing (p : Acting) : Type 0 where
   pub quiet_foot : (a : p.machine.Cell) (v : p.machine.Value) (r : p.Ready) → p.Has a r → p.machine.Fits a v → (p.foot r).reads a ≡ false
     → SameFoot (p.foot (p.put a v r)) (p.foot r)
   -- .. and where it takes no input
-  pub untaken : (w : p.Waiting) (r : p.Ready) → (p.foot r).takes ≡ false → p.act (p.wait w r) ≡ p.act r
-  pub untaken_foot : (w : p.Waiting) (r : p.Ready) → (p.foot r).takes ≡ false → SameFoot (p.foot (p.wait w r)) (p.foot r)
+  pub untaken : (w : p.Waiting) (r : p.Ready) → p.Sound r → (p.foot r).takes ≡ false → p.act (p.wait w r) ≡ p.act r
+  pub untaken_foot : (w : p.Waiting) (r : p.Ready) → p.Sound r → (p.foot r).takes ≡ false → SameFoot (p.foot (p.wait w r)) (p.foot r)
 
 abbrev pub ActingFrames : Acting → Type 0
 ActingFrames p = AreCells p.machine → AreEvents p.machine → IsActing p → IsFramed p.machine

@@ -10,6 +10,7 @@ pub record AreCells (m : Machine) : Type 0 where
   pub get-put : (a : m.Cell) (v : m.Value) (s : m.State) → m.Has a s → m.Fits a v → m.get a (m.put a v s) ≡ v
   pub get-put_other : (a b : m.Cell) (v : m.Value) (s : m.State) → m.same a b ≡ false → m.get b (m.put a v s) ≡ m.get b s
   pub get_fits : (a : m.Cell) (s : m.State) → m.Has a s → m.Fits a (m.get a s)
+  pub sound_step : (e : m.Event) (s : m.State) → m.Sound s → m.Sound (m.step e s)
   pub has_step : (a : m.Cell) (e : m.Event) (s : m.State) → m.Has a s → m.Has a (m.step e s)
   pub has_put : (a b : m.Cell) (v : m.Value) (s : m.State) → m.Has a s → m.Fits b v → m.Has a (m.put b v s)
 
@@ -38,5 +39,5 @@ pub record IsFramed (m : Machine) : Type 0 where
   pub alike_foot : (a : m.Cell) (w v : m.Value) (e : m.Event) (s : m.State) → m.Has a s → m.Fits a v → m.poke a e ≡ Some w
     → SameFoot (m.foot e (m.put a v s)) (m.foot e s)
   -- a step that takes no input, of two events that differ there alone
-  pub input : (e f : m.Event) (s : m.State) → m.AlikeInput e f → (m.foot e s).takes ≡ false → m.step f s ≡ m.step e s
-  pub input_foot : (e f : m.Event) (s : m.State) → m.AlikeInput e f → (m.foot e s).takes ≡ false → SameFoot (m.foot f s) (m.foot e s)
+  pub input : (e f : m.Event) (s : m.State) → m.Sound s → m.AlikeInput e f → (m.foot e s).takes ≡ false → m.step f s ≡ m.step e s
+  pub input_foot : (e f : m.Event) (s : m.State) → m.Sound s → m.AlikeInput e f → (m.foot e s).takes ≡ false → SameFoot (m.foot f s) (m.foot e s)

@@ -7,6 +7,7 @@ use Rattle.sv8_history.specs.Patches.{count_after, cut}
 
 -- The input is edited at step `t`. The events of later steps may differ too, in all that was delivered so far.
 pub record IsRefed (m : Machine) (t : ℕ) (old new : Run m) : Type 0 where
+  pub sound : m.Sound old.start
   pub start : new.start ≡ old.start
   pub before : (n : ℕ) → n < t → new.events n ≡ old.events n
   pub alike : (n : ℕ) → m.AlikeInput (old.events n) (new.events n)

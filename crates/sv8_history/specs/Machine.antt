@@ -31,7 +31,9 @@ pub record Machine : Type 1 where
   -- what stands in the cell, and the state with another value there
   pub get : Cell → State → Value
   pub put : Cell → Value → State → State
-  -- the state has the cell, and is sound besides, as far as the frame law needs that
+  -- what holds of every state of a run, as far as the frame law needs that
+  pub Sound : State → Type 0
+  -- the state has the cell, and is sound
   pub Has : Cell → State → Type 0
   -- what the event sets the cell to, if it does: a poked byte, or "pending" for a level that is requested
   pub poke : Cell → Event → Option Value

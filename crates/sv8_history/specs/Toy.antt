@@ -162,6 +162,7 @@ toy = record {
   Fits = fits;
   get = get_cell;
   put = put_cell;
+  Sound = λ s. Unit {0};
   Has = λ a s. Unit {0};
   poke = poke_of;
   AlikeBut = alike_but;
@@ -181,5 +182,6 @@ toy_parts = record {
   put = λ a v r. record r { state = put_cell a v r.state };
   Waiting = List ℕ;
   wait = λ bytes r. record r { delivered = bytes };
+  Sound = λ r. Unit {0};
   Has = λ a r. Unit {0};
 }
