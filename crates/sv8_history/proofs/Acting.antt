@@ -1,7 +1,7 @@
 -- A machine in two parts, of which each obeys its law, obeys the frame law.
 use Rattle.std.proofs.Common.{◌≡◌, false, cond, Option, Some, None, unwrap_or, refl, sym, ◌∙◌, ap}
 use Rattle.sv8_history.specs.Machine.{SameFoot, Machine}
-use Rattle.sv8_history.specs.Framed.{AreCells, AreEvents, IsFramed}
+use Rattle.sv8_history.specs.Framed.{AreCells, AreEvents}
 use Rattle.sv8_history.specs.Acting.{Acting, IsActing, ActingFrames}
 use Rattle.sv8_history.proofs.Feet.{foot_same}
 

@@ -1,6 +1,6 @@
 -- A change is undone by another: so it turns the new run into the old one, too.
 use Rattle.std.proofs.Common.{◌≡◌, ℕ, suc, ◌<◌, ◌≤◌, false, Option, Some, None, is_some, unwrap_or, refl, sym, ◌∙◌, ap, arith}
-use Rattle.sv8_history.specs.Machine.{SameFoot, Machine, Run, state_at, foot_at, reads_of, writes_of}
+use Rattle.sv8_history.specs.Machine.{Machine, Run, state_at, foot_at, reads_of, writes_of}
 use Rattle.sv8_history.specs.Framed.{IsFramed}
 use Rattle.sv8_history.specs.Trace.{some_from}
 use Rattle.sv8_history.specs.Changes.{Cause, Image, Poke, Clear, Change, IsRepoked, IsReimaged, IsChanged, IsFitting, IsNextEvent, IsPlanned}

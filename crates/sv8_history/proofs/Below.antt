@@ -1,5 +1,5 @@
 -- The values kept below the two events of a change: the one that makes it, and the one that ends it.
-use Rattle.std.proofs.Common.{◌≡◌, ℕ, zero, suc, ◌+◌, ◌*◌, ◌/◌, ◌<◌, ◌≤◌, ◌==◌, Bool, true, false, not, ◌&&◌, cond, ltb, leb, Option, Some, None, is_some, option_map, unwrap_or, refl, sym, ◌∙◌, ap, subst, arith, inl, inr, ◌⊎◌, le-leb, lt-ltb, le-ltb, mul-le-mul_left, mul_comm, div-lt_iff_lt-mul, eq-eqb, ne_eqb}
+use Rattle.std.proofs.Common.{◌≡◌, ℕ, suc, ◌+◌, ◌*◌, ◌/◌, ◌<◌, ◌≤◌, Bool, true, false, not, ◌&&◌, cond, ltb, leb, Option, Some, None, is_some, option_map, refl, sym, ◌∙◌, ap, subst, arith, inl, inr, ◌⊎◌, le-leb, lt-ltb, le-ltb, mul_comm, div-lt_iff_lt-mul}
 use Rattle.std.proofs.lemmas.Bool.{cases_lt, cases_Bool, cases_eq, lt-leb, and_parts, or_parts, ltb-true, not-true, true_from_ne_false, true≢false}
 use Rattle.sv8_history.specs.Machine.{Machine, Run, state_at, foot_at, reads_of, writes_of, touches_of}
 use Rattle.sv8_history.specs.Framed.{IsFramed}

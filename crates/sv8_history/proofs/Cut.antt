@@ -1,8 +1,8 @@
 -- Traces that are cut, and traces that show the same.
 use Rattle.std.proofs.Common.{◌≡◌, ℕ, ◌*◌, ◌<◌, ◌≤◌, cond, ltb, None, ◌∙◌, arith, inl, inr, ◌⊎◌, lt-ltb, le-ltb, mul-le-mul_left}
 use Rattle.std.proofs.lemmas.Bool.{cases_lt}
-use Rattle.sv8_history.specs.Machine.{Machine, Run, foot_at}
-use Rattle.sv8_history.specs.Trace.{Trace, IsTraceOf, kept_at}
+use Rattle.sv8_history.specs.Machine.{Machine, foot_at}
+use Rattle.sv8_history.specs.Trace.{kept_at}
 use Rattle.sv8_history.specs.Laws.{CutKeeps, AgreesKeeps}
 use Rattle.sv8_history.proofs.Feet.{foot_then}
 

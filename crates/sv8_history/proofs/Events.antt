@@ -1,12 +1,11 @@
 -- The events of the small machine's runs.
-use Rattle.std.proofs.Common.{◌≡◌, ℕ, zero, suc, ◌<◌, ◌≤◌, ◌==◌, List, [], ◌∷◌, length, Bool, true, false, cond, leb, ltb, Some, None, refl, sym, ◌∙◌, ap, arith, inl, inr, ◌⊎◌, ne_eqb}
-use Rattle.std.proofs.lemmas.Bool.{cases_lt, lt-leb, ltb-true, true≢false}
-use Rattle.sv8_history.specs.Machine.{Machine, Run, state_at, foot_at}
+use Rattle.std.proofs.Common.{◌≡◌, ℕ, ◌==◌, List, [], ◌∷◌, Bool, true, false, cond, leb, Some, None, refl, ne_eqb}
+use Rattle.std.proofs.lemmas.Bool.{lt-leb, true≢false}
+use Rattle.sv8_history.specs.Machine.{Machine, Run, foot_at}
 use Rattle.sv8_history.specs.Trace.{IsTraceOf, trace_of}
-use Rattle.sv8_history.specs.Changes.{IsNextEvent}
-use Rattle.sv8_history.specs.Input.{IsRefed, IsFed, AreDelivered}
-use Rattle.sv8_history.specs.Toy.{Code, idle, load, store, take_byte, ask, State, Event, high_byte, low_byte, level, poke_of, code_of, come, tick, execute, takes_input, toy}
-use Rattle.sv8_history.specs.Runs.{nothing, pokes, first_run, at, fed_at, delivered_before}
+use Rattle.sv8_history.specs.Input.{IsRefed}
+use Rattle.sv8_history.specs.Toy.{Code, idle, load, store, take_byte, ask, State, Event, high_byte, low_byte, level, poke_of, execute, takes_input, toy}
+use Rattle.sv8_history.specs.Runs.{nothing, pokes, first_run, at, fed_at}
 use Rattle.sv8_history.proofs.Feet.{foot_same}
 
 pub traced : (m : Machine) (k : ℕ) (run : Run m) (count : ℕ) → IsTraceOf m k run (trace_of m k run count)

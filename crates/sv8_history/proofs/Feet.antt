@@ -1,6 +1,6 @@
 -- Footprints that are the same, and what they say alike of changes.
-use Rattle.std.proofs.Common.{◌≡◌, ℕ, ◌<◌, ◌≤◌, ◌||◌, List, [], ◌∷◌, refl, sym, ◌∙◌, arith}
-use Rattle.sv8_history.specs.Machine.{Foot, SameFoot, Machine, Notes, reads_of, writes_of, touches_of}
+use Rattle.std.proofs.Common.{◌≡◌, ℕ, ◌<◌, ◌≤◌, List, [], ◌∷◌, refl, sym, ◌∙◌, arith}
+use Rattle.sv8_history.specs.Machine.{Foot, SameFoot, Machine, Notes, writes_of, touches_of}
 use Rattle.sv8_history.specs.Trace.{some_from}
 use Rattle.sv8_history.specs.Changes.{Change}
 use Rattle.sv8_history.specs.Reads.{reads_change, reads_edit}

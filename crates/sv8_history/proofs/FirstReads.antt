@@ -1,5 +1,5 @@
 -- The footprints of the runs before and after an edit are the same up to its first read, by either run.
-use Rattle.std.proofs.Common.{◌≡◌, ℕ, suc, ◌<◌, ◌≤◌, false, List, [], ◌∷◌, sym, ◌∙◌, arith}
+use Rattle.std.proofs.Common.{◌≡◌, ℕ, suc, ◌<◌, ◌≤◌, false, List, [], ◌∷◌, sym, ◌∙◌}
 use Rattle.std.proofs.lemmas.Bool.{or_parts}
 use Rattle.sv8_history.specs.Machine.{Machine, Run, foot_at}
 use Rattle.sv8_history.specs.Framed.{IsFramed}

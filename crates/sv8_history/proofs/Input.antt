@@ -6,7 +6,7 @@ use Rattle.sv8_history.specs.Framed.{IsFramed}
 use Rattle.sv8_history.specs.Input.{IsRefed, takes_edit, IsFirstTake, first_take, IsFed, AreDelivered}
 use Rattle.sv8_history.specs.Patches.{count_after, cut}
 use Rattle.sv8_history.specs.Laws.{InputEditKeeps, FirstTakeStays, InputEditCounts, UntakenAgrees, InputEditFeeds}
-use Rattle.sv8_history.proofs.Feet.{foot_same, foot_back, AreAlike}
+use Rattle.sv8_history.proofs.Feet.{foot_same, AreAlike}
 use Rattle.sv8_history.proofs.Least.{right_count, cut_unread, least_after}
 use Rattle.sv8_history.proofs.Silent.{IsSilent, silent_state, silent_foot, silent_keeps}
 use Rattle.sv8_history.proofs.Cut.{cut_keeps}

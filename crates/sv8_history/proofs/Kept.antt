@@ -1,7 +1,7 @@
 -- The kept values of two runs of which a change of one cell turns the one into the other, but for those below the change's own events.
 use Rattle.std.proofs.Common.{◌≡◌, ℕ, zero, suc, ◌*◌, ◌<◌, ◌≤◌, Bool, true, false, not, ◌&&◌, ◌||◌, cond, Some, None, is_some, refl, sym, ◌∙◌, ap, arith, inl, inr, ◌⊎◌, le-leb, lt-ltb, le-ltb}
 use Rattle.std.proofs.lemmas.Bool.{cases_lt, cases_order, lt-leb, or_parts, true≢false}
-use Rattle.sv8_history.specs.Machine.{Machine, Run, state_at, foot_at, reads_of, writes_of, touches_of}
+use Rattle.sv8_history.specs.Machine.{Machine, Run, state_at, foot_at, writes_of, touches_of}
 use Rattle.sv8_history.specs.Framed.{IsFramed}
 use Rattle.sv8_history.specs.Changes.{is_live}
 use Rattle.sv8_history.specs.Trace.{some_from, next_checkpoint, kept_at}

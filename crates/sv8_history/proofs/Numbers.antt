@@ -1,13 +1,13 @@
 -- The edits of the small machine's run, in numbers.
-use Rattle.std.proofs.Common.{◌≡◌, ℕ, ◌<◌, ◌≤◌, List, [], ◌∷◌, true, false, Some, None, is_some, refl, sym, ◌∙◌, ap, arith}
+use Rattle.std.proofs.Common.{◌≡◌, ℕ, ◌<◌, ◌≤◌, [], ◌∷◌, true, false, Some, None, is_some, refl, sym, ◌∙◌, ap, arith}
 use Rattle.sv8_history.specs.Machine.{Run, state_at, foot_at}
 use Rattle.sv8_history.specs.Trace.{trace_of}
-use Rattle.sv8_history.specs.Changes.{Change, IsNextEvent, IsEdited, ArePlanned, with_changes}
+use Rattle.sv8_history.specs.Changes.{IsNextEvent, IsEdited, ArePlanned, with_changes}
 use Rattle.sv8_history.specs.Laws.{SameFeet}
-use Rattle.sv8_history.specs.Reads.{reads_change, reads_edit, IsFirstRead, AreWords, WordChanges}
-use Rattle.sv8_history.specs.Toy.{Event, Cell, high_byte, low_byte, level, number, bit, poke_of, toy}
-use Rattle.sv8_history.specs.Runs.{nothing, pokes, first_run, plain_run, at, first_trace}
-use Rattle.sv8_history.specs.Worked.{low_change, word_poke, word_run, word_trace, WordPoke, WordPokeLaws, byte_clear, high_run, ByteClear, word_clear, WordClear, low_run, BytePoke, replacing, replaced_run, Replace, request, request_run, request_trace, Request, request_clear, RequestClear, asked_request, asked_run, AskedRequest, source_edit, source_run, SourceStoredOver, plain_source_run, SourceEdit}
+use Rattle.sv8_history.specs.Reads.{reads_change, reads_edit, IsFirstRead, AreWords}
+use Rattle.sv8_history.specs.Toy.{high_byte, low_byte, level, poke_of, toy}
+use Rattle.sv8_history.specs.Runs.{nothing, pokes, first_run, plain_run, first_trace}
+use Rattle.sv8_history.specs.Worked.{low_change, word_poke, word_run, word_trace, WordPoke, one_word, WordPokeLaws, byte_clear, high_run, ByteClear, word_clear, WordClear, low_run, BytePoke, replacing, replaced_run, Replace, request, request_run, request_trace, Request, request_clear, RequestClear, asked_request, asked_run, AskedRequest, source_edit, source_run, SourceStoredOver, plain_source_run, SourceEdit}
 use Rattle.sv8_history.proofs.Toy.{toy_framed}
 use Rattle.sv8_history.proofs.Events.{traced, at_both, at_other, no_high, no_level, no_low}
 use Rattle.sv8_history.proofs.Least.{found}
@@ -71,8 +71,14 @@ word_planned_to r l = (
 word_first : IsFirstRead toy first_run word_poke 5
 word_first = record { here = refl; least = word_quiet }
 
-one_word : AreWords toy first_trace (record { cell = high_byte; from = 1; changes = word_poke } ∷ [])
-one_word = ((refl, refl, (λ n. refl), (λ n. refl), (refl, refl, (λ n. refl), (λ n. refl), tt)), tt)
+are_one_word : AreWords toy first_trace one_word
+are_one_word = (
+  (
+    record { from = refl; ends = refl; reads = λ n. refl; writes = λ n. refl },
+    (record { from = refl; ends = refl; reads = λ n. refl; writes = λ n. refl }, tt),
+  ),
+  tt,
+)
 
 pub word_poke_laws : WordPokeLaws
 word_poke_laws = record {
@@ -85,7 +91,7 @@ word_poke_laws = record {
   after = (first_read_stays toy toy_framed first_run word_run word_poke 5 (word_planned_to 6 (omega arith)) word_edit).0 word_first;
   count = edit_counts toy 2 (omega arith) first_run first_trace word_poke (traced toy 2 first_run 4);
   each = of_each toy 2 first_trace word_poke;
-  one_search = search_by_words toy 2 first_trace (record { cell = high_byte; from = 1; changes = word_poke } ∷ []) one_word;
+  one_search = search_by_words toy 2 first_trace one_word are_one_word;
   found = refl;
 }
   where

@@ -1,14 +1,14 @@
 -- A patch keeps the recorded run.
-use Rattle.std.proofs.Common.{◌≡◌, ℕ, zero, suc, ◌+◌, ◌*◌, ◌/◌, ◌<◌, ◌≤◌, ◌==◌, Bool, true, false, not, ◌&&◌, cond, ltb, leb, Option, Some, None, is_some, option_map, unwrap_or, refl, sym, ◌∙◌, ap, ap₂, subst, arith, inl, inr, ◌⊎◌, le-leb, lt-ltb, le-ltb, mul-le-mul_left, mul_comm, div-lt_iff_lt-mul, eq-eqb, ne_eqb}
+use Rattle.std.proofs.Common.{◌≡◌, ℕ, suc, ◌*◌, ◌<◌, ◌≤◌, ◌==◌, Bool, true, false, not, ◌&&◌, cond, ltb, Option, Some, None, is_some, refl, sym, ◌∙◌, ap, ap₂, subst, arith, inl, inr, ◌⊎◌, le-leb, mul-le-mul_left, eq-eqb, ne_eqb}
 use Rattle.std.proofs.lemmas.Bool.{cases_lt, cases_Bool, cases_eq, lt-leb, true_from_ne_false, true≢false}
-use Rattle.sv8_history.specs.Machine.{Machine, Run, state_at, foot_at, reads_of, writes_of, touches_of}
+use Rattle.sv8_history.specs.Machine.{Machine, Run, state_at, foot_at, writes_of, touches_of}
 use Rattle.sv8_history.specs.Framed.{IsFramed}
 use Rattle.sv8_history.specs.Trace.{some_from, next_checkpoint, kept_at, Trace, IsTraceOf, Agrees}
-use Rattle.sv8_history.specs.Changes.{Cause, Image, Poke, Clear, Change, IsRepoked, IsChanged, is_live}
+use Rattle.sv8_history.specs.Changes.{Cause, Image, Poke, Clear, IsRepoked, IsChanged, is_live}
 use Rattle.sv8_history.specs.Patches.{patched_point, kept_at_end, kept_by_poke, spread, keeping, uncover, patch}
 use Rattle.sv8_history.specs.Laws.{PatchKeeps}
 use Rattle.sv8_history.proofs.Feet.{foot_same, foot_then, foot_back, change_like}
-use Rattle.sv8_history.proofs.Spread.{Shift, Turns, mixed, same_feet, has_at}
+use Rattle.sv8_history.proofs.Spread.{Shift, Turns, mixed, same_feet}
 use Rattle.sv8_history.proofs.Spans.{none_from, next_of_point}
 use Rattle.sv8_history.proofs.Kept.{reach, kept_other, kept_elsewhere}
 use Rattle.sv8_history.proofs.Below.{kept_late, kept_touched, kept_unpoked, kept_some, wrote_same, cond_twice, kept_end, span_from-later, kept_set}

@@ -1,7 +1,7 @@
 -- The small machine obeys the frame law.
 use Rattle.std.proofs.Common.{◌≡◌, ℕ, ◌==◌, List, Bool, true, false, ◌||◌, cond, Option, Some, None, unwrap_or, option_map, refl, sym, ◌∙◌, ap, subst}
 use Rattle.std.proofs.lemmas.Bool.{true≢false}
-use Rattle.sv8_history.specs.Machine.{Foot, SameFoot}
+use Rattle.sv8_history.specs.Machine.{SameFoot}
 use Rattle.sv8_history.specs.Framed.{AreCells, AreEvents, IsFramed}
 use Rattle.sv8_history.specs.Acting.{IsActing}
 use Rattle.sv8_history.specs.Toy.{Code, idle, load, store, take_byte, ask, State, Event, Ready, come, code_of, tick, execute, act, Cell, high_byte, low_byte, level, Value, number, bit, number_of, bit_of, same_cell, fits, get_cell, put_cell, poke_of, alike_but, reads_word, writes_word, asks_level, takes_input, reads_cell, writes_cell, foot, toy, toy_parts}

@@ -1,12 +1,12 @@
 -- Edits of the input of the small machine's run, and traces that are cut, made and extended, in numbers.
-use Rattle.std.proofs.Common.{◌≡◌, ℕ, zero, suc, ◌+◌, ◌*◌, ◌<◌, ◌≤◌, ◌==◌, List, length, Bool, true, false, cond, leb, ltb, Some, refl, sym, ◌∙◌, ap, arith, inl, inr, ◌⊎◌, ne_eqb, le-leb}
-use Rattle.std.proofs.lemmas.Bool.{cases_lt, cases_Bool, ltb-true}
-use Rattle.sv8_history.specs.Machine.{Run, state_at, foot_at}
-use Rattle.sv8_history.specs.Trace.{IsTraceOf, Agrees}
+use Rattle.std.proofs.Common.{◌≡◌, ℕ, zero, suc, ◌+◌, ◌*◌, ◌<◌, ◌≤◌, List, length, true, false, cond, ltb, refl, arith, inl, inr, ◌⊎◌, ne_eqb, le-leb}
+use Rattle.std.proofs.lemmas.Bool.{cases_Bool, ltb-true}
+use Rattle.sv8_history.specs.Machine.{state_at, foot_at}
+use Rattle.sv8_history.specs.Trace.{Agrees}
 use Rattle.sv8_history.specs.Growing.{new_trace, extended}
 use Rattle.sv8_history.specs.Input.{takes_edit, IsFirstTake, IsFed, AreDelivered}
-use Rattle.sv8_history.specs.Toy.{Code, idle, load, store, take_byte, ask, State, Event, come, code_of, tick, execute, takes_input, toy}
-use Rattle.sv8_history.specs.Runs.{nothing, pokes, first_run, at, fed_at, delivered_before, first_trace}
+use Rattle.sv8_history.specs.Toy.{Code, idle, load, store, take_byte, ask, State, come, code_of, tick, execute, toy}
+use Rattle.sv8_history.specs.Runs.{nothing, pokes, first_run, fed_at, delivered_before, first_trace}
 use Rattle.sv8_history.specs.WorkedTraces.{LateInput, EarlyInput, Cut, later_run, Later, other_trace, Other, Grown, Query}
 use Rattle.sv8_history.proofs.Toy.{toy_framed}
 use Rattle.sv8_history.proofs.Events.{traced, at_other, refed, delivered_by, stays_by}

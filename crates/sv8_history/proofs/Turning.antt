@@ -1,5 +1,5 @@
 -- A change turns one run into the other.
-use Rattle.std.proofs.Common.{◌≡◌, ℕ, zero, suc, ◌<◌, ◌≤◌, Bool, true, false, not, ◌&&◌, cond, Option, Some, None, is_some, unwrap_or, refl, sym, ◌∙◌, ap, subst, arith, inl, inr, ◌⊎◌, le-leb, lt-ltb}
+use Rattle.std.proofs.Common.{◌≡◌, ℕ, zero, suc, ◌<◌, ◌≤◌, Bool, true, false, not, ◌&&◌, cond, Option, Some, None, unwrap_or, refl, sym, subst, arith, inl, inr, ◌⊎◌, le-leb, lt-ltb}
 use Rattle.std.proofs.lemmas.Bool.{cases_lt}
 use Rattle.sv8_history.specs.Machine.{SameFoot, Machine, Run, Notes, state_at, foot_at, reads_of, writes_of}
 use Rattle.sv8_history.specs.Framed.{IsFramed}

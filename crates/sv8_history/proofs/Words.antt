@@ -87,17 +87,18 @@ word_reads : (m : Machine) (notes : Notes m) (a : m.Cell) (t : ℕ) (cs : List (
 word_reads m notes a t [] one n = sym (none_before (reads_of m notes a n) (not (m.ends_search a && some_from t n (writes_of m notes a))) (leb t n) n)
 word_reads m notes a t (c ∷ cs) one n =
     let x = here in
-    let y = word_reads m notes a t cs one.4 n in
+    let y = word_reads m notes a t cs one.1 n in
     let z = ltb_max n c.to (last_end m cs) in
     rw (x, y, z) (split (leb t n) (ltb n c.to) (ltb n (last_end m cs)) (reads_of m notes a n) (not (m.ends_search a && some_from t n (writes_of m notes a))))
   where
     here : reads_change m notes c n ≡ (leb t n && ltb n c.to && reads_of m notes a n && not (m.ends_search a && some_from t n (writes_of m notes a)))
     here =
-        let p = one.0 in
-        let q = one.1 in
-        let r = one.2 n in
-        let w = some_from-like t n (writes_of m notes c.cell) (writes_of m notes a) (λ j l. one.3 j) in
-        rw (p, q, r, w)
+        let w = one.0 in
+        let p = w.from in
+        let q = w.ends in
+        let r = w.reads n in
+        let s = some_from-like t n (writes_of m notes c.cell) (writes_of m notes a) (λ j l. w.writes j) in
+        rw (p, q, r, s)
 
 reads_append : (m : Machine) (notes : Notes m) (cs ds : List (Change m)) (n : ℕ) → reads_edit m notes (cs ++ ds) n ≡ (reads_edit m notes cs n || reads_edit m notes ds n)
 reads_append m notes [] ds n = refl

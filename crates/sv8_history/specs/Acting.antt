@@ -1,5 +1,5 @@
 -- A machine whose step lets the event come, and then acts. Where these two parts obey a law each, the machine obeys the frame law.
-use Rattle.std.specs.Prelude.{◌≡◌, Bool, false, cond, unwrap_or}
+use Rattle.std.specs.Prelude.{◌≡◌, false, cond, unwrap_or}
 use Rattle.sv8_history.specs.Machine.{Foot, SameFoot, Machine}
 use Rattle.sv8_history.specs.Framed.{AreCells, AreEvents, IsFramed}
 
@@ -27,15 +27,15 @@ pub record IsActing (p : Acting) : Type 0 where
   pub has_come : (a : p.machine.Cell) (e : p.machine.Event) (s : p.machine.State) → p.machine.Has a s → p.Has a (p.come e s)
   -- THE EVENT: what came of two states and two events that differ in one cell differs there alone. It holds what was poked, or else what it had.
   pub comes : (a : p.machine.Cell) (v : p.machine.Value) (e f : p.machine.Event) (s : p.machine.State) → p.machine.Has a s → p.machine.Fits a v
-    → p.machine.AlikeBut a e f → p.come f (p.machine.put a v s) ≡ p.put a (unwrap_or (p.machine.poke a f) v) (p.come e s)
+      → p.machine.AlikeBut a e f → p.come f (p.machine.put a v s) ≡ p.put a (unwrap_or (p.machine.poke a f) v) (p.come e s)
   -- events that differ in the input leave other bytes waiting, and nothing else
   pub delivers : (e f : p.machine.Event) (s : p.machine.State) → p.machine.AlikeInput e f
-    → (w : p.Waiting) × (p.come f s ≡ p.wait w (p.come e s))
+      → (w : p.Waiting) × (p.come f s ≡ p.wait w (p.come e s))
   -- THE ACT, where it does not read the cell: what it makes differs there alone, and not even there where it wrote it
   pub quiet : (a : p.machine.Cell) (v : p.machine.Value) (r : p.Ready) → p.Has a r → p.machine.Fits a v → (p.foot r).reads a ≡ false
-    → p.act (p.put a v r) ≡ cond ((p.foot r).writes a) (p.act r) (p.machine.put a v (p.act r))
+      → p.act (p.put a v r) ≡ cond ((p.foot r).writes a) (p.act r) (p.machine.put a v (p.act r))
   pub quiet_foot : (a : p.machine.Cell) (v : p.machine.Value) (r : p.Ready) → p.Has a r → p.machine.Fits a v → (p.foot r).reads a ≡ false
-    → SameFoot (p.foot (p.put a v r)) (p.foot r)
+      → SameFoot (p.foot (p.put a v r)) (p.foot r)
   -- .. and where it takes no input
   pub untaken : (w : p.Waiting) (r : p.Ready) → p.Sound r → (p.foot r).takes ≡ false → p.act (p.wait w r) ≡ p.act r
   pub untaken_foot : (w : p.Waiting) (r : p.Ready) → p.Sound r → (p.foot r).takes ≡ false → SameFoot (p.foot (p.wait w r)) (p.foot r)

@@ -17,8 +17,8 @@ pub data Cause (Value : Type 0) : Type 0 where
   -- the event no longer sets the cell, which uncovers what stood there
   Clear : Cause Value
 
--- A change of one cell: the step of its event (0 for the image), and the next step with an event that sets the cell anyway. Where there is none, that is any
--- step from the end of the record on.
+-- A change of one cell: the step of its event (0 for the image), and the next step with an event that sets the cell anyway. Where there is none, that
+-- is any step from the end of the record on.
 pub record Change (m : Machine) : Type 0 where
   pub cell : m.Cell
   pub from : ℕ

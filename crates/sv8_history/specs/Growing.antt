@@ -1,6 +1,6 @@
 -- How a trace begins and grows, and how a query finds a state by it.
 use Rattle.std.specs.Prelude.{ℕ, zero, suc, ◌+◌, ◌-◌, ◌*◌, ◌/◌, false, not, ◌&&◌, cond, ltb, Option, Some, None, is_some, min}
-use Rattle.sv8_history.specs.Machine.{Foot, Machine, Run, Notes, touches_of}
+use Rattle.sv8_history.specs.Machine.{Machine, Run, Notes, touches_of}
 use Rattle.sv8_history.specs.Trace.{some_from, next_checkpoint, Trace}
 
 -- the trace that has nothing recorded but the first state

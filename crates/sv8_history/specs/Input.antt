@@ -1,6 +1,7 @@
--- Edits of the input: bytes delivered to the console from some step on. They change no checkpoint that stays, since a state has only the number of bytes that were taken.
+-- Edits of the input: bytes delivered to the console from some step on. They change no checkpoint that stays, since a state has only the number of
+-- bytes that were taken.
 use Rattle.std.specs.Prelude.{◌≡◌, ℕ, suc, ◌*◌, ◌<◌, ◌≤◌, Bool, false, ◌&&◌, leb, Option}
-use Rattle.sv8_history.specs.Machine.{Foot, Machine, Run, state_at, foot_at, Notes}
+use Rattle.sv8_history.specs.Machine.{Machine, Run, state_at, foot_at, Notes}
 use Rattle.sv8_history.specs.Trace.{Trace}
 use Rattle.sv8_history.specs.Reads.{IsLeast, least_below}
 use Rattle.sv8_history.specs.Patches.{count_after, cut}

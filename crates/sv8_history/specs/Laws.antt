@@ -1,6 +1,6 @@
 -- What edits, cuts and queries keep, for any machine that meets the frame law.
 use Rattle.std.specs.Prelude.{List, ◌≡◌, ℕ, suc, ◌+◌, ◌-◌, ◌*◌, ◌/◌, ◌<◌, ◌≤◌, false, min, max}
-use Rattle.sv8_history.specs.Machine.{Foot, SameFoot, Machine, Run, state_at, foot_at}
+use Rattle.sv8_history.specs.Machine.{SameFoot, Machine, Run, state_at, foot_at}
 use Rattle.sv8_history.specs.Framed.{IsFramed}
 use Rattle.sv8_history.specs.Trace.{Trace, IsTraceOf, Agrees}
 use Rattle.sv8_history.specs.Growing.{new_trace, extended, steps_from, restored}
@@ -29,8 +29,8 @@ FirstReadStays m =
     IsFramed m → (old new : Run m) (cs : List (Change m)) (s : ℕ) → ArePlanned m old (suc s) cs → IsEdited m cs old new
     → (IsFirstRead m old cs s → IsFirstRead m new cs s) × (IsFirstRead m new cs s → IsFirstRead m old cs s)
 
--- The number of checkpoints above step 0 after an edit: what stays recorded is the smaller of what was and of the last checkpoint not above the first read. All of it
--- stays where there is no first read.
+-- The number of checkpoints above step 0 after an edit: what stays recorded is the smaller of what was and of the last checkpoint not above the first
+-- read. All of it stays where there is no first read.
 pub record IsRightCount (k old new : ℕ) (IsFirst : ℕ → Type 0) : Type 0 where
   pub fewer : new ≤ old
   pub at_first : (s : ℕ) → IsFirst s → k * new ≡ min (k * old) (k * (s / k))
@@ -126,8 +126,8 @@ RestoreGives m =
     (k : ℕ) → 0 < k → (run : Run m) (trace : Trace m) (n : ℕ) → IsTraceOf m k run trace
     → steps_from m run (restored k trace.count n) (trace.point (restored k trace.count n)) (n - restored k trace.count n) ≡ state_at m run n
 
--- How many steps a query makes that first extends the trace by k steps for each checkpoint that is missing, and then goes on from the last one: as many as from the
--- checkpoint that it had. What is recorded then is the greater of what was and of the last checkpoint not above the step.
+-- How many steps a query makes that first extends the trace by k steps for each checkpoint that is missing, and then goes on from the last one: as
+-- many as from the checkpoint that it had. What is recorded then is the greater of what was and of the last checkpoint not above the step.
 abbrev pub QueryWork : Type 0
 QueryWork = (k count n : ℕ)
     → (k * (n / k - count) + (n - restored k (count + (n / k - count)) n) ≡ n - restored k count n) × (count + (n / k - count) ≡ max count (n / k))

@@ -1,6 +1,6 @@
 -- What an edit makes of a trace: a cut, and then patches.
 use Rattle.std.specs.Prelude.{List, [], ◌∷◌, ℕ, suc, ◌*◌, ◌/◌, not, ◌&&◌, cond, ltb, leb, ◌==◌, Option, Some, None, is_some, option_map}
-use Rattle.sv8_history.specs.Machine.{Machine, Notes, writes_of}
+use Rattle.sv8_history.specs.Machine.{Machine, writes_of}
 use Rattle.sv8_history.specs.Trace.{some_from, next_checkpoint, Trace}
 use Rattle.sv8_history.specs.Changes.{Cause, Image, Poke, Clear, Change, is_live}
 use Rattle.sv8_history.specs.Reads.{first_of_edit}
@@ -44,8 +44,8 @@ keeping m trace a t p = record trace {
   kept = λ n b. cond (m.same a b && n == t) p (trace.kept n b);
 }
 
--- The value to be kept below an event that is set at `t`: that of the event in whose place it comes, or of the first checkpoint that it patches, or of the event
--- that ends it.
+-- The value to be kept below an event that is set at `t`: that of the event in whose place it comes, or of the first checkpoint that it patches, or
+-- that below the event that ends it.
 abbrev pub kept_by_poke : (m : Machine) → ℕ → Trace m → m.Cell → ℕ → ℕ → Option m.Value
 kept_by_poke m k trace a t last =
     cond

@@ -1,11 +1,11 @@
 -- The steps that read what an edit has changed, and the first of them.
 use Rattle.std.specs.Prelude.{◌≡◌, List, [], ◌∷◌, ◌++◌, ℕ, zero, suc, ◌*◌, ◌<◌, Bool, true, false, not, ◌&&◌, ◌||◌, cond, ltb, leb, Option, Some, None, min, max}
-use Rattle.sv8_history.specs.Machine.{Foot, Machine, Run, foot_at, Notes, reads_of, writes_of}
+use Rattle.sv8_history.specs.Machine.{Machine, Run, foot_at, Notes, reads_of, writes_of}
 use Rattle.sv8_history.specs.Trace.{some_from, Trace}
 use Rattle.sv8_history.specs.Changes.{Change, Clear}
 
--- Step `n` reads what the change has left: the change has come and is not over, and no step since has written the cell. A read at the step of the next event is none,
--- since that event comes before the step reads.
+-- Step `n` reads what the change has left: the change has come and is not over, and no step since has written the cell. A read at the step of the
+-- next event is none, since that event comes before the step reads.
 abbrev pub reads_change : (m : Machine) → Notes m → Change m → ℕ → Bool
 reads_change m notes c n =
     leb c.from n && ltb n c.to && reads_of m notes c.cell n && not (m.ends_search c.cell && some_from c.from n (writes_of m notes c.cell))
@@ -57,11 +57,16 @@ first_of_each m k trace (c ∷ cs) = earlier (first_of_change m k trace c) (firs
 
 -- ---- one search for the bytes of a word
 
--- The changes have one cause, and their cells are read and written with the cell `a`, as the bytes of a word are.
+-- The change has its cause at `t`, and its cell is read and written with the cell `a`, as the bytes of a word are.
+pub record IsOfWord (m : Machine) (notes : Notes m) (a : m.Cell) (t : ℕ) (c : Change m) : Type 0 where
+  pub from : c.from ≡ t
+  pub ends : m.ends_search c.cell ≡ m.ends_search a
+  pub reads : (n : ℕ) → reads_of m notes c.cell n ≡ reads_of m notes a n
+  pub writes : (n : ℕ) → writes_of m notes c.cell n ≡ writes_of m notes a n
+
 abbrev pub AreOneWord : (m : Machine) → Notes m → m.Cell → ℕ → List (Change m) → Type 0
 AreOneWord m notes a t [] = Unit {0}
-AreOneWord m notes a t (c ∷ cs) =
-    (c.from ≡ t) × (m.ends_search c.cell ≡ m.ends_search a) × ((n : ℕ) → reads_of m notes c.cell n ≡ reads_of m notes a n) × ((n : ℕ) → writes_of m notes c.cell n ≡ writes_of m notes a n) × AreOneWord m notes a t cs
+AreOneWord m notes a t (c ∷ cs) = IsOfWord m notes a t c × AreOneWord m notes a t cs
 
 -- where the last of them ends
 abbrev pub last_end : (m : Machine) → List (Change m) → ℕ

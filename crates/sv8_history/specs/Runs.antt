@@ -1,5 +1,5 @@
 -- A run of the small machine, and the same with other events: eight steps are recorded, and there is a checkpoint every two steps.
-use Rattle.std.specs.Prelude.{◌≡◌, ℕ, zero, suc, ◌==◌, List, [], ◌∷◌, length, Bool, false, cond, leb, Some, None}
+use Rattle.std.specs.Prelude.{◌≡◌, ℕ, zero, suc, ◌==◌, [], ◌∷◌, length, Bool, false, cond, leb, Some, None}
 use Rattle.sv8_history.specs.Machine.{Run}
 use Rattle.sv8_history.specs.Trace.{Trace, trace_of}
 use Rattle.sv8_history.specs.Toy.{Code, idle, load, store, take_byte, ask, State, Event, toy}

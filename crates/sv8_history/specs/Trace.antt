@@ -1,6 +1,6 @@
 -- What a trace keeps of a run: checkpoints, notes, and the values below events.
 use Rattle.std.specs.Prelude.{◌≡◌, ℕ, zero, suc, ◌+◌, ◌*◌, ◌/◌, ◌<◌, ◌≤◌, Bool, false, not, ◌&&◌, ◌||◌, cond, ltb, leb, Option, Some, None, is_some}
-use Rattle.sv8_history.specs.Machine.{Foot, SameFoot, Machine, Run, state_at, foot_at, Notes, touches_of}
+use Rattle.sv8_history.specs.Machine.{SameFoot, Machine, Run, state_at, foot_at, Notes, touches_of}
 
 -- some step from `t` on and before `c` is in `f`
 abbrev pub some_from : ℕ → ℕ → (ℕ → Bool) → Bool
@@ -11,8 +11,8 @@ some_from t (suc c) f = some_from t c f || (leb t c && f c)
 abbrev pub next_checkpoint : ℕ → ℕ → ℕ
 next_checkpoint k n = k * (n / k) + k
 
--- THE KEPT VALUE below the event of step `n` that sets the cell: what stood there before it. It is kept where the step is recorded and nothing touches the
--- cell up to the next checkpoint. Then that checkpoint would show the value if the event were cleared, and no other checkpoint has it.
+-- THE KEPT VALUE below the event of step `n` that sets the cell: what stood there before it. It is kept where the step is recorded and nothing
+-- touches the cell up to the next checkpoint: with the event cleared, that checkpoint shows the value.
 abbrev pub kept_at : (m : Machine) → ℕ → Run m → ℕ → ℕ → m.Cell → Option m.Value
 kept_at m k run recorded n a =
     cond

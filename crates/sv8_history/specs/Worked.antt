@@ -1,14 +1,13 @@
 -- Edits of the run of the small machine, in numbers.
-use Rattle.std.specs.Prelude.{◌≡◌, ℕ, ◌<◌, ◌≤◌, List, [], ◌∷◌, Bool, true, false, Some, None}
+use Rattle.std.specs.Prelude.{◌≡◌, ℕ, ◌≤◌, List, [], ◌∷◌, true, false, Some, None}
 use Rattle.sv8_history.specs.Machine.{Run, state_at}
 use Rattle.sv8_history.specs.Trace.{Trace, IsTraceOf, trace_of}
 use Rattle.sv8_history.specs.Changes.{Change, Image, Poke, Clear, with_changes}
 use Rattle.sv8_history.specs.Reads.{IsFirstRead, first_of_edit, first_of_each, WordChanges, by_words}
 use Rattle.sv8_history.specs.Patches.{patch, edited}
 use Rattle.sv8_history.specs.Laws.{SameFeet, IsRightCount}
-use Rattle.sv8_history.specs.Toy.{Event, high_byte, low_byte, level, number, bit, toy}
+use Rattle.sv8_history.specs.Toy.{idle, high_byte, low_byte, level, number, bit, toy}
 use Rattle.sv8_history.specs.Runs.{start_with, nothing, first_run, plain_run, at, first_trace, shows_word, shows_level}
-use Rattle.sv8_history.specs.Toy.{idle}
 
 -- ---- the word is poked at step 1: two bytes, of which one is poked again at step 3
 
@@ -35,6 +34,9 @@ pub record WordPoke : Type 0 where
   pub kept_low : word_trace.kept 1 low_byte ≡ Some (number 6)
   pub kept_next : word_trace.kept 3 low_byte ≡ Some (number 4)
 
+abbrev pub one_word : List (WordChanges toy)
+one_word = record { cell = high_byte; from = 1; changes = word_poke } ∷ []
+
 -- what the laws say of that edit
 pub record WordPokeLaws : Type 0 where
   -- up to step 5 the new states are the old ones with what they show of the pokes: of the lower byte nothing after step 3
@@ -48,8 +50,8 @@ pub record WordPokeLaws : Type 0 where
   pub count : IsRightCount 2 4 2 (IsFirstRead toy first_run word_poke)
   -- the least of the first reads of the two bytes, and one search for both
   pub each : first_of_edit toy 2 first_trace word_poke ≡ first_of_each toy 2 first_trace word_poke
-  pub one_search : first_of_edit toy 2 first_trace word_poke ≡ first_of_each toy 2 first_trace (by_words toy (record { cell = high_byte; from = 1; changes = word_poke } ∷ []))
-  pub found : first_of_each toy 2 first_trace (by_words toy (record { cell = high_byte; from = 1; changes = word_poke } ∷ [])) ≡ Some 5
+  pub one_search : first_of_edit toy 2 first_trace word_poke ≡ first_of_each toy 2 first_trace (by_words toy one_word)
+  pub found : first_of_each toy 2 first_trace (by_words toy one_word) ≡ Some 5
 
 -- ---- one of its bytes is cleared again, or both
 

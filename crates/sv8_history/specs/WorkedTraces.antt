@@ -1,12 +1,12 @@
 -- Edits of the input of the small machine's run, and traces that are cut, made and extended, in numbers.
-use Rattle.std.specs.Prelude.{◌≡◌, ℕ, suc, ◌+◌, ◌-◌, ◌*◌, ◌/◌, ◌==◌, ◌<◌, ◌≤◌, Bool, true, Some, None, cond}
+use Rattle.std.specs.Prelude.{◌≡◌, ℕ, ◌+◌, ◌-◌, ◌*◌, ◌/◌, ◌==◌, ◌≤◌, true, Some, None, cond}
 use Rattle.sv8_history.specs.Machine.{Run, state_at}
 use Rattle.sv8_history.specs.Trace.{Trace, IsTraceOf, Agrees}
 use Rattle.sv8_history.specs.Growing.{new_trace, extended, steps_from, restored}
 use Rattle.sv8_history.specs.Patches.{cut}
-use Rattle.sv8_history.specs.Input.{IsFirstTake, first_take, edited_input, IsFed}
+use Rattle.sv8_history.specs.Input.{IsFirstTake, first_take, edited_input}
 use Rattle.sv8_history.specs.Laws.{SameFeet, IsRightCount}
-use Rattle.sv8_history.specs.Toy.{State, low_byte, number, toy}
+use Rattle.sv8_history.specs.Toy.{low_byte, number, toy}
 use Rattle.sv8_history.specs.Runs.{nothing, first_run, at, fed_at, delivered_before, first_trace, shows_word}
 
 -- ---- a second byte comes to the console, at step 3 or at step 1

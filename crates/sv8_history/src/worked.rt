@@ -5,7 +5,8 @@
 
 ghost use Rattle.sv8_history.specs.Framed.{IsFramed};
 ghost use Rattle.sv8_history.specs.Toy.{toy};
-ghost use Rattle.sv8_history.specs.Worked.{WordPoke, WordPokeLaws, ByteClear, WordClear, BytePoke, Replace, Request, RequestClear, AskedRequest, SourceStoredOver, SourceEdit};
+ghost use Rattle.sv8_history.specs.Worked.{WordPoke, WordPokeLaws, ByteClear, WordClear, BytePoke, Replace};
+ghost use Rattle.sv8_history.specs.Worked.{Request, RequestClear, AskedRequest, SourceStoredOver, SourceEdit};
 ghost use Rattle.sv8_history.specs.WorkedTraces.{LateInput, EarlyInput, Cut, Later, Other, Grown, Query};
 
 /// The small machine obeys the frame law.
