@@ -182,6 +182,7 @@ replace_worked = record {
   count = refl;
   points = ((refl, refl), (refl, refl));
   kept = refl;
+  at_once = refl;
 }
   where
     plan : ArePlanned toy first_run 8 replacing

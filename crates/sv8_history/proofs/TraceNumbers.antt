@@ -86,6 +86,7 @@ pub early_input_worked : EarlyInput
 early_input_worked = record {
   keeps = input_edit_keeps toy toy_framed 2 (omega arith) first_run (fed_at 1) first_trace 1 (traced toy 2 first_run 4) (refed 1);
   first = refl;
+  at_once = refl;
   count = refl;
   right = input_edit_counts toy 2 (omega arith) first_run first_trace 1 (traced toy 2 first_run 4);
   before = early_take;

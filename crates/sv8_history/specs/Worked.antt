@@ -113,6 +113,8 @@ pub record Replace : Type 0 where
   pub count : replaced_trace.count ≡ 4
   pub points : shows_word replaced_trace 4 5 11 × shows_word replaced_trace 6 5 7
   pub kept : replaced_trace.kept 3 low_byte ≡ Some (number 6)
+  -- a change of what step 5 pokes would be read by that very step
+  pub at_once : first_of_edit toy 2 first_trace (record { cell = low_byte; from = 5; to = 100; cause = Poke (number 3) } ∷ []) ≡ Some 5
 
 -- ---- the level is requested at step 1, and the request is cleared
 

@@ -27,6 +27,8 @@ pub record LateInput : Type 0 where
 pub record EarlyInput : Type 0 where
   pub keeps : IsTraceOf toy 2 (fed_at 1) (edited_input toy 2 first_trace 1)
   pub first : first_take toy 2 first_trace 1 ≡ Some 2
+  -- so it does where the byte comes at step 2 itself
+  pub at_once : first_take toy 2 first_trace 2 ≡ Some 2
   pub count : (edited_input toy 2 first_trace 1).count ≡ 1
   pub right : IsRightCount 2 4 1 (IsFirstTake toy first_run 1)
   pub before : IsFirstTake toy first_run 1 2
