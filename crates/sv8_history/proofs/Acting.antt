@@ -6,15 +6,21 @@ use Rattle.sv8_history.specs.Acting.{Acting, IsActing, ActingFrames}
 use Rattle.sv8_history.proofs.Feet.{foot_same}
 
 -- what has come where the event sets the cell, whatever stood there
-come_set : (p : Acting) → AreCells p.machine → AreEvents p.machine → IsActing p → (a : p.machine.Cell) (w v : p.machine.Value) (e : p.machine.Event) (s : p.machine.State) → p.machine.Has a s → p.machine.Fits a v → p.machine.poke a e ≡ Some w → p.come e (p.machine.put a v s) ≡ p.put a w (p.come e s)
+come_set : (p : Acting) → AreCells p.machine → AreEvents p.machine → IsActing p
+    → (a : p.machine.Cell) (w v : p.machine.Value) (e : p.machine.Event) (s : p.machine.State) → p.machine.Has a s → p.machine.Fits a v
+    → p.machine.poke a e ≡ Some w → p.come e (p.machine.put a v s) ≡ p.put a w (p.come e s)
 come_set p cells events law a w v e s has fits poked =
     law.comes a v e e s has fits (events.alike_self a e) ∙ ap (λ o. p.put a (unwrap_or o v) (p.come e s)) poked
 
-come_alike : (p : Acting) → AreCells p.machine → AreEvents p.machine → IsActing p → (a : p.machine.Cell) (w v : p.machine.Value) (e : p.machine.Event) (s : p.machine.State) → p.machine.Has a s → p.machine.Fits a v → p.machine.poke a e ≡ Some w → p.come e (p.machine.put a v s) ≡ p.come e s
+come_alike : (p : Acting) → AreCells p.machine → AreEvents p.machine → IsActing p
+    → (a : p.machine.Cell) (w v : p.machine.Value) (e : p.machine.Event) (s : p.machine.State) → p.machine.Has a s → p.machine.Fits a v
+    → p.machine.poke a e ≡ Some w → p.come e (p.machine.put a v s) ≡ p.come e s
 come_alike p cells events law a w v e s has fits poked =
     come_set p cells events law a w v e s has fits poked ∙ sym (come_set p cells events law a w (p.machine.get a s) e s has (cells.get_fits a s has) poked) ∙ ap (p.come e) (cells.put-get a s)
 
-quiet : (p : Acting) → AreEvents p.machine → IsActing p → (a : p.machine.Cell) (w : p.machine.Value) (e f : p.machine.Event) (s q : p.machine.State) → p.machine.Has a s → p.machine.Fits a w → p.come f q ≡ p.put a w (p.come e s) → (p.machine.foot e s).reads a ≡ false → p.machine.step f q ≡ cond ((p.machine.foot e s).writes a) (p.machine.step e s) (p.machine.put a w (p.machine.step e s))
+quiet : (p : Acting) → AreEvents p.machine → IsActing p → (a : p.machine.Cell) (w : p.machine.Value) (e f : p.machine.Event) (s q : p.machine.State)
+    → p.machine.Has a s → p.machine.Fits a w → p.come f q ≡ p.put a w (p.come e s) → (p.machine.foot e s).reads a ≡ false
+    → p.machine.step f q ≡ cond ((p.machine.foot e s).writes a) (p.machine.step e s) (p.machine.put a w (p.machine.step e s))
 quiet p events law a w e f s q has fits came unread =
     let foot = law.foot_is e s in
     let read : (p.foot (p.come e s)).reads a ≡ false = rw (← foot) unread in
@@ -22,7 +28,9 @@ quiet p events law a w e f s q has fits came unread =
     let here = law.step_is e s in
     rw (foot, here) (law.step_is f q ∙ ap p.act came ∙ acted)
 
-quiet_foot : (p : Acting) → IsActing p → (a : p.machine.Cell) (w : p.machine.Value) (e f : p.machine.Event) (s q : p.machine.State) → p.machine.Has a s → p.machine.Fits a w → p.come f q ≡ p.put a w (p.come e s) → (p.machine.foot e s).reads a ≡ false → SameFoot (p.machine.foot f q) (p.machine.foot e s)
+quiet_foot : (p : Acting) → IsActing p → (a : p.machine.Cell) (w : p.machine.Value) (e f : p.machine.Event) (s q : p.machine.State)
+    → p.machine.Has a s → p.machine.Fits a w → p.come f q ≡ p.put a w (p.come e s) → (p.machine.foot e s).reads a ≡ false
+    → SameFoot (p.machine.foot f q) (p.machine.foot e s)
 quiet_foot p law a w e f s q has fits came unread =
     let foot = law.foot_is e s in
     let other = law.foot_is f q in
@@ -37,18 +45,21 @@ poked_fits m events a v e fits = go (m.poke a e) (λ w f. events.poke_fits a w e
     go None h = fits
     go (Some w) h = h w refl
 
-foot_of : (p : Acting) → IsActing p → (e f : p.machine.Event) (s q : p.machine.State) → p.come f q ≡ p.come e s → SameFoot (p.machine.foot f q) (p.machine.foot e s)
+foot_of : (p : Acting) → IsActing p → (e f : p.machine.Event) (s q : p.machine.State) → p.come f q ≡ p.come e s
+    → SameFoot (p.machine.foot f q) (p.machine.foot e s)
 foot_of p law e f s q same =
     let x = law.foot_is f q in let y = law.foot_is e s in rw (x, y, same) (foot_same (p.foot (p.come e s)))
 
-input : (p : Acting) → IsActing p → (e f : p.machine.Event) (s : p.machine.State) → p.machine.Sound s → p.machine.AlikeInput e f → (p.machine.foot e s).takes ≡ false → p.machine.step f s ≡ p.machine.step e s
+input : (p : Acting) → IsActing p → (e f : p.machine.Event) (s : p.machine.State) → p.machine.Sound s → p.machine.AlikeInput e f
+    → (p.machine.foot e s).takes ≡ false → p.machine.step f s ≡ p.machine.step e s
 input p law e f s sound alike untaken =
     let foot = law.foot_is e s in
     let taken : (p.foot (p.come e s)).takes ≡ false = rw (← foot) untaken in
     let came = law.delivers e f s alike in
     law.step_is f s ∙ ap p.act came.1 ∙ law.untaken came.0 (p.come e s) (law.sound_come e s sound) taken ∙ sym (law.step_is e s)
 
-input_foot : (p : Acting) → IsActing p → (e f : p.machine.Event) (s : p.machine.State) → p.machine.Sound s → p.machine.AlikeInput e f → (p.machine.foot e s).takes ≡ false → SameFoot (p.machine.foot f s) (p.machine.foot e s)
+input_foot : (p : Acting) → IsActing p → (e f : p.machine.Event) (s : p.machine.State) → p.machine.Sound s → p.machine.AlikeInput e f
+    → (p.machine.foot e s).takes ≡ false → SameFoot (p.machine.foot f s) (p.machine.foot e s)
 input_foot p law e f s sound alike untaken = go (law.delivers e f s alike)
   where
     go : (w : p.Waiting) × (p.come f s ≡ p.wait w (p.come e s)) → SameFoot (p.machine.foot f s) (p.machine.foot e s)

@@ -10,15 +10,21 @@ use Rattle.sv8_history.proofs.Feet.{foot_back}
 use Rattle.sv8_history.proofs.Spread.{Shift, Turns, same_feet, has_at}
 use Rattle.sv8_history.proofs.Turning.{turns_by_poke, turns_by_source, unread_of}
 
-has_parts : (m : Machine) → IsFramed m → (old mid : Run m) (a : m.Cell) (t u : ℕ) (d : Cause m.Value) → IsFitting m (record { cell = a; from = t; to = u; cause = d }) → IsChanged m (record { cell = a; from = t; to = u; cause = d }) old mid → (b : m.Cell) → m.Has b old.start → m.Has b mid.start
+has_parts : (m : Machine) → IsFramed m → (old mid : Run m) (a : m.Cell) (t u : ℕ) (d : Cause m.Value)
+    → IsFitting m (record { cell = a; from = t; to = u; cause = d }) → IsChanged m (record { cell = a; from = t; to = u; cause = d }) old mid
+    → (b : m.Cell) → m.Has b old.start → m.Has b mid.start
 has_parts m law old mid a t u (Image v) fits change b has = let p = change.1 in let q = p.start in rw q (law.cells.has_put b a v old.start has fits)
 has_parts m law old mid a t u (Poke v) fits change b has = let q = change.start in rw q has
 has_parts m law old mid a t u Clear fits change b has = let p = change.1 in let q = p.start in rw q has
 
-pub has_start : (m : Machine) → IsFramed m → (old mid : Run m) (c : Change m) → IsFitting m c → IsChanged m c old mid → (b : m.Cell) → m.Has b old.start → m.Has b mid.start
+pub has_start : (m : Machine) → IsFramed m → (old mid : Run m) (c : Change m) → IsFitting m c → IsChanged m c old mid → (b : m.Cell)
+    → m.Has b old.start → m.Has b mid.start
 has_start m law old mid c fits change b has = has_parts m law old mid c.cell c.from c.to c.cause fits change b has
 
-back_by_poke : (m : Machine) → IsFramed m → (old mid : Run m) (r : ℕ) (a : m.Cell) (t u : ℕ) (p : Option m.Value) → m.Has a old.start → IsRepoked m a t p old mid → IsNextEvent m old a (suc t) u r → ((n : ℕ) → t ≤ n → n < u → n < r → some_from t n (writes_of m (foot_at m mid) a) ≡ false → reads_of m (foot_at m mid) a n ≡ false) → (x : Shift m) × Turns m x mid old r
+back_by_poke : (m : Machine) → IsFramed m → (old mid : Run m) (r : ℕ) (a : m.Cell) (t u : ℕ) (p : Option m.Value) → m.Has a old.start
+    → IsRepoked m a t p old mid → IsNextEvent m old a (suc t) u r
+    → ((n : ℕ) → t ≤ n → n < u → n < r → some_from t n (writes_of m (foot_at m mid) a) ≡ false → reads_of m (foot_at m mid) a n ≡ false)
+    → (x : Shift m) × Turns m x mid old r
 back_by_poke m law old mid r a t u p has change next unread =
     (record { cell = a; value = value; from = t; first = suc t; last = u }, turns_by_poke m law a value t u r (m.poke a (old.events t)) mid old there (fits (m.poke a (old.events t)) refl) undo later refl unread)
   where
@@ -42,7 +48,10 @@ back_by_poke m law old mid r a t u p has change next unread =
       there = λ l. ap (λ e. is_some (m.poke a e)) (change.elsewhere u (λ w. let b = next.after in omega arith)) ∙ next.there l;
     }
 
-back_parts : (m : Machine) → IsFramed m → (old mid : Run m) (r : ℕ) (a : m.Cell) (t u : ℕ) (d : Cause m.Value) → IsPlanned m old r (record { cell = a; from = t; to = u; cause = d }) → IsChanged m (record { cell = a; from = t; to = u; cause = d }) old mid → ((n : ℕ) → t ≤ n → n < u → n < r → some_from t n (writes_of m (foot_at m mid) a) ≡ false → reads_of m (foot_at m mid) a n ≡ false) → (x : Shift m) × Turns m x mid old r
+back_parts : (m : Machine) → IsFramed m → (old mid : Run m) (r : ℕ) (a : m.Cell) (t u : ℕ) (d : Cause m.Value)
+    → IsPlanned m old r (record { cell = a; from = t; to = u; cause = d }) → IsChanged m (record { cell = a; from = t; to = u; cause = d }) old mid
+    → ((n : ℕ) → t ≤ n → n < u → n < r → some_from t n (writes_of m (foot_at m mid) a) ≡ false → reads_of m (foot_at m mid) a n ≡ false)
+    → (x : Shift m) × Turns m x mid old r
 back_parts m law old mid r a t u (Poke v) plan change unread =
     back_by_poke m law old mid r a t u (Some v) plan.has change plan.next unread
 back_parts m law old mid r a t u Clear plan change unread =
@@ -70,7 +79,8 @@ back_parts m law old mid r a t u (Image v) plan change unread = (
       events = λ n. let p = image in sym (p.events n);
     }
 
-pub back_one : (m : Machine) → IsFramed m → (old mid : Run m) (r : ℕ) (c : Change m) → IsPlanned m old r c → IsChanged m c old mid → ((n : ℕ) → n < r → reads_change m (foot_at m mid) c n ≡ false) → SameFeet m old mid r
+pub back_one : (m : Machine) → IsFramed m → (old mid : Run m) (r : ℕ) (c : Change m) → IsPlanned m old r c → IsChanged m c old mid
+    → ((n : ℕ) → n < r → reads_change m (foot_at m mid) c n ≡ false) → SameFeet m old mid r
 back_one m law old mid r c plan change unread =
     go (back_parts m law old mid r c.cell c.from c.to c.cause plan change (λ n p q l w. unread_of m (foot_at m mid) c n (unread n l) p q w))
   where

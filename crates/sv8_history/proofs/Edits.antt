@@ -28,17 +28,21 @@ patch_notes m k trace c = parts c.cause
     parts (Image v) = record { count = refl; notes = refl }
     parts Clear = cleared (trace.kept c.from c.cell) refl
       where
-        cleared : (o : Option m.Value) → trace.kept c.from c.cell ≡ o → SameNotes m trace (patch m k trace (record { cell = c.cell; from = c.from; to = c.to; cause = Clear }))
+        cleared : (o : Option m.Value) → trace.kept c.from c.cell ≡ o
+            → SameNotes m trace (patch m k trace (record { cell = c.cell; from = c.from; to = c.to; cause = Clear }))
         cleared None e = rw e (record { count = refl; notes = refl })
         cleared (Some v) e = rw e (record { count = refl; notes = refl })
 
-patched_plan : (m : Machine) → IsFramed m → (k : ℕ) (old mid : Run m) (trace : Trace m) (c : Change m) (cs : List (Change m)) → IsFitting m c → IsApart m c.cell cs → ArePlanned m old (k * trace.count) cs → IsChanged m c old mid → ArePlanned m mid (k * (patch m k trace c).count) cs
+patched_plan : (m : Machine) → IsFramed m → (k : ℕ) (old mid : Run m) (trace : Trace m) (c : Change m) (cs : List (Change m)) → IsFitting m c
+    → IsApart m c.cell cs → ArePlanned m old (k * trace.count) cs → IsChanged m c old mid → ArePlanned m mid (k * (patch m k trace c).count) cs
 patched_plan m law k old mid trace c cs fits apart plan change =
     let p = patch_notes m k trace c in
     let e = p.count in
     rw e (planned_all m law old mid (k * trace.count) c fits change cs apart plan)
 
-patched_reads : (m : Machine) (k : ℕ) (trace : Trace m) (c : Change m) (cs : List (Change m)) → ((n : ℕ) → n < k * trace.count → reads_edit m trace.notes (c ∷ cs) n ≡ false) → (n : ℕ) → n < k * (patch m k trace c).count → reads_edit m (patch m k trace c).notes cs n ≡ false
+patched_reads : (m : Machine) (k : ℕ) (trace : Trace m) (c : Change m) (cs : List (Change m))
+    → ((n : ℕ) → n < k * trace.count → reads_edit m trace.notes (c ∷ cs) n ≡ false) → (n : ℕ) → n < k * (patch m k trace c).count
+    → reads_edit m (patch m k trace c).notes cs n ≡ false
 patched_reads m k trace c cs quiet n l =
     let p = patch_notes m k trace c in
     let e = p.count in
@@ -46,7 +50,9 @@ patched_reads m k trace c cs quiet n l =
     let h : n < k * trace.count = rw (← e) l in
     rw f (or_parts (reads_change m trace.notes c n) (reads_edit m trace.notes cs n) (quiet n h)).1
 
-patches_keep : (m : Machine) → IsFramed m → (k : ℕ) → 0 < k → (old new : Run m) (trace : Trace m) (cs : List (Change m)) → IsTraceOf m k old trace → ArePlanned m old (k * trace.count) cs → IsEdited m cs old new → ((n : ℕ) → n < k * trace.count → reads_edit m trace.notes cs n ≡ false) → IsTraceOf m k new (patch_all m k trace cs)
+patches_keep : (m : Machine) → IsFramed m → (k : ℕ) → 0 < k → (old new : Run m) (trace : Trace m) (cs : List (Change m)) → IsTraceOf m k old trace
+    → ArePlanned m old (k * trace.count) cs → IsEdited m cs old new → ((n : ℕ) → n < k * trace.count → reads_edit m trace.notes cs n ≡ false)
+    → IsTraceOf m k new (patch_all m k trace cs)
 patches_keep m law k pos old new trace [] right plan edit quiet = later_keeps m k pos old new trace right edit.0 (λ n l. edit.1 n)
 patches_keep m law k pos old new trace (c ∷ cs) right plan edit quiet =
     patches_keep
@@ -56,7 +62,8 @@ patches_keep m law k pos old new trace (c ∷ cs) right plan edit quiet =
     edit.2
     (patched_reads m k trace c cs quiet)
 
-first_read_cuts : (m : Machine) (k : ℕ) → 0 < k → (run : Run m) (trace : Trace m) (cs : List (Change m)) → IsTraceOf m k run trace → IsRightCount k trace.count (count_after k trace.count (first_of_edit m k trace cs)) (IsFirstRead m run cs)
+first_read_cuts : (m : Machine) (k : ℕ) → 0 < k → (run : Run m) (trace : Trace m) (cs : List (Change m)) → IsTraceOf m k run trace
+    → IsRightCount k trace.count (count_after k trace.count (first_of_edit m k trace cs)) (IsFirstRead m run cs)
 first_read_cuts m k pos run trace cs right =
     right_count k trace.count pos (reads_edit m trace.notes cs) (reads_edit m (foot_at m run) cs) (edit_like m trace.notes (foot_at m run) (k * trace.count) right.notes cs)
 

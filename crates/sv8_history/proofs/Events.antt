@@ -45,7 +45,8 @@ no_low n v w = let p = ne_eqb n 3 v in let q = ne_eqb n 5 w in rw (p, q)
 pub refed : (t : ℕ) → IsRefed toy t first_run (fed_at t)
 refed t = record { sound = tt; start = refl; before = λ n l. (let p = lt-leb t n l in rw p); alike = λ n. alike (leb t n) (pokes n) }
   where
-    alike : (b : Bool) (e : Event) → cond b (record e { delivered = 10 ∷ 65 ∷ [] }) e ≡ record e { delivered = (cond b (record e { delivered = 10 ∷ 65 ∷ [] }) e).delivered }
+    alike : (b : Bool) (e : Event)
+        → cond b (record e { delivered = 10 ∷ 65 ∷ [] }) e ≡ record e { delivered = (cond b (record e { delivered = 10 ∷ 65 ∷ [] }) e).delivered }
     alike true e = refl
     alike false e = refl
 

@@ -26,7 +26,8 @@ touches_like m x y r alike a n l =
     let q = feet.writes a in
     rw (p, q)
 
-pub writes_like : (m : Machine) (x y : Notes m) (r : ℕ) → AreAlike m x y r → (a : m.Cell) (t c : ℕ) → c ≤ r → some_from t c (writes_of m x a) ≡ some_from t c (writes_of m y a)
+pub writes_like : (m : Machine) (x y : Notes m) (r : ℕ) → AreAlike m x y r → (a : m.Cell) (t c : ℕ) → c ≤ r
+    → some_from t c (writes_of m x a) ≡ some_from t c (writes_of m y a)
 writes_like m x y r alike a t c l =
     some_from-like t c (writes_of m x a) (writes_of m y a) (λ n d. (alike n (omega arith)).writes a)
 

@@ -14,14 +14,17 @@ use Rattle.sv8_history.proofs.Turning.{shift_of, turns_of}
 use Rattle.sv8_history.proofs.Back.{back_one}
 use Rattle.sv8_history.proofs.Others.{planned_all, planned_sooner}
 
-pub rest_quiet : (m : Machine) → IsFramed m → (old mid : Run m) (r : ℕ) (c : Change m) (cs : List (Change m)) → IsPlanned m old r c → IsChanged m c old mid → ((n : ℕ) → n < r → reads_edit m (foot_at m old) (c ∷ cs) n ≡ false) → (n : ℕ) → n < r → reads_edit m (foot_at m mid) cs n ≡ false
+pub rest_quiet : (m : Machine) → IsFramed m → (old mid : Run m) (r : ℕ) (c : Change m) (cs : List (Change m)) → IsPlanned m old r c
+    → IsChanged m c old mid → ((n : ℕ) → n < r → reads_edit m (foot_at m old) (c ∷ cs) n ≡ false) → (n : ℕ) → n < r
+    → reads_edit m (foot_at m mid) cs n ≡ false
 rest_quiet m law old mid r c cs plan change quiet n l =
     edit_like m (foot_at m mid) (foot_at m old) r (λ j d. same_feet m law (shift_of m old c) old mid r (turns_of m law old mid r c plan change one) j d) cs n l ∙ (or_parts (reads_change m (foot_at m old) c n) (reads_edit m (foot_at m old) cs n) (quiet n l)).1
   where
     one : (j : ℕ) → j < r → reads_change m (foot_at m old) c j ≡ false
     one j d = (or_parts (reads_change m (foot_at m old) c j) (reads_edit m (foot_at m old) cs j) (quiet j d)).0
 
-pub ahead : (m : Machine) → IsFramed m → (old new : Run m) (cs : List (Change m)) (r : ℕ) → ArePlanned m old r cs → IsEdited m cs old new → ((n : ℕ) → n < r → reads_edit m (foot_at m old) cs n ≡ false) → SameFeet m old new r
+pub ahead : (m : Machine) → IsFramed m → (old new : Run m) (cs : List (Change m)) (r : ℕ) → ArePlanned m old r cs → IsEdited m cs old new
+    → ((n : ℕ) → n < r → reads_edit m (foot_at m old) cs n ≡ false) → SameFeet m old new r
 ahead m law old new [] r plan edit quiet n l = silent_foot m old new r (silent_same m old new r edit.0 (λ j d. edit.1 j)) n l
 ahead m law old new (c ∷ cs) r plan edit quiet n l =
     foot_then (foot_at m new n) (foot_at m edit.0 n) (foot_at m old n)
@@ -38,13 +41,15 @@ ahead m law old new (c ∷ cs) r plan edit quiet n l =
     rest j d =
         edit_like m (foot_at m edit.0) (foot_at m old) r first cs j d ∙ (or_parts (reads_change m (foot_at m old) c j) (reads_edit m (foot_at m old) cs j) (quiet j d)).1
 
-back_step : (m : Machine) → IsFramed m → (old mid new : Run m) (r : ℕ) (c : Change m) → IsPlanned m old r c → IsChanged m c old mid → SameFeet m mid new r → ((n : ℕ) → n < r → reads_change m (foot_at m new) c n ≡ false) → SameFeet m old new r
+back_step : (m : Machine) → IsFramed m → (old mid new : Run m) (r : ℕ) (c : Change m) → IsPlanned m old r c → IsChanged m c old mid
+    → SameFeet m mid new r → ((n : ℕ) → n < r → reads_change m (foot_at m new) c n ≡ false) → SameFeet m old new r
 back_step m law old mid new r c plan change rest quiet n l =
     foot_then (foot_at m new n) (foot_at m mid n) (foot_at m old n)
     (rest n l)
     (back_one m law old mid r c plan change (λ j d. sym (change_like m (foot_at m new) (foot_at m mid) r rest c j d) ∙ quiet j d) n l)
 
-pub back : (m : Machine) → IsFramed m → (old new : Run m) (cs : List (Change m)) (r : ℕ) → ArePlanned m old r cs → IsEdited m cs old new → ((n : ℕ) → n < r → reads_edit m (foot_at m new) cs n ≡ false) → SameFeet m old new r
+pub back : (m : Machine) → IsFramed m → (old new : Run m) (cs : List (Change m)) (r : ℕ) → ArePlanned m old r cs → IsEdited m cs old new
+    → ((n : ℕ) → n < r → reads_edit m (foot_at m new) cs n ≡ false) → SameFeet m old new r
 back m law old new [] r plan edit quiet n l = silent_foot m old new r (silent_same m old new r edit.0 (λ j d. edit.1 j)) n l
 back m law old new (c ∷ cs) r plan edit quiet n l =
     back_step

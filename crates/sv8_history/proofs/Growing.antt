@@ -24,7 +24,8 @@ steps_run m run n s e (suc j) =
     let i : suc (n + j) ≡ n + suc j = omega arith in
     ap (m.step (run.events (n + j))) (steps_run m run n s e j) ∙ ap (state_at m run) i
 
-after_run : (m : Machine) (k : ℕ) (run : Run m) (trace : Trace m) → IsTraceOf m k run trace → (n : ℕ) → k * trace.count ≤ n → state_after m k run trace n ≡ state_at m run n
+after_run : (m : Machine) (k : ℕ) (run : Run m) (trace : Trace m) → IsTraceOf m k run trace → (n : ℕ) → k * trace.count ≤ n
+    → state_after m k run trace n ≡ state_at m run n
 after_run m k run trace right n l =
     let i : k * trace.count + (n - k * trace.count) ≡ n = omega arith in
     steps_run m run (k * trace.count) (trace.point (k * trace.count)) (right.points trace.count (omega arith)) (n - k * trace.count) ∙ ap (state_at m run) i
@@ -50,7 +51,8 @@ kept_more m k r q run n a l h = let x = lt-ltb n r l in let y = lt-ltb n q (omeg
 cond_kept : {A : Type 0} (b p s t : Bool) (v w : A) → s ≡ t → v ≡ w → cond (b && p && not s) (Some v) None ≡ cond (b && p && not t) (Some w) None
 cond_kept b p s t v w e f = rw (e, f)
 
-kept_run : (m : Machine) (k : ℕ) → 0 < k → (run : Run m) (trace : Trace m) → IsTraceOf m k run trace → (n : ℕ) (a : m.Cell) → kept_after m k run trace n a ≡ kept_at m k run (k * suc trace.count) n a
+kept_run : (m : Machine) (k : ℕ) → 0 < k → (run : Run m) (trace : Trace m) → IsTraceOf m k run trace → (n : ℕ) (a : m.Cell)
+    → kept_after m k run trace n a ≡ kept_at m k run (k * suc trace.count) n a
 kept_run m k pos run trace right n a =
     cond_lt n (k * trace.count) (trace.kept n a) new (kept_at m k run (k * suc trace.count) n a)
     (λ l. right.kept n a ∙ kept_more m k (k * trace.count) (k * suc trace.count) run n a l (mul-le-mul_left k (omega arith)))

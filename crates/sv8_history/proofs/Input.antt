@@ -16,7 +16,8 @@ sound_at m law run h zero = h
 sound_at m law run h (suc n) = law.cells.sound_step (run.events n) (state_at m run n) (sound_at m law run h n)
 
 -- other input, that no step takes
-silent_input : (m : Machine) → IsFramed m → (old new : Run m) (t r : ℕ) → IsRefed m t old new → ((n : ℕ) → n < r → takes_edit m (foot_at m old) t n ≡ false) → IsSilent m old new r
+silent_input : (m : Machine) → IsFramed m → (old new : Run m) (t r : ℕ) → IsRefed m t old new
+    → ((n : ℕ) → n < r → takes_edit m (foot_at m old) t n ≡ false) → IsSilent m old new r
 silent_input m law old new t r fed untaken = record {
   start = fed.start;
   step = λ n l. step n l (cases_lt n t);
@@ -66,7 +67,9 @@ untaken_agrees m law old new t r fed untaken = (
 )
 
 -- the run before the edit has bytes enough by the new numbers too, up to the first step that takes input
-fed_step : (m : Machine) (old : Run m) (t r : ℕ) → ((n : ℕ) → n < r → takes_edit m (foot_at m old) t n ≡ false) → (taken : m.State → ℕ) (delivered redelivered : ℕ → ℕ) → IsFed m old taken delivered → AreDelivered t delivered redelivered → (n : ℕ) → n ≤ r → taken (state_at m old n) ≤ redelivered n
+fed_step : (m : Machine) (old : Run m) (t r : ℕ) → ((n : ℕ) → n < r → takes_edit m (foot_at m old) t n ≡ false)
+    → (taken : m.State → ℕ) (delivered redelivered : ℕ → ℕ) → IsFed m old taken delivered → AreDelivered t delivered redelivered → (n : ℕ) → n ≤ r
+    → taken (state_at m old n) ≤ redelivered n
 fed_step m old t r untaken taken delivered redelivered fed new zero l = let p = new.same 0 (omega arith) in rw p (fed.enough 0)
 fed_step m old t r untaken taken delivered redelivered fed new (suc n) l = go (fed_step m old t r untaken taken delivered redelivered fed new n) (cases_lt n t)
   where

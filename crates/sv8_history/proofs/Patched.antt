@@ -17,7 +17,10 @@ use Rattle.sv8_history.proofs.Others.{poke_other}
 use Rattle.sv8_history.proofs.Cut.{agrees_keeps}
 
 -- the right is that of the new run, where the kept values are
-pub patched : (m : Machine) → IsFramed m → (x : Shift m) (old new : Run m) (k : ℕ) (trace : Trace m) → IsTraceOf m k old trace → Turns m x old new (k * trace.count) → (kept : ℕ → m.Cell → Option m.Value) → ((n : ℕ) (b : m.Cell) → kept n b ≡ kept_at m k new (k * trace.count) n b) → IsTraceOf m k new (record trace { point = patched_point m trace x.cell x.value x.from x.first x.last; kept = kept })
+pub patched : (m : Machine) → IsFramed m → (x : Shift m) (old new : Run m) (k : ℕ) (trace : Trace m) → IsTraceOf m k old trace
+    → Turns m x old new (k * trace.count) → (kept : ℕ → m.Cell → Option m.Value)
+    → ((n : ℕ) (b : m.Cell) → kept n b ≡ kept_at m k new (k * trace.count) n b)
+    → IsTraceOf m k new (record trace { point = patched_point m trace x.cell x.value x.from x.first x.last; kept = kept })
 patched m law x old new k trace right turns kept keeps = record {
   points = λ i h.
       let l : k * i ≤ k * trace.count = mul-le-mul_left k h in
@@ -29,7 +32,8 @@ patched m law x old new k trace right turns kept keeps = record {
 }
 
 -- a table of kept values with another one at a cell and a step
-at_cell : (m : Machine) → IsFramed m → (a b : m.Cell) (n t : ℕ) (p : Option m.Value) (rest want : ℕ → m.Cell → Option m.Value) → p ≡ want t a → ((m.same a b ≡ true → n ≡ t → ⊥) → rest n b ≡ want n b) → cond (m.same a b && n == t) p (rest n b) ≡ want n b
+at_cell : (m : Machine) → IsFramed m → (a b : m.Cell) (n t : ℕ) (p : Option m.Value) (rest want : ℕ → m.Cell → Option m.Value) → p ≡ want t a
+    → ((m.same a b ≡ true → n ≡ t → ⊥) → rest n b ≡ want n b) → cond (m.same a b && n == t) p (rest n b) ≡ want n b
 at_cell m law a b n t p rest want here other = go (cases_Bool (m.same a b)) (cases_eq n t)
   where
     go : (m.same a b ≡ true) ⊎ (m.same a b ≡ false) → (n ≡ t) ⊎ (n ≡ t → ⊥) → cond (m.same a b && n == t) p (rest n b) ≡ want n b
@@ -38,7 +42,9 @@ at_cell m law a b n t p rest want here other = go (cases_Bool (m.same a b)) (cas
     go (inr e) f = rw e (other (λ g h. true≢false (sym g ∙ e)))
 
 -- the kept values where the change is spread, wherever the same events set the cell in both runs
-spread_kept : (m : Machine) → IsFramed m → (x : Shift m) (old new : Run m) (k : ℕ) (trace : Trace m) → 0 < k → IsTraceOf m k old trace → Turns m x old new (k * trace.count) → (n : ℕ) (b : m.Cell) → is_some (m.poke b (new.events n)) ≡ is_some (m.poke b (old.events n)) → cond (m.same x.cell b && n == x.last) (kept_at_end m trace x.cell x.value x.from x.last) (trace.kept n b) ≡ kept_at m k new (k * trace.count) n b
+spread_kept : (m : Machine) → IsFramed m → (x : Shift m) (old new : Run m) (k : ℕ) (trace : Trace m) → 0 < k → IsTraceOf m k old trace
+    → Turns m x old new (k * trace.count) → (n : ℕ) (b : m.Cell) → is_some (m.poke b (new.events n)) ≡ is_some (m.poke b (old.events n))
+    → cond (m.same x.cell b && n == x.last) (kept_at_end m trace x.cell x.value x.from x.last) (trace.kept n b) ≡ kept_at m k new (k * trace.count) n b
 spread_kept m law x old new k trace pos right turns n b same =
     at_cell
     m law x.cell b n x.last
@@ -48,15 +54,19 @@ spread_kept m law x old new k trace pos right turns n b same =
     (kept_end m law x old new k trace pos right turns)
     (λ apart. right.kept n b ∙ sym (other apart (cases_Bool (m.same x.cell b))))
   where
-    other : (m.same x.cell b ≡ true → n ≡ x.last → ⊥) → (m.same x.cell b ≡ true) ⊎ (m.same x.cell b ≡ false) → kept_at m k new (k * trace.count) n b ≡ kept_at m k old (k * trace.count) n b
+    other : (m.same x.cell b ≡ true → n ≡ x.last → ⊥) → (m.same x.cell b ≡ true) ⊎ (m.same x.cell b ≡ false)
+        → kept_at m k new (k * trace.count) n b ≡ kept_at m k old (k * trace.count) n b
     other apart (inr e) = kept_other m law x old new k trace.count pos turns b e n same
     other apart (inl e) = there b (law.cells.same_is x.cell b e) same
       where
-        there : (c : m.Cell) → x.cell ≡ c → is_some (m.poke c (new.events n)) ≡ is_some (m.poke c (old.events n)) → kept_at m k new (k * trace.count) n c ≡ kept_at m k old (k * trace.count) n c
+        there : (c : m.Cell) → x.cell ≡ c → is_some (m.poke c (new.events n)) ≡ is_some (m.poke c (old.events n))
+            → kept_at m k new (k * trace.count) n c ≡ kept_at m k old (k * trace.count) n c
         there c f = subst (λ d. is_some (m.poke d (new.events n)) ≡ is_some (m.poke d (old.events n)) → kept_at m k new (k * trace.count) n d ≡ kept_at m k old (k * trace.count) n d) f (kept_elsewhere m law x old new k trace.count pos turns n (apart e))
 
 -- an edit of the source
-image_keeps : (m : Machine) → IsFramed m → (x : Shift m) (old new : Run m) (k : ℕ) (trace : Trace m) → 0 < k → IsTraceOf m k old trace → Turns m x old new (k * trace.count) → ((n : ℕ) → new.events n ≡ old.events n) → IsTraceOf m k new (spread m trace x.cell x.value x.from x.first x.last)
+image_keeps : (m : Machine) → IsFramed m → (x : Shift m) (old new : Run m) (k : ℕ) (trace : Trace m) → 0 < k → IsTraceOf m k old trace
+    → Turns m x old new (k * trace.count) → ((n : ℕ) → new.events n ≡ old.events n)
+    → IsTraceOf m k new (spread m trace x.cell x.value x.from x.first x.last)
 image_keeps m law x old new k trace pos right turns events =
     patched
     m law x old new k trace right turns
@@ -64,7 +74,10 @@ image_keeps m law x old new k trace pos right turns events =
     (λ n b. spread_kept m law x old new k trace pos right turns n b (ap (λ e. is_some (m.poke b e)) (events n)))
 
 -- an event that is set or cleared, where below it is kept what stands there
-event_keeps : (m : Machine) → IsFramed m → (x : Shift m) (old new : Run m) (k : ℕ) (trace : Trace m) → 0 < k → IsTraceOf m k old trace → Turns m x old new (k * trace.count) → (p : Option m.Value) → IsRepoked m x.cell x.from p old new → (q : Option m.Value) → q ≡ kept_at m k new (k * trace.count) x.from x.cell → IsTraceOf m k new (keeping m (spread m trace x.cell x.value x.from x.first x.last) x.cell x.from q)
+event_keeps : (m : Machine) → IsFramed m → (x : Shift m) (old new : Run m) (k : ℕ) (trace : Trace m) → 0 < k → IsTraceOf m k old trace
+    → Turns m x old new (k * trace.count) → (p : Option m.Value) → IsRepoked m x.cell x.from p old new → (q : Option m.Value)
+    → q ≡ kept_at m k new (k * trace.count) x.from x.cell
+    → IsTraceOf m k new (keeping m (spread m trace x.cell x.value x.from x.first x.last) x.cell x.from q)
 event_keeps m law x old new k trace pos right turns p edit q below =
     patched
     m law x old new k trace right turns
@@ -76,7 +89,8 @@ event_keeps m law x old new k trace pos right turns p edit q below =
     below
     (λ apart. spread_kept m law x old new k trace pos right turns n b (same n b apart (cases_Bool (m.same x.cell b)))))
   where
-    same : (n : ℕ) (b : m.Cell) → (m.same x.cell b ≡ true → n ≡ x.from → ⊥) → (m.same x.cell b ≡ true) ⊎ (m.same x.cell b ≡ false) → is_some (m.poke b (new.events n)) ≡ is_some (m.poke b (old.events n))
+    same : (n : ℕ) (b : m.Cell) → (m.same x.cell b ≡ true → n ≡ x.from → ⊥) → (m.same x.cell b ≡ true) ⊎ (m.same x.cell b ≡ false)
+        → is_some (m.poke b (new.events n)) ≡ is_some (m.poke b (old.events n))
     same n b apart (inl e) = ap (λ f. is_some (m.poke b f)) (edit.elsewhere n (apart e))
     same n b apart (inr e) = ap is_some (poke_other m law x.cell b x.from p old new edit e n)
 
@@ -89,7 +103,9 @@ kept_value m k r run n a v e = go (ltb n r && is_some (m.poke a (run.events n)) 
     go false h = cc
 
 -- An event below which no value is kept: no checkpoint shows what stood there, so it makes no difference that a value is spread.
-idle_agrees : (m : Machine) → IsFramed m → (x : Shift m) (old new : Run m) (k : ℕ) (trace : Trace m) → 0 < k → IsTraceOf m k old trace → Turns m x old new (k * trace.count) → x.first ≡ suc x.from → is_some (m.poke x.cell (old.events x.from)) ≡ true → trace.kept x.from x.cell ≡ None → Agrees m k (keeping m (spread m trace x.cell x.value x.from x.first x.last) x.cell x.from None) trace
+idle_agrees : (m : Machine) → IsFramed m → (x : Shift m) (old new : Run m) (k : ℕ) (trace : Trace m) → 0 < k → IsTraceOf m k old trace
+    → Turns m x old new (k * trace.count) → x.first ≡ suc x.from → is_some (m.poke x.cell (old.events x.from)) ≡ true
+    → trace.kept x.from x.cell ≡ None → Agrees m k (keeping m (spread m trace x.cell x.value x.from x.first x.last) x.cell x.from None) trace
 idle_agrees m law x old new k trace pos right turns next poked idle = record {
   count = refl;
   points = λ i l.
@@ -117,7 +133,8 @@ idle_agrees m law x old new k trace pos right turns next poked idle = record {
         (some_from x.from (next_checkpoint k x.from) (touches_of m (foot_at m old) x.cell))
         (λ e. let p = kept_some m k (k * trace.count) old x.from x.cell h poked e in let q = right.kept x.from x.cell in cc)
 
-    wrote : (c : ℕ) → x.from < c → next_checkpoint k x.from ≤ c → c ≤ x.last → c ≤ k * trace.count → some_from x.from c (writes_of m (foot_at m old) x.cell) ≡ true
+    wrote : (c : ℕ) → x.from < c → next_checkpoint k x.from ≤ c → c ≤ x.last → c ≤ k * trace.count
+        → some_from x.from c (writes_of m (foot_at m old) x.cell) ≡ true
     wrote c from-c next-c c-last c-r =
         true_from_ne_false
         (some_from x.from c (writes_of m (foot_at m old) x.cell))
@@ -125,7 +142,8 @@ idle_agrees m law x old new k trace pos right turns next poked idle = record {
         let q = none_from x.from (next_checkpoint k x.from) (touches_of m (foot_at m old) x.cell) (λ n b d. reach m x old new (k * trace.count) turns c c-last c-r e n b (omega arith)) in
         true≢false (sym (touched (omega arith)) ∙ q))
 
-    not_live : (i : ℕ) → k * i ≤ k * trace.count → (k * i < x.first) ⊎ (x.first ≤ k * i) → (x.last < k * i) ⊎ (k * i ≤ x.last) → is_live (writes_of m (foot_at m old) x.cell) x.from x.first x.last (k * i) ≡ false
+    not_live : (i : ℕ) → k * i ≤ k * trace.count → (k * i < x.first) ⊎ (x.first ≤ k * i) → (x.last < k * i) ⊎ (k * i ≤ x.last)
+        → is_live (writes_of m (foot_at m old) x.cell) x.from x.first x.last (k * i) ≡ false
     not_live i l (inl h) b = rw (lt-leb x.first (k * i) h)
     not_live i l (inr h) (inl b) = rw (le-leb x.first (k * i) h, lt-leb (k * i) x.last b)
     not_live i l (inr h) (inr b) =
@@ -133,7 +151,10 @@ idle_agrees m law x old new k trace pos right turns next poked idle = record {
         let w = wrote (k * i) above (next_of_point k x.from i pos above) b l in
         rw (le-leb x.first (k * i) h, le-leb (k * i) x.last b, w)
 
-    end : (x.last < k * trace.count) ⊎ (k * trace.count ≤ x.last) → (some_from x.from x.last (writes_of m (foot_at m old) x.cell) ≡ true) ⊎ (some_from x.from x.last (writes_of m (foot_at m old) x.cell) ≡ false) → (x.last < next_checkpoint k x.from) ⊎ (next_checkpoint k x.from ≤ x.last) → trace.kept x.last x.cell ≡ kept_at_end m trace x.cell x.value x.from x.last
+    end : (x.last < k * trace.count) ⊎ (k * trace.count ≤ x.last)
+        → (some_from x.from x.last (writes_of m (foot_at m old) x.cell) ≡ true) ⊎ (some_from x.from x.last (writes_of m (foot_at m old) x.cell) ≡ false)
+        → (x.last < next_checkpoint k x.from) ⊎ (next_checkpoint k x.from ≤ x.last)
+        → trace.kept x.last x.cell ≡ kept_at_end m trace x.cell x.value x.from x.last
     end (inr h) b c =
         let e : trace.kept x.last x.cell ≡ None = right.kept x.last x.cell ∙ kept_late m k (k * trace.count) old x.last x.cell h in
         rw e (cond_twice (some_from x.from x.last (writes_of m trace.notes x.cell)) None)
@@ -151,7 +172,9 @@ idle_agrees m law x old new k trace pos right turns next poked idle = record {
         let above : x.from < x.last = omega (arith, q, next) in
         absurd (true≢false (sym (wrote x.last above c (omega arith) (omega arith)) ∙ b))
 
-clear_keeps : (m : Machine) → IsFramed m → (old new : Run m) (k : ℕ) (trace : Trace m) → 0 < k → IsTraceOf m k old trace → (a : m.Cell) (t u : ℕ) → Turns m (record { cell = a; value = m.get a (state_at m old t); from = t; first = suc t; last = u }) old new (k * trace.count) → is_some (m.poke a (old.events t)) ≡ true → IsRepoked m a t None old new → IsTraceOf m k new (uncover m trace a t u (trace.kept t a))
+clear_keeps : (m : Machine) → IsFramed m → (old new : Run m) (k : ℕ) (trace : Trace m) → 0 < k → IsTraceOf m k old trace → (a : m.Cell) (t u : ℕ)
+    → Turns m (record { cell = a; value = m.get a (state_at m old t); from = t; first = suc t; last = u }) old new (k * trace.count)
+    → is_some (m.poke a (old.events t)) ≡ true → IsRepoked m a t None old new → IsTraceOf m k new (uncover m trace a t u (trace.kept t a))
 clear_keeps m law old new k trace pos right a t u turns poked edit = go (trace.kept t a) refl
   where
     x : Shift m
@@ -178,7 +201,9 @@ patch_keeps m law k pos old new trace c right plan change unread = parts c.cell 
     turns : Turns m (shift_of m old c) old new (k * trace.count)
     turns = turns_of m law old new (k * trace.count) c plan change (λ n l. sym (change_like m trace.notes (foot_at m old) (k * trace.count) right.notes c n l) ∙ unread n l)
 
-    parts : (a : m.Cell) (t u : ℕ) (d : Cause m.Value) → IsChanged m (record { cell = a; from = t; to = u; cause = d }) old new → Turns m (shift_of m old (record { cell = a; from = t; to = u; cause = d })) old new (k * trace.count) → IsTraceOf m k new (patch m k trace (record { cell = a; from = t; to = u; cause = d }))
+    parts : (a : m.Cell) (t u : ℕ) (d : Cause m.Value) → IsChanged m (record { cell = a; from = t; to = u; cause = d }) old new
+        → Turns m (shift_of m old (record { cell = a; from = t; to = u; cause = d })) old new (k * trace.count)
+        → IsTraceOf m k new (patch m k trace (record { cell = a; from = t; to = u; cause = d }))
     parts a t u (Image v) change turns =
         image_keeps m law (record { cell = a; value = v; from = t; first = t; last = u }) old new k trace pos right turns (change.1).events
     parts a t u (Poke v) change turns =

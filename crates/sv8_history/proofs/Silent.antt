@@ -21,7 +21,8 @@ silent_state m old new r h (suc n) l = ap (m.step (new.events n)) (silent_state 
 pub silent_foot : (m : Machine) (old new : Run m) (r : ℕ) → IsSilent m old new r → (n : ℕ) → n < r → SameFoot (foot_at m new n) (foot_at m old n)
 silent_foot m old new r h n l = let e = silent_state m old new r h n (omega arith) in rw (foot_at, e) (h.foot n l)
 
-pub silent_keeps : (m : Machine) (k : ℕ) → 0 < k → (old new : Run m) (trace : Trace m) → IsTraceOf m k old trace → IsSilent m old new (k * trace.count) → IsTraceOf m k new trace
+pub silent_keeps : (m : Machine) (k : ℕ) → 0 < k → (old new : Run m) (trace : Trace m) → IsTraceOf m k old trace
+    → IsSilent m old new (k * trace.count) → IsTraceOf m k new trace
 silent_keeps m k pos old new trace right h = record {
   points = λ i l. right.points i l ∙ sym (silent_state m old new (k * trace.count) h (k * i) (mul-le-mul_left k l));
   notes = λ n l. foot_then (trace.notes n) (foot_at m old n) (foot_at m new n) (right.notes n l) (foot_back (foot_at m new n) (foot_at m old n) (silent_foot m old new (k * trace.count) h n l));

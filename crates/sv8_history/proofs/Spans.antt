@@ -9,7 +9,8 @@ pub none_at : (t c : ℕ) (f : ℕ → Bool) → some_from t c f ≡ false → (
 none_at t zero f h n t-n n-c = absurd (omega arith)
 none_at t (suc c) f h n t-n n-c = go (none_at t c f) (or_parts (some_from t c f) (leb t c && f c) h) (cases_lt n c)
   where
-    go : (some_from t c f ≡ false → (n : ℕ) → t ≤ n → n < c → f n ≡ false) → (some_from t c f ≡ false) × ((leb t c && f c) ≡ false) → (n < c) ⊎ (c ≤ n) → f n ≡ false
+    go : (some_from t c f ≡ false → (n : ℕ) → t ≤ n → n < c → f n ≡ false) → (some_from t c f ≡ false) × ((leb t c && f c) ≡ false)
+        → (n < c) ⊎ (c ≤ n) → f n ≡ false
     go rest p (inl k) = rest p.0 n t-n k
     go rest p (inr k) =
         let e : n ≡ c = omega arith in

@@ -24,11 +24,13 @@ pub record Turns (m : Machine) (x : Shift m) (old new : Run m) (r : ℕ) : Type 
   -- before `first` the runs are one, with one footprint
   pub before : (n : ℕ) → n < x.first → state_at m new n ≡ state_at m old n
   pub foot_before : (n : ℕ) → n < x.first → n < r → SameFoot (foot_at m new n) (foot_at m old n)
-  pub base : x.first ≤ r → state_at m new x.first ≡ cond (some_from x.from x.first (writes_of m (foot_at m old) x.cell)) (state_at m old x.first) (m.put x.cell x.value (state_at m old x.first))
+  pub base : x.first ≤ r
+      → state_at m new x.first ≡ cond (some_from x.from x.first (writes_of m (foot_at m old) x.cell)) (state_at m old x.first) (m.put x.cell x.value (state_at m old x.first))
   pub same_events : (n : ℕ) → x.first ≤ n → new.events n ≡ old.events n
   pub unpoked : (n : ℕ) → x.first ≤ n → n < x.last → m.poke x.cell (old.events n) ≡ None
   pub poked : x.last < r → is_some (m.poke x.cell (old.events x.last)) ≡ true
-  pub unread : (n : ℕ) → x.from ≤ n → n < x.last → n < r → some_from x.from n (writes_of m (foot_at m old) x.cell) ≡ false → reads_of m (foot_at m old) x.cell n ≡ false
+  pub unread : (n : ℕ) → x.from ≤ n → n < x.last → n < r → some_from x.from n (writes_of m (foot_at m old) x.cell) ≡ false
+      → reads_of m (foot_at m old) x.cell n ≡ false
 
 -- the state of the changed run, as long as the change lasts
 abbrev pub Mix : (m : Machine) → Shift m → Run m → Run m → ℕ → Type 0
@@ -39,18 +41,22 @@ has_at m law a run h zero = h
 has_at m law a run h (suc n) = law.cells.has_step a (run.events n) (state_at m run n) (has_at m law a run h n)
 
 -- one quiet step
-pub quiet_step : (m : Machine) → IsFramed m → (a : m.Cell) (v : m.Value) (e : m.Event) (s : m.State) → m.Has a s → m.Fits a v → m.poke a e ≡ None → (m.foot e s).reads a ≡ false → m.step e (m.put a v s) ≡ cond ((m.foot e s).writes a) (m.step e s) (m.put a v (m.step e s))
+pub quiet_step : (m : Machine) → IsFramed m → (a : m.Cell) (v : m.Value) (e : m.Event) (s : m.State) → m.Has a s → m.Fits a v → m.poke a e ≡ None
+    → (m.foot e s).reads a ≡ false → m.step e (m.put a v s) ≡ cond ((m.foot e s).writes a) (m.step e s) (m.put a v (m.step e s))
 quiet_step m law a v e s has fits no_poke no_read =
     let q = law.quiet a v e e s has fits (law.events.alike_self a e) no_read in
     rw no_poke at q
 
 -- one step of the mixture, from a state that the change was written over in, or not
-mix_step : (m : Machine) → IsFramed m → (a : m.Cell) (v : m.Value) (e f : m.Event) (s r : m.State) (wrote within : Bool) → m.Has a s → m.Fits a v → f ≡ e → within ≡ true → r ≡ cond wrote s (m.put a v s) → m.poke a e ≡ None → (wrote ≡ false → (m.foot e s).reads a ≡ false) → m.step f r ≡ cond (wrote || within && (m.foot e s).writes a) (m.step e s) (m.put a v (m.step e s))
+mix_step : (m : Machine) → IsFramed m → (a : m.Cell) (v : m.Value) (e f : m.Event) (s r : m.State) (wrote within : Bool) → m.Has a s → m.Fits a v
+    → f ≡ e → within ≡ true → r ≡ cond wrote s (m.put a v s) → m.poke a e ≡ None → (wrote ≡ false → (m.foot e s).reads a ≡ false)
+    → m.step f r ≡ cond (wrote || within && (m.foot e s).writes a) (m.step e s) (m.put a v (m.step e s))
 mix_step m law a v e f s r true within has fits same w is no_poke no_read = rw same (ap (m.step e) is)
 mix_step m law a v e f s r false within has fits same w is no_poke no_read =
     rw (same, w) (ap (m.step e) is ∙ quiet_step m law a v e s has fits no_poke (no_read refl))
 
-during : (m : Machine) → IsFramed m → (x : Shift m) (old new : Run m) (r : ℕ) → Turns m x old new r → (n : ℕ) → x.first ≤ n → n ≤ x.last → n ≤ r → Mix m x old new n
+during : (m : Machine) → IsFramed m → (x : Shift m) (old new : Run m) (r : ℕ) → Turns m x old new r → (n : ℕ) → x.first ≤ n → n ≤ x.last → n ≤ r
+    → Mix m x old new n
 during m law x old new r turns zero lo-n n-u n-r =
     let e : x.first ≡ 0 = omega arith in subst (λ k. Mix m x old new k) e (turns.base (omega arith))
 during m law x old new r turns (suc n) lo-n n-u n-r = go (during m law x old new r turns n) (cases_lt n x.first)
@@ -67,7 +73,8 @@ during m law x old new r turns (suc n) lo-n n-u n-r = go (during m law x old new
         (turns.unread n (let a = turns.from-first in omega arith) (omega arith) (omega arith))
 
 -- at the next poke of the cell the states become one again
-alike_step : (m : Machine) → IsFramed m → (a : m.Cell) (v : m.Value) (e f : m.Event) (s r : m.State) (wrote : Bool) → m.Has a s → m.Fits a v → f ≡ e → r ≡ cond wrote s (m.put a v s) → is_some (m.poke a e) ≡ true → m.step f r ≡ m.step e s
+alike_step : (m : Machine) → IsFramed m → (a : m.Cell) (v : m.Value) (e f : m.Event) (s r : m.State) (wrote : Bool) → m.Has a s → m.Fits a v → f ≡ e
+    → r ≡ cond wrote s (m.put a v s) → is_some (m.poke a e) ≡ true → m.step f r ≡ m.step e s
 alike_step m law a v e f s r true has fits same is poked = rw same (ap (m.step e) is)
 alike_step m law a v e f s r false has fits same is poked = go (m.poke a e) refl poked
   where
@@ -75,7 +82,8 @@ alike_step m law a v e f s r false has fits same is poked = go (m.poke a e) refl
     go None q h = cc
     go (Some w) q h = rw same (ap (m.step e) is ∙ law.alike a w v e s has fits q)
 
-after : (m : Machine) → IsFramed m → (x : Shift m) (old new : Run m) (r : ℕ) → Turns m x old new r → (n : ℕ) → x.last < n → n ≤ r → state_at m new n ≡ state_at m old n
+after : (m : Machine) → IsFramed m → (x : Shift m) (old new : Run m) (r : ℕ) → Turns m x old new r → (n : ℕ) → x.last < n → n ≤ r
+    → state_at m new n ≡ state_at m old n
 after m law x old new r turns zero u-n n-r = absurd (omega arith)
 after m law x old new r turns (suc n) u-n n-r = go (after m law x old new r turns n) (cases_lt x.last n)
   where
@@ -95,27 +103,33 @@ after m law x old new r turns (suc n) u-n n-r = go (after m law x old new r turn
         p
 
 -- the state of the changed run, anywhere
-pub mixed : (m : Machine) → IsFramed m → (x : Shift m) (old new : Run m) (r : ℕ) → Turns m x old new r → (n : ℕ) → n ≤ r → state_at m new n ≡ cond (is_live (writes_of m (foot_at m old) x.cell) x.from x.first x.last n) (m.put x.cell x.value (state_at m old n)) (state_at m old n)
+pub mixed : (m : Machine) → IsFramed m → (x : Shift m) (old new : Run m) (r : ℕ) → Turns m x old new r → (n : ℕ) → n ≤ r
+    → state_at m new n ≡ cond (is_live (writes_of m (foot_at m old) x.cell) x.from x.first x.last n) (m.put x.cell x.value (state_at m old n)) (state_at m old n)
 mixed m law x old new r turns n n-r = go (cases_lt n x.first) (cases_lt x.last n)
   where
-    go : (n < x.first) ⊎ (x.first ≤ n) → (x.last < n) ⊎ (n ≤ x.last) → state_at m new n ≡ cond (is_live (writes_of m (foot_at m old) x.cell) x.from x.first x.last n) (m.put x.cell x.value (state_at m old n)) (state_at m old n)
+    go : (n < x.first) ⊎ (x.first ≤ n) → (x.last < n) ⊎ (n ≤ x.last)
+        → state_at m new n ≡ cond (is_live (writes_of m (foot_at m old) x.cell) x.from x.first x.last n) (m.put x.cell x.value (state_at m old n)) (state_at m old n)
     go (inl h) b = rw (lt-leb x.first n h) (turns.before n h)
     go (inr h) (inl k) = rw (le-leb x.first n h, lt-leb n x.last k) (after m law x old new r turns n k n-r)
     go (inr h) (inr k) = rw (le-leb x.first n h, le-leb n x.last k) (turned (some_from x.from n (writes_of m (foot_at m old) x.cell)) (during m law x old new r turns n h k n-r))
       where
-        turned : (b : Bool) → state_at m new n ≡ cond b (state_at m old n) (m.put x.cell x.value (state_at m old n)) → state_at m new n ≡ cond (not b) (m.put x.cell x.value (state_at m old n)) (state_at m old n)
+        turned : (b : Bool) → state_at m new n ≡ cond b (state_at m old n) (m.put x.cell x.value (state_at m old n))
+            → state_at m new n ≡ cond (not b) (m.put x.cell x.value (state_at m old n)) (state_at m old n)
         turned true e = e
         turned false e = e
 
-foot_step : (m : Machine) (a : m.Cell) (v : m.Value) (e f : m.Event) (s r : m.State) (wrote : Bool) → f ≡ e → r ≡ cond wrote s (m.put a v s) → (wrote ≡ false → SameFoot (m.foot e (m.put a v s)) (m.foot e s)) → SameFoot (m.foot f r) (m.foot e s)
+foot_step : (m : Machine) (a : m.Cell) (v : m.Value) (e f : m.Event) (s r : m.State) (wrote : Bool) → f ≡ e → r ≡ cond wrote s (m.put a v s)
+    → (wrote ≡ false → SameFoot (m.foot e (m.put a v s)) (m.foot e s)) → SameFoot (m.foot f r) (m.foot e s)
 foot_step m a v e f s r true same is h = rw (same, is) (foot_same (m.foot e s))
 foot_step m a v e f s r false same is h = rw (same, is) (h refl)
 
-quiet_foot_step : (m : Machine) → IsFramed m → (a : m.Cell) (v : m.Value) (e : m.Event) (s : m.State) → m.Has a s → m.Fits a v → (m.foot e s).reads a ≡ false → SameFoot (m.foot e (m.put a v s)) (m.foot e s)
+quiet_foot_step : (m : Machine) → IsFramed m → (a : m.Cell) (v : m.Value) (e : m.Event) (s : m.State) → m.Has a s → m.Fits a v
+    → (m.foot e s).reads a ≡ false → SameFoot (m.foot e (m.put a v s)) (m.foot e s)
 quiet_foot_step m law a v e s has fits no_read =
     law.quiet_foot a v e e s has fits (law.events.alike_self a e) no_read
 
-alike_foot_step : (m : Machine) → IsFramed m → (a : m.Cell) (v : m.Value) (e : m.Event) (s : m.State) → m.Has a s → m.Fits a v → is_some (m.poke a e) ≡ true → SameFoot (m.foot e (m.put a v s)) (m.foot e s)
+alike_foot_step : (m : Machine) → IsFramed m → (a : m.Cell) (v : m.Value) (e : m.Event) (s : m.State) → m.Has a s → m.Fits a v
+    → is_some (m.poke a e) ≡ true → SameFoot (m.foot e (m.put a v s)) (m.foot e s)
 alike_foot_step m law a v e s has fits poked = go (m.poke a e) refl poked
   where
     go : (p : Option m.Value) → m.poke a e ≡ p → is_some p ≡ true → SameFoot (m.foot e (m.put a v s)) (m.foot e s)
@@ -123,7 +137,8 @@ alike_foot_step m law a v e s has fits poked = go (m.poke a e) refl poked
     go (Some w) q h = law.alike_foot a w v e s has fits q
 
 -- the footprints of the two runs are one
-pub same_feet : (m : Machine) → IsFramed m → (x : Shift m) (old new : Run m) (r : ℕ) → Turns m x old new r → (n : ℕ) → n < r → SameFoot (foot_at m new n) (foot_at m old n)
+pub same_feet : (m : Machine) → IsFramed m → (x : Shift m) (old new : Run m) (r : ℕ) → Turns m x old new r → (n : ℕ) → n < r
+    → SameFoot (foot_at m new n) (foot_at m old n)
 same_feet m law x old new r turns n n-r = go (cases_lt n x.first) (cases_order n x.last)
   where
     go : (n < x.first) ⊎ (x.first ≤ n) → (n ≡ x.last) ⊎ ((n < x.last) ⊎ (x.last < n)) → SameFoot (foot_at m new n) (foot_at m old n)

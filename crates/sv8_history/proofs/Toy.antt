@@ -147,21 +147,24 @@ comes level v e f s alike =
 
 -- ---- the act
 
-quiet_high : (c : Code) (bytes : List ℕ) (s : State) (h : ℕ) → reads_word c ≡ false → execute c bytes (record s { high = h }) ≡ cond (writes_word c) (execute c bytes s) (record (execute c bytes s) { high = h })
+quiet_high : (c : Code) (bytes : List ℕ) (s : State) (h : ℕ) → reads_word c ≡ false
+    → execute c bytes (record s { high = h }) ≡ cond (writes_word c) (execute c bytes s) (record (execute c bytes s) { high = h })
 quiet_high idle bytes s h e = refl
 quiet_high load bytes s h e = absurd (true≢false e)
 quiet_high store bytes s h e = refl
 quiet_high take_byte bytes s h e = refl
 quiet_high ask bytes s h e = refl
 
-quiet_low : (c : Code) (bytes : List ℕ) (s : State) (h : ℕ) → reads_word c ≡ false → execute c bytes (record s { low = h }) ≡ cond (writes_word c) (execute c bytes s) (record (execute c bytes s) { low = h })
+quiet_low : (c : Code) (bytes : List ℕ) (s : State) (h : ℕ) → reads_word c ≡ false
+    → execute c bytes (record s { low = h }) ≡ cond (writes_word c) (execute c bytes s) (record (execute c bytes s) { low = h })
 quiet_low idle bytes s h e = refl
 quiet_low load bytes s h e = absurd (true≢false e)
 quiet_low store bytes s h e = refl
 quiet_low take_byte bytes s h e = refl
 quiet_low ask bytes s h e = refl
 
-quiet_pending : (c : Code) (bytes : List ℕ) (s : State) (b : Bool) → asks_level c ≡ false → execute c bytes (record s { pending = b }) ≡ record (execute c bytes s) { pending = b }
+quiet_pending : (c : Code) (bytes : List ℕ) (s : State) (b : Bool) → asks_level c ≡ false
+    → execute c bytes (record s { pending = b }) ≡ record (execute c bytes s) { pending = b }
 quiet_pending idle bytes s b e = refl
 quiet_pending load bytes s b e = refl
 quiet_pending store bytes s b e = refl
@@ -180,7 +183,8 @@ expires true false false x = refl
 expires false old true x = refl
 expires false old false x = refl
 
-quiet : (a : Cell) (v : Value) (r : Ready) → reads_cell r.state a ≡ false → act (record r { state = put_cell a v r.state }) ≡ cond (writes_cell r.state a) (act r) (put_cell a v (act r))
+quiet : (a : Cell) (v : Value) (r : Ready) → reads_cell r.state a ≡ false
+    → act (record r { state = put_cell a v r.state }) ≡ cond (writes_cell r.state a) (act r) (put_cell a v (act r))
 quiet high_byte v r unread = quiet_high (code_of r.state) r.delivered (tick r.state) (number_of v) unread
 quiet low_byte v r unread = quiet_low (code_of r.state) r.delivered (tick r.state) (number_of v) unread
 quiet level v r unread =

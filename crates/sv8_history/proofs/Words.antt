@@ -83,7 +83,8 @@ none_before r w a n = let e = le-ltb n 0 (omega arith) in go a (ltb n 0) e
     go true b e = rw e
     go false b e = refl
 
-word_reads : (m : Machine) (notes : Notes m) (a : m.Cell) (t : ℕ) (cs : List (Change m)) → AreOneWord m notes a t cs → (n : ℕ) → reads_edit m notes cs n ≡ reads_change m notes (record { cell = a; from = t; to = last_end m cs; cause = Clear }) n
+word_reads : (m : Machine) (notes : Notes m) (a : m.Cell) (t : ℕ) (cs : List (Change m)) → AreOneWord m notes a t cs → (n : ℕ)
+    → reads_edit m notes cs n ≡ reads_change m notes (record { cell = a; from = t; to = last_end m cs; cause = Clear }) n
 word_reads m notes a t [] one n = sym (none_before (reads_of m notes a n) (not (m.ends_search a && some_from t n (writes_of m notes a))) (leb t n) n)
 word_reads m notes a t (c ∷ cs) one n =
     let x = here in
@@ -100,7 +101,8 @@ word_reads m notes a t (c ∷ cs) one n =
         let s = some_from-like t n (writes_of m notes c.cell) (writes_of m notes a) (λ j l. w.writes j) in
         rw (p, q, r, s)
 
-reads_append : (m : Machine) (notes : Notes m) (cs ds : List (Change m)) (n : ℕ) → reads_edit m notes (cs ++ ds) n ≡ (reads_edit m notes cs n || reads_edit m notes ds n)
+reads_append : (m : Machine) (notes : Notes m) (cs ds : List (Change m)) (n : ℕ)
+    → reads_edit m notes (cs ++ ds) n ≡ (reads_edit m notes cs n || reads_edit m notes ds n)
 reads_append m notes [] ds n = refl
 reads_append m notes (c ∷ cs) ds n =
     ap (λ b. reads_change m notes c n || b) (reads_append m notes cs ds n) ∙ sym (or_assoc (reads_change m notes c n) (reads_edit m notes cs n) (reads_edit m notes ds n))
@@ -109,7 +111,8 @@ reads_append m notes (c ∷ cs) ds n =
     or_assoc true b d = refl
     or_assoc false b d = refl
 
-words_read : (m : Machine) (trace : Trace m) (ws : List (WordChanges m)) → AreWords m trace ws → (n : ℕ) → reads_edit m trace.notes (all_changes m ws) n ≡ reads_edit m trace.notes (by_words m ws) n
+words_read : (m : Machine) (trace : Trace m) (ws : List (WordChanges m)) → AreWords m trace ws → (n : ℕ)
+    → reads_edit m trace.notes (all_changes m ws) n ≡ reads_edit m trace.notes (by_words m ws) n
 words_read m trace [] words n = refl
 words_read m trace (w ∷ ws) words n =
     let x = reads_append m trace.notes w.changes (all_changes m ws) n in
