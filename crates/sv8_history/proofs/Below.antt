@@ -11,7 +11,7 @@ use Rattle.sv8_history.proofs.Spread.{Shift, Turns}
 use Rattle.sv8_history.proofs.Spans.{none_at, none_from, next_above, next_of_recorded, next_same}
 use Rattle.sv8_history.proofs.Kept.{span_same, reach, unchanged, get_here}
 
--- what the kept values of a run are
+-- where a run has a kept value, and where none
 pub kept_late : (m : Machine) (k r : ℕ) (run : Run m) (n : ℕ) (a : m.Cell) → r ≤ n → kept_at m k run r n a ≡ None
 kept_late m k r run n a h = rw (le-ltb n r h)
 
@@ -36,7 +36,7 @@ pub kept_some : (m : Machine) (k r : ℕ) (run : Run m) (n : ℕ) (a : m.Cell) �
     → some_from n (next_checkpoint k n) (touches_of m (foot_at m run) a) ≡ false → kept_at m k run r n a ≡ Some (m.get a (state_at m run n))
 kept_some m k r run n a h p s = rw (lt-ltb n r h, p, s)
 
--- the notes serve for the run
+-- the notes of writes are those of the run
 pub wrote_same : (m : Machine) (k : ℕ) (run : Run m) (trace : Trace m) → IsTraceOf m k run trace → (a : m.Cell) (t c : ℕ) → c ≤ k * trace.count
     → some_from t c (writes_of m trace.notes a) ≡ some_from t c (writes_of m (foot_at m run) a)
 wrote_same m k run trace right a t c h = writes_like m trace.notes (foot_at m run) (k * trace.count) right.notes a t c h
@@ -86,7 +86,7 @@ kept_end m law x old new k trace pos right turns = go (cases_lt x.last (k * trac
         let q : trace.kept x.last x.cell ≡ None = right.kept x.last x.cell ∙ kept_late m k (k * trace.count) old x.last x.cell h in
         rw (p, q) (sym (cond_twice (some_from x.from x.last (writes_of m trace.notes x.cell)) None))
 
--- the first of three
+-- the three places from which a new poke takes the value below it
 choose_none : {A : Type 0} (q z : Option A) (w : A) (b c : Bool) → q ≡ None → b ≡ false → (c ≡ true → z ≡ None)
     → cond (is_some q) q (cond b (Some w) (cond c z None)) ≡ None
 choose_none q z w b true h i j = let e = j refl in rw (h, i, e)

@@ -96,7 +96,7 @@ restore_gives m k pos run trace n right =
     whole : restored k trace.count n + (n - restored k trace.count n) ≡ n
     whole = omega (arith, low, less)
 
--- steps with the right extended by d checkpoints
+-- steps with a trace extended by d checkpoints
 steps_split : (k count d n : ℕ) → k * (count + d) ≤ n → k * d + (n - k * (count + d)) ≡ n - k * count
 steps_split k count d n h = let e : k * (count + d) ≡ k * count + k * d = omega arith in omega (arith, e, h)
 

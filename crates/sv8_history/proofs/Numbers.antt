@@ -1,5 +1,5 @@
 -- The edits of the small machine's run, in numbers.
-use Rattle.std.proofs.Common.{◌≡◌, ℕ, ◌<◌, ◌≤◌, [], ◌∷◌, true, false, Some, None, is_some, refl, sym, ◌∙◌, ap, arith}
+use Rattle.std.proofs.Common.{◌≡◌, ℕ, ◌<◌, ◌≤◌, true, false, Some, None, is_some, refl, sym, ◌∙◌, ap, arith}
 use Rattle.sv8_history.specs.Machine.{Run, state_at, foot_at}
 use Rattle.sv8_history.specs.Trace.{trace_of}
 use Rattle.sv8_history.specs.Changes.{IsNextEvent, IsEdited, ArePlanned, with_changes}

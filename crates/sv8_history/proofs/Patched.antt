@@ -16,7 +16,7 @@ use Rattle.sv8_history.proofs.Turning.{shift_of, turns_of}
 use Rattle.sv8_history.proofs.Others.{poke_other}
 use Rattle.sv8_history.proofs.Cut.{agrees_keeps}
 
--- the right is that of the new run, where the kept values are
+-- the trace with its points patched is that of the new run, where its kept values are
 pub patched : (m : Machine) → IsFramed m → (x : Shift m) (old new : Run m) (k : ℕ) (trace : Trace m) → IsTraceOf m k old trace
     → Turns m x old new (k * trace.count) → (kept : ℕ → m.Cell → Option m.Value)
     → ((n : ℕ) (b : m.Cell) → kept n b ≡ kept_at m k new (k * trace.count) n b)

@@ -4,7 +4,7 @@ use Rattle.std.proofs.Math.Nat.{div-eq_of_lt-le}
 use Rattle.std.proofs.lemmas.Bool.{cases_lt, or_parts, and_right, lt-leb}
 use Rattle.sv8_history.specs.Trace.{some_from, next_checkpoint}
 
--- none of them is in f
+-- where no step of a span is in a set
 pub none_at : (t c : ℕ) (f : ℕ → Bool) → some_from t c f ≡ false → (n : ℕ) → t ≤ n → n < c → f n ≡ false
 none_at t zero f h n t-n n-c = absurd (omega arith)
 none_at t (suc c) f h n t-n n-c = go (none_at t c f) (or_parts (some_from t c f) (leb t c && f c) h) (cases_lt n c)
