@@ -71,11 +71,12 @@ word_planned_to r l = (
 word_first : IsFirstRead toy first_run word_poke 5
 word_first = record { here = refl; least = word_quiet }
 
-are_one_word : AreWords toy first_trace one_word
+are_one_word : AreWords toy one_word
 are_one_word = (
   (
-    record { from = refl; ends = refl; reads = λ n. refl; writes = λ n. refl },
-    (record { from = refl; ends = refl; reads = λ n. refl; writes = λ n. refl }, tt),
+    refl,
+    record { reads = λ e s. refl; writes = λ e s. refl; ends = refl },
+    (refl, record { reads = λ e s. refl; writes = λ e s. refl; ends = refl }, tt),
   ),
   tt,
 )
@@ -91,7 +92,7 @@ word_poke_laws = record {
   after = (first_read_stays toy toy_framed first_run word_run word_poke 5 (word_planned_to 6 (omega arith)) word_edit).0 word_first;
   count = edit_counts toy 2 (omega arith) first_run first_trace word_poke (traced toy 2 first_run 4);
   each = of_each toy 2 first_trace word_poke;
-  one_search = search_by_words toy 2 first_trace one_word are_one_word;
+  one_search = search_by_words toy 2 first_run first_trace one_word (traced toy 2 first_run 4) are_one_word;
   found = refl;
 }
   where

@@ -1,12 +1,13 @@
 -- One search for several cells.
 use Rattle.std.proofs.Common.{◌≡◌, ℕ, zero, suc, ◌*◌, ◌<◌, ◌≤◌, min, max, Bool, true, false, not, ◌&&◌, ◌||◌, ltb, leb, List, [], ◌∷◌, ◌++◌, Option, Some, None, refl, sym, ◌∙◌, ap, arith, inl, inr, ◌⊎◌, lt-ltb, le-ltb}
 use Rattle.std.proofs.lemmas.Bool.{cases_lt}
-use Rattle.sv8_history.specs.Machine.{Machine, Notes, reads_of, writes_of}
-use Rattle.sv8_history.specs.Trace.{Trace, some_from}
+use Rattle.sv8_history.specs.Machine.{Machine, Run, state_at, foot_at, Notes, reads_of, writes_of}
+use Rattle.sv8_history.specs.Trace.{some_from}
 use Rattle.sv8_history.specs.Changes.{Clear, Change}
-use Rattle.sv8_history.specs.Reads.{reads_change, reads_edit, IsLeast, least_below, first_of_change, first_of_edit, first_of_each, earlier, AreOneWord, last_end, WordChanges, AreWords, all_changes, by_words}
+use Rattle.sv8_history.specs.Reads.{reads_change, reads_edit, IsLeast, least_below, first_of_change, first_of_edit, first_of_each, earlier, AreTogether, AreOneWord, last_end, WordChanges, AreWords, all_changes, by_words}
 use Rattle.sv8_history.specs.Laws.{FirstOfEach, SearchByWords}
 use Rattle.sv8_history.proofs.Spans.{some_from-like}
+use Rattle.sv8_history.proofs.Feet.{AreAlike}
 use Rattle.sv8_history.proofs.Least.{Found, found, found_one}
 
 -- ---- the least of several
@@ -83,23 +84,32 @@ none_before r w a n = let e = le-ltb n 0 (omega arith) in go a (ltb n 0) e
     go true b e = rw e
     go false b e = refl
 
-word_reads : (m : Machine) (notes : Notes m) (a : m.Cell) (t : ℕ) (cs : List (Change m)) → AreOneWord m notes a t cs → (n : ℕ)
+-- The two cells have the same notes, as far as they are those of a run.
+together : (m : Machine) (run : Run m) (notes : Notes m) (r : ℕ) → AreAlike m notes (foot_at m run) r → (a b : m.Cell) → AreTogether m a b → (n : ℕ) → n < r
+    → (reads_of m notes a n ≡ reads_of m notes b n) × (writes_of m notes a n ≡ writes_of m notes b n)
+together m run notes r alike a b same n l =
+    let x = alike n l in
+    (x.reads a ∙ same.reads (run.events n) (state_at m run n) ∙ sym (x.reads b), x.writes a ∙ same.writes (run.events n) (state_at m run n) ∙ sym (x.writes b))
+
+word_reads : (m : Machine) (run : Run m) (notes : Notes m) (r : ℕ) → AreAlike m notes (foot_at m run) r → (a : m.Cell) (t : ℕ) (cs : List (Change m))
+    → AreOneWord m a t cs → (n : ℕ) → n < r
     → reads_edit m notes cs n ≡ reads_change m notes (record { cell = a; from = t; to = last_end m cs; cause = Clear }) n
-word_reads m notes a t [] one n = sym (none_before (reads_of m notes a n) (not (m.ends_search a && some_from t n (writes_of m notes a))) (leb t n) n)
-word_reads m notes a t (c ∷ cs) one n =
+word_reads m run notes r alike a t [] one n l =
+    sym (none_before (reads_of m notes a n) (not (m.ends_search a && some_from t n (writes_of m notes a))) (leb t n) n)
+word_reads m run notes r alike a t (c ∷ cs) one n l =
     let x = here in
-    let y = word_reads m notes a t cs one.1 n in
+    let y = word_reads m run notes r alike a t cs one.2 n l in
     let z = ltb_max n c.to (last_end m cs) in
     rw (x, y, z) (split (leb t n) (ltb n c.to) (ltb n (last_end m cs)) (reads_of m notes a n) (not (m.ends_search a && some_from t n (writes_of m notes a))))
   where
     here : reads_change m notes c n ≡ (leb t n && ltb n c.to && reads_of m notes a n && not (m.ends_search a && some_from t n (writes_of m notes a)))
     here =
-        let w = one.0 in
-        let p = w.from in
+        let w = one.1 in
+        let p = one.0 in
         let q = w.ends in
-        let r = w.reads n in
-        let s = some_from-like t n (writes_of m notes c.cell) (writes_of m notes a) (λ j l. w.writes j) in
-        rw (p, q, r, s)
+        let d = (together m run notes r alike c.cell a one.1 n l).0 in
+        let s = some_from-like t n (writes_of m notes c.cell) (writes_of m notes a) (λ j i. (together m run notes r alike c.cell a one.1 j (omega arith)).1) in
+        rw (p, q, d, s)
 
 reads_append : (m : Machine) (notes : Notes m) (cs ds : List (Change m)) (n : ℕ)
     → reads_edit m notes (cs ++ ds) n ≡ (reads_edit m notes cs n || reads_edit m notes ds n)
@@ -111,19 +121,20 @@ reads_append m notes (c ∷ cs) ds n =
     or_assoc true b d = refl
     or_assoc false b d = refl
 
-words_read : (m : Machine) (trace : Trace m) (ws : List (WordChanges m)) → AreWords m trace ws → (n : ℕ)
-    → reads_edit m trace.notes (all_changes m ws) n ≡ reads_edit m trace.notes (by_words m ws) n
-words_read m trace [] words n = refl
-words_read m trace (w ∷ ws) words n =
-    let x = reads_append m trace.notes w.changes (all_changes m ws) n in
-    let y = word_reads m trace.notes w.cell w.from w.changes words.0 n in
-    let z = words_read m trace ws words.1 n in
+words_read : (m : Machine) (run : Run m) (notes : Notes m) (r : ℕ) → AreAlike m notes (foot_at m run) r → (ws : List (WordChanges m)) → AreWords m ws
+    → (n : ℕ) → n < r → reads_edit m notes (all_changes m ws) n ≡ reads_edit m notes (by_words m ws) n
+words_read m run notes r alike [] words n l = refl
+words_read m run notes r alike (w ∷ ws) words n l =
+    let x = reads_append m notes w.changes (all_changes m ws) n in
+    let y = word_reads m run notes r alike w.cell w.from w.changes words.0 n l in
+    let z = words_read m run notes r alike ws words.1 n l in
     rw (x, y, z)
 
-least_like : (c : ℕ) (f g : ℕ → Bool) → ((n : ℕ) → f n ≡ g n) → least_below c f ≡ least_below c g
+least_like : (c : ℕ) (f g : ℕ → Bool) → ((n : ℕ) → n < c → f n ≡ g n) → least_below c f ≡ least_below c g
 least_like zero f g h = refl
-least_like (suc c) f g h = let p = least_like c f g h in let q = h c in rw (p, q)
+least_like (suc c) f g h = let p = least_like c f g (λ n l. h n (omega arith)) in let q = h c (omega arith) in rw (p, q)
 
 pub search_by_words : (m : Machine) → SearchByWords m
-search_by_words m k trace ws words =
-    least_like (k * trace.count) (reads_edit m trace.notes (all_changes m ws)) (reads_edit m trace.notes (by_words m ws)) (words_read m trace ws words) ∙ of_each m k trace (by_words m ws)
+search_by_words m k run trace ws right words =
+    least_like (k * trace.count) (reads_edit m trace.notes (all_changes m ws)) (reads_edit m trace.notes (by_words m ws))
+    (words_read m run trace.notes (k * trace.count) right.notes ws words) ∙ of_each m k trace (by_words m ws)

@@ -62,7 +62,7 @@ FirstOfEach m = (k : ℕ) (trace : Trace m) (cs : List (Change m)) → first_of_
 -- Of changes within one word one search is enough, up to where the last of them ends; so an edit takes one search a word.
 abbrev pub SearchByWords : Machine → Type 0
 SearchByWords m =
-    (k : ℕ) (trace : Trace m) (ws : List (WordChanges m)) → AreWords m trace ws
+    (k : ℕ) (run : Run m) (trace : Trace m) (ws : List (WordChanges m)) → IsTraceOf m k run trace → AreWords m ws
     → first_of_edit m k trace (all_changes m ws) ≡ first_of_each m k trace (by_words m ws)
 
 -- ---- edits of the input

@@ -57,31 +57,31 @@ first_of_each m k trace (c ∷ cs) = earlier (first_of_change m k trace c) (firs
 
 -- ---- one search for the bytes of a word
 
--- The change has its cause at `t`, and its cell is read and written with the cell `a`, as the bytes of a word are.
-pub record IsOfWord (m : Machine) (notes : Notes m) (a : m.Cell) (t : ℕ) (c : Change m) : Type 0 where
-  pub from : c.from ≡ t
-  pub ends : m.ends_search c.cell ≡ m.ends_search a
-  pub reads : (n : ℕ) → reads_of m notes c.cell n ≡ reads_of m notes a n
-  pub writes : (n : ℕ) → writes_of m notes c.cell n ≡ writes_of m notes a n
+-- Every step reads and writes the cells together, as the bytes of a word.
+pub record AreTogether (m : Machine) (a b : m.Cell) : Type 0 where
+  pub reads : (e : m.Event) (s : m.State) → (m.foot e s).reads a ≡ (m.foot e s).reads b
+  pub writes : (e : m.Event) (s : m.State) → (m.foot e s).writes a ≡ (m.foot e s).writes b
+  pub ends : m.ends_search a ≡ m.ends_search b
 
-abbrev pub AreOneWord : (m : Machine) → Notes m → m.Cell → ℕ → List (Change m) → Type 0
-AreOneWord m notes a t [] = Unit {0}
-AreOneWord m notes a t (c ∷ cs) = IsOfWord m notes a t c × AreOneWord m notes a t cs
+-- the changes have one cause, at `t`, and are within the word of the cell `a`
+abbrev pub AreOneWord : (m : Machine) → m.Cell → ℕ → List (Change m) → Type 0
+AreOneWord m a t [] = Unit {0}
+AreOneWord m a t (c ∷ cs) = (c.from ≡ t) × AreTogether m c.cell a × AreOneWord m a t cs
 
 -- where the last of them ends
 abbrev pub last_end : (m : Machine) → List (Change m) → ℕ
 last_end m [] = 0
 last_end m (c ∷ cs) = max c.to (last_end m cs)
 
--- the changes within one word: a cell that stands for its notes, and the step of their cause
+-- the changes within one word: a cell of it, and the step of their cause
 pub record WordChanges (m : Machine) : Type 0 where
   pub cell : m.Cell
   pub from : ℕ
   pub changes : List (Change m)
 
-abbrev pub AreWords : (m : Machine) → Trace m → List (WordChanges m) → Type 0
-AreWords m trace [] = Unit {0}
-AreWords m trace (w ∷ ws) = AreOneWord m trace.notes w.cell w.from w.changes × AreWords m trace ws
+abbrev pub AreWords : (m : Machine) → List (WordChanges m) → Type 0
+AreWords m [] = Unit {0}
+AreWords m (w ∷ ws) = AreOneWord m w.cell w.from w.changes × AreWords m ws
 
 abbrev pub all_changes : (m : Machine) → List (WordChanges m) → List (Change m)
 all_changes m [] = []
