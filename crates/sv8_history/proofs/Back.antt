@@ -11,13 +11,13 @@ use Rattle.sv8_history.proofs.Spread.{Shift, Turns, same_feet, has_at}
 use Rattle.sv8_history.proofs.Turning.{turns_by_poke, turns_by_source, unread_of}
 
 has_parts : (m : Machine) → IsFramed m → (old mid : Run m) (a : m.Cell) (t u : ℕ) (d : Cause m.Value)
-    → IsFitting m (record { cell = a; from = t; to = u; cause = d }) → IsChanged m (record { cell = a; from = t; to = u; cause = d }) old mid
+    → m.Has a old.start × IsFitting m (record { cell = a; from = t; to = u; cause = d }) → IsChanged m (record { cell = a; from = t; to = u; cause = d }) old mid
     → (b : m.Cell) → m.Has b old.start → m.Has b mid.start
-has_parts m law old mid a t u (Image v) fits change b has = let p = change.1 in let q = p.start in rw q (law.cells.has_put b a v old.start has fits)
+has_parts m law old mid a t u (Image v) fits change b has = let p = change.1 in let q = p.start in rw q (law.cells.has_put b a v old.start has fits.0 fits.1)
 has_parts m law old mid a t u (Poke v) fits change b has = let q = change.start in rw q has
 has_parts m law old mid a t u Clear fits change b has = let p = change.1 in let q = p.start in rw q has
 
-pub has_start : (m : Machine) → IsFramed m → (old mid : Run m) (c : Change m) → IsFitting m c → IsChanged m c old mid → (b : m.Cell)
+pub has_start : (m : Machine) → IsFramed m → (old mid : Run m) (c : Change m) → m.Has c.cell old.start × IsFitting m c → IsChanged m c old mid → (b : m.Cell)
     → m.Has b old.start → m.Has b mid.start
 has_start m law old mid c fits change b has = has_parts m law old mid c.cell c.from c.to c.cause fits change b has
 
@@ -60,7 +60,7 @@ back_parts m law old mid r a t u (Image v) plan change unread = (
   record { cell = a; value = m.get a old.start; from = 0; first = 0; last = u },
   turns_by_source
       m a (m.get a old.start) u r mid old
-      (has_parts m law old mid a t u (Image v) plan.fits change a plan.has)
+      (has_parts m law old mid a t u (Image v) (plan.has, plan.fits) change a plan.has)
       (law.cells.get_fits a old.start plan.has)
       undo
       (record { after = omega arith; none_between = λ n p q. ap (m.poke a) (image.events n) ∙ plan.next.none_between n (omega (arith, zero_from)) q; there = λ l. ap (λ e. is_some (m.poke a e)) (image.events u) ∙ plan.next.there l })

@@ -33,7 +33,7 @@ patch_notes m k trace c = parts c.cause
         cleared None e = rw e (record { count = refl; notes = refl })
         cleared (Some v) e = rw e (record { count = refl; notes = refl })
 
-patched_plan : (m : Machine) → IsFramed m → (k : ℕ) (old mid : Run m) (trace : Trace m) (c : Change m) (cs : List (Change m)) → IsFitting m c
+patched_plan : (m : Machine) → IsFramed m → (k : ℕ) (old mid : Run m) (trace : Trace m) (c : Change m) (cs : List (Change m)) → m.Has c.cell old.start × IsFitting m c
     → IsApart m c.cell cs → ArePlanned m old (k * trace.count) cs → IsChanged m c old mid → ArePlanned m mid (k * (patch m k trace c).count) cs
 patched_plan m law k old mid trace c cs fits apart plan change =
     let p = patch_notes m k trace c in
@@ -58,7 +58,7 @@ patches_keep m law k pos old new trace (c ∷ cs) right plan edit quiet =
     patches_keep
     m law k pos edit.0 new (patch m k trace c) cs
     (patch_keeps m law k pos old edit.0 trace c right plan.0 edit.1 (λ n l. (or_parts (reads_change m trace.notes c n) (reads_edit m trace.notes cs n) (quiet n l)).0))
-    (patched_plan m law k old edit.0 trace c cs plan.0.fits plan.1 plan.2 edit.1)
+    (patched_plan m law k old edit.0 trace c cs (plan.0.has, plan.0.fits) plan.1 plan.2 edit.1)
     edit.2
     (patched_reads m k trace c cs quiet)
 

@@ -28,7 +28,7 @@ pub ahead : (m : Machine) → IsFramed m → (old new : Run m) (cs : List (Chang
 ahead m law old new [] r plan edit quiet n l = silent_foot m old new r (silent_same m old new r edit.0 (λ j d. edit.1 j)) n l
 ahead m law old new (c ∷ cs) r plan edit quiet n l =
     foot_then (foot_at m new n) (foot_at m edit.0 n) (foot_at m old n)
-    (ahead m law edit.0 new cs r (planned_all m law old edit.0 r c plan.0.fits edit.1 cs plan.1 plan.2) edit.2 rest n l)
+    (ahead m law edit.0 new cs r (planned_all m law old edit.0 r c (plan.0.has, plan.0.fits) edit.1 cs plan.1 plan.2) edit.2 rest n l)
     (first n l)
   where
     one : (j : ℕ) → j < r → reads_change m (foot_at m old) c j ≡ false
@@ -54,7 +54,7 @@ back m law old new [] r plan edit quiet n l = silent_foot m old new r (silent_sa
 back m law old new (c ∷ cs) r plan edit quiet n l =
     back_step
     m law old edit.0 new r c plan.0 edit.1
-    (back m law edit.0 new cs r (planned_all m law old edit.0 r c plan.0.fits edit.1 cs plan.1 plan.2) edit.2 (λ i b. (or_parts (reads_change m (foot_at m new) c i) (reads_edit m (foot_at m new) cs i) (quiet i b)).1))
+    (back m law edit.0 new cs r (planned_all m law old edit.0 r c (plan.0.has, plan.0.fits) edit.1 cs plan.1 plan.2) edit.2 (λ i b. (or_parts (reads_change m (foot_at m new) c i) (reads_edit m (foot_at m new) cs i) (quiet i b)).1))
     (λ i b. (or_parts (reads_change m (foot_at m new) c i) (reads_edit m (foot_at m new) cs i) (quiet i b)).0)
     n l
 

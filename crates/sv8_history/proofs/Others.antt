@@ -26,7 +26,7 @@ poke_stays : (m : Machine) → IsFramed m → (old mid : Run m) (c : Change m) �
 poke_stays m law old mid c change b other n =
     poke_parts m law old mid c.cell c.from c.to c.cause change b other n
 
-pub planned_all : (m : Machine) → IsFramed m → (old mid : Run m) (r : ℕ) (c : Change m) → IsFitting m c → IsChanged m c old mid
+pub planned_all : (m : Machine) → IsFramed m → (old mid : Run m) (r : ℕ) (c : Change m) → m.Has c.cell old.start × IsFitting m c → IsChanged m c old mid
     → (cs : List (Change m)) → IsApart m c.cell cs → ArePlanned m old r cs → ArePlanned m mid r cs
 planned_all m law old mid r c fits change [] apart plan = tt
 planned_all m law old mid r c fits change (d ∷ ds) apart plan = (here, plan.1, planned_all m law old mid r c fits change ds apart.1 plan.2)

@@ -59,7 +59,7 @@ states : (m : Machine) → IsFramed m → (old new : Run m) (cs : List (Change m
     → ((n : ℕ) → n < r → reads_edit m (foot_at m old) cs n ≡ false) → (n : ℕ) → n ≤ r → state_at m new n ≡ with_changes m old cs n (state_at m old n)
 states m law old new [] r plan edit quiet n l = silent_state m old new r (silent_same m old new r edit.0 (λ j d. edit.1 j)) n l
 states m law old new (c ∷ cs) r plan edit quiet n l =
-    states m law edit.0 new cs r (planned_all m law old edit.0 r c plan.0.fits edit.1 cs plan.1 plan.2) edit.2 (rest_quiet m law old edit.0 r c cs plan.0 edit.1 quiet) n l ∙ states_step m law old edit.0 r c cs plan.0 plan.1 edit.1 (λ j d. (or_parts (reads_change m (foot_at m old) c j) (reads_edit m (foot_at m old) cs j) (quiet j d)).0) n l
+    states m law edit.0 new cs r (planned_all m law old edit.0 r c (plan.0.has, plan.0.fits) edit.1 cs plan.1 plan.2) edit.2 (rest_quiet m law old edit.0 r c cs plan.0 edit.1 quiet) n l ∙ states_step m law old edit.0 r c cs plan.0 plan.1 edit.1 (λ j d. (or_parts (reads_change m (foot_at m old) c j) (reads_edit m (foot_at m old) cs j) (quiet j d)).0) n l
 
 pub unread_agrees : (m : Machine) → UnreadAgrees m
 unread_agrees m law old new cs r plan edit quiet = (states m law old new cs r plan edit quiet, ahead m law old new cs r plan edit quiet)

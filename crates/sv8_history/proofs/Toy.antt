@@ -61,7 +61,7 @@ toy_cells = record {
   get_fits = λ a s has. get_fits a s;
   sound_step = λ e s sound. tt;
   has_step = λ a e s has. tt;
-  has_put = λ a b v s has fit. tt;
+  has_put = λ a b v s has there fit. tt;
 }
 
 -- ---- events

@@ -12,7 +12,7 @@ pub record AreCells (m : Machine) : Type 0 where
   pub get_fits : (a : m.Cell) (s : m.State) → m.Has a s → m.Fits a (m.get a s)
   pub sound_step : (e : m.Event) (s : m.State) → m.Sound s → m.Sound (m.step e s)
   pub has_step : (a : m.Cell) (e : m.Event) (s : m.State) → m.Has a s → m.Has a (m.step e s)
-  pub has_put : (a b : m.Cell) (v : m.Value) (s : m.State) → m.Has a s → m.Fits b v → m.Has a (m.put b v s)
+  pub has_put : (a b : m.Cell) (v : m.Value) (s : m.State) → m.Has a s → m.Has b s → m.Fits b v → m.Has a (m.put b v s)
 
 -- Events that differ in one cell at most set all others alike; those that differ in the input set all cells alike.
 pub record AreEvents (m : Machine) : Type 0 where
