@@ -1,13 +1,13 @@
 -- A change is undone by another: so it turns the new run into the old one, too.
 use Rattle.std.proofs.Common.{◌≡◌, ℕ, suc, ◌<◌, ◌≤◌, false, Option, Some, None, is_some, unwrap_or, refl, sym, ◌∙◌, ap, arith}
-use Rattle.sv8_history.specs.Machine.{Machine, Run, state_at, foot_at, reads_of, writes_of}
+use Rattle.sv8_history.specs.Machine.{Machine, Run, state_at, footprint_at, reads_of, writes_of}
 use Rattle.sv8_history.specs.Framed.{IsFramed}
 use Rattle.sv8_history.specs.Trace.{some_from}
 use Rattle.sv8_history.specs.Changes.{Cause, Image, Poke, Clear, Change, IsRepoked, IsReimaged, IsChanged, IsFitting, IsNextEvent, IsPlanned}
 use Rattle.sv8_history.specs.Reads.{reads_change}
-use Rattle.sv8_history.specs.Laws.{SameFeet}
-use Rattle.sv8_history.proofs.Feet.{foot_back}
-use Rattle.sv8_history.proofs.Spread.{Shift, Turns, same_feet, has_at}
+use Rattle.sv8_history.specs.Laws.{SameFootprints}
+use Rattle.sv8_history.proofs.Footprints.{footprint_back}
+use Rattle.sv8_history.proofs.Spread.{Shift, Turns, same_footprints, has_at}
 use Rattle.sv8_history.proofs.Turning.{turns_by_poke, turns_by_source, unread_of}
 
 has_parts : (m : Machine) → IsFramed m → (old mid : Run m) (a : m.Cell) (t u : ℕ) (d : Cause m.Value)
@@ -23,7 +23,7 @@ has_start m law old mid c fits change b has = has_parts m law old mid c.cell c.f
 
 back_by_poke : (m : Machine) → IsFramed m → (old mid : Run m) (r : ℕ) (a : m.Cell) (t u : ℕ) (p : Option m.Value) → m.Has a old.start
     → IsRepoked m a t p old mid → IsNextEvent m old a (suc t) u r
-    → ((n : ℕ) → t ≤ n → n < u → n < r → some_from t n (writes_of m (foot_at m mid) a) ≡ false → reads_of m (foot_at m mid) a n ≡ false)
+    → ((n : ℕ) → t ≤ n → n < u → n < r → some_from t n (writes_of m (footprint_at m mid) a) ≡ false → reads_of m (footprint_at m mid) a n ≡ false)
     → (x : Shift m) × Turns m x mid old r
 back_by_poke m law old mid r a t u p has change next unread =
     (record { cell = a; value = value; from = t; first = suc t; last = u }, turns_by_poke m law a value t u r (m.poke a (old.events t)) mid old there (fits (m.poke a (old.events t)) refl) undo later refl unread)
@@ -50,7 +50,7 @@ back_by_poke m law old mid r a t u p has change next unread =
 
 back_parts : (m : Machine) → IsFramed m → (old mid : Run m) (r : ℕ) (a : m.Cell) (t u : ℕ) (d : Cause m.Value)
     → IsPlanned m old r (record { cell = a; from = t; to = u; cause = d }) → IsChanged m (record { cell = a; from = t; to = u; cause = d }) old mid
-    → ((n : ℕ) → t ≤ n → n < u → n < r → some_from t n (writes_of m (foot_at m mid) a) ≡ false → reads_of m (foot_at m mid) a n ≡ false)
+    → ((n : ℕ) → t ≤ n → n < u → n < r → some_from t n (writes_of m (footprint_at m mid) a) ≡ false → reads_of m (footprint_at m mid) a n ≡ false)
     → (x : Shift m) × Turns m x mid old r
 back_parts m law old mid r a t u (Poke v) plan change unread =
     back_by_poke m law old mid r a t u (Some v) plan.has change plan.next unread
@@ -80,10 +80,10 @@ back_parts m law old mid r a t u (Image v) plan change unread = (
     }
 
 pub back_one : (m : Machine) → IsFramed m → (old mid : Run m) (r : ℕ) (c : Change m) → IsPlanned m old r c → IsChanged m c old mid
-    → ((n : ℕ) → n < r → reads_change m (foot_at m mid) c n ≡ false) → SameFeet m old mid r
+    → ((n : ℕ) → n < r → reads_change m (footprint_at m mid) c n ≡ false) → SameFootprints m old mid r
 back_one m law old mid r c plan change unread =
-    go (back_parts m law old mid r c.cell c.from c.to c.cause plan change (λ n p q l w. unread_of m (foot_at m mid) c n (unread n l) p q w))
+    go (back_parts m law old mid r c.cell c.from c.to c.cause plan change (λ n p q l w. unread_of m (footprint_at m mid) c n (unread n l) p q w))
   where
-    go : (x : Shift m) × Turns m x mid old r → SameFeet m old mid r
+    go : (x : Shift m) × Turns m x mid old r → SameFootprints m old mid r
     go p n l =
-        foot_back (foot_at m old n) (foot_at m mid n) (same_feet m law p.0 mid old r p.1 n l)
+        footprint_back (footprint_at m old n) (footprint_at m mid n) (same_footprints m law p.0 mid old r p.1 n l)

@@ -1,12 +1,12 @@
 -- The values kept below the two events of a change: the one that makes it, and the one that ends it.
 use Rattle.std.proofs.Common.{◌≡◌, ℕ, suc, ◌+◌, ◌*◌, ◌/◌, ◌<◌, ◌≤◌, Bool, true, false, not, ◌&&◌, cond, ltb, leb, Option, Some, None, is_some, option_map, refl, sym, ◌∙◌, ap, subst, arith, inl, inr, ◌⊎◌, le-leb, lt-ltb, le-ltb, mul_comm, div-lt_iff_lt-mul}
 use Rattle.std.proofs.lemmas.Bool.{cases_lt, cases_Bool, cases_eq, lt-leb, and_parts, or_parts, ltb-true, not-true, true_from_ne_false, true≢false}
-use Rattle.sv8_history.specs.Machine.{Machine, Run, state_at, foot_at, reads_of, writes_of, touches_of}
+use Rattle.sv8_history.specs.Machine.{Machine, Run, state_at, footprint_at, reads_of, writes_of, touches_of}
 use Rattle.sv8_history.specs.Framed.{IsFramed}
 use Rattle.sv8_history.specs.Trace.{some_from, next_checkpoint, kept_at, Trace, IsTraceOf}
 use Rattle.sv8_history.specs.Changes.{is_live}
 use Rattle.sv8_history.specs.Patches.{kept_at_end, kept_by_poke}
-use Rattle.sv8_history.proofs.Feet.{writes_like}
+use Rattle.sv8_history.proofs.Footprints.{writes_like}
 use Rattle.sv8_history.proofs.Spread.{Shift, Turns}
 use Rattle.sv8_history.proofs.Spans.{none_at, none_from, next_above, next_of_recorded, next_same}
 use Rattle.sv8_history.proofs.Kept.{span_same, reach, unchanged, get_here}
@@ -16,8 +16,8 @@ pub kept_late : (m : Machine) (k r : ℕ) (run : Run m) (n : ℕ) (a : m.Cell) �
 kept_late m k r run n a h = rw (le-ltb n r h)
 
 pub kept_touched : (m : Machine) (k r : ℕ) (run : Run m) (n : ℕ) (a : m.Cell)
-    → some_from n (next_checkpoint k n) (touches_of m (foot_at m run) a) ≡ true → kept_at m k run r n a ≡ None
-kept_touched m k r run n a h = go (ltb n r) (is_some (m.poke a (run.events n))) (some_from n (next_checkpoint k n) (touches_of m (foot_at m run) a)) h
+    → some_from n (next_checkpoint k n) (touches_of m (footprint_at m run) a) ≡ true → kept_at m k run r n a ≡ None
+kept_touched m k r run n a h = go (ltb n r) (is_some (m.poke a (run.events n))) (some_from n (next_checkpoint k n) (touches_of m (footprint_at m run) a)) h
   where
     go : (b p s : Bool) → s ≡ true → cond (b && p && not s) (Some (m.get a (state_at m run n))) None ≡ None
     go true true s e = rw e
@@ -28,18 +28,18 @@ pub kept_unpoked : (m : Machine) (k r : ℕ) (run : Run m) (n : ℕ) (a : m.Cell
 kept_unpoked m k r run n a h = go (ltb n r) (is_some (m.poke a (run.events n))) h
   where
     go : (b p : Bool) → p ≡ false
-        → cond (b && p && not (some_from n (next_checkpoint k n) (touches_of m (foot_at m run) a))) (Some (m.get a (state_at m run n))) None ≡ None
+        → cond (b && p && not (some_from n (next_checkpoint k n) (touches_of m (footprint_at m run) a))) (Some (m.get a (state_at m run n))) None ≡ None
     go true p e = rw e
     go false p e = refl
 
 pub kept_some : (m : Machine) (k r : ℕ) (run : Run m) (n : ℕ) (a : m.Cell) → n < r → is_some (m.poke a (run.events n)) ≡ true
-    → some_from n (next_checkpoint k n) (touches_of m (foot_at m run) a) ≡ false → kept_at m k run r n a ≡ Some (m.get a (state_at m run n))
+    → some_from n (next_checkpoint k n) (touches_of m (footprint_at m run) a) ≡ false → kept_at m k run r n a ≡ Some (m.get a (state_at m run n))
 kept_some m k r run n a h p s = rw (lt-ltb n r h, p, s)
 
 -- the notes of writes are those of the run
 pub wrote_same : (m : Machine) (k : ℕ) (run : Run m) (trace : Trace m) → IsTraceOf m k run trace → (a : m.Cell) (t c : ℕ) → c ≤ k * trace.count
-    → some_from t c (writes_of m trace.notes a) ≡ some_from t c (writes_of m (foot_at m run) a)
-wrote_same m k run trace right a t c h = writes_like m trace.notes (foot_at m run) (k * trace.count) right.notes a t c h
+    → some_from t c (writes_of m trace.notes a) ≡ some_from t c (writes_of m (footprint_at m run) a)
+wrote_same m k run trace right a t c h = writes_like m trace.notes (footprint_at m run) (k * trace.count) right.notes a t c h
 
 end_cond : {A : Type 0} (p q s t wrote : Bool) (g h v : A) → p ≡ q → s ≡ t → g ≡ cond (not wrote) v h
     → cond (true && p && not s) (Some g) None ≡ cond wrote (cond (true && q && not t) (Some h) None) (option_map (λ w. v) (cond (true && q && not t) (Some h) None))
@@ -66,15 +66,15 @@ kept_end m law x old new k trace pos right turns = go (cases_lt x.last (k * trac
         let q = right.kept x.last x.cell in
         let same : is_some (m.poke x.cell (new.events x.last)) ≡ is_some (m.poke x.cell (old.events x.last)) = ap (λ e. is_some (m.poke x.cell e)) (turns.same_events x.last turns.first-last) in
         let live = get_here m law x old new (k * trace.count) turns x.last (omega arith) in
-        let here : m.get x.cell (state_at m new x.last) ≡ cond (not (some_from x.from x.last (writes_of m (foot_at m old) x.cell))) x.value (m.get x.cell (state_at m old x.last)) = rw (le-leb x.first x.last turns.first-last, le-leb x.last x.last (omega arith)) at live in
+        let here : m.get x.cell (state_at m new x.last) ≡ cond (not (some_from x.from x.last (writes_of m (footprint_at m old) x.cell))) x.value (m.get x.cell (state_at m old x.last)) = rw (le-leb x.first x.last turns.first-last, le-leb x.last x.last (omega arith)) at live in
         rw (w, q, lt-ltb x.last (k * trace.count) h)
         (sym
         (end_cond
         (is_some (m.poke x.cell (new.events x.last)))
         (is_some (m.poke x.cell (old.events x.last)))
-        (some_from x.last (next_checkpoint k x.last) (touches_of m (foot_at m new) x.cell))
-        (some_from x.last (next_checkpoint k x.last) (touches_of m (foot_at m old) x.cell))
-        (some_from x.from x.last (writes_of m (foot_at m old) x.cell))
+        (some_from x.last (next_checkpoint k x.last) (touches_of m (footprint_at m new) x.cell))
+        (some_from x.last (next_checkpoint k x.last) (touches_of m (footprint_at m old) x.cell))
+        (some_from x.from x.last (writes_of m (footprint_at m old) x.cell))
         (m.get x.cell (state_at m new x.last))
         (m.get x.cell (state_at m old x.last))
         x.value
@@ -103,8 +103,9 @@ choose_third : {A : Type 0} (q z : Option A) (w g : A) (b c : Bool) → q ≡ No
     → cond (is_some q) q (cond b (Some w) (cond c z None)) ≡ Some g
 choose_third q z w g b c h i j e = rw (h, i, j, e)
 
-writes_from-touches : (m : Machine) (run : Run m) (a : m.Cell) (n : ℕ) → touches_of m (foot_at m run) a n ≡ false → writes_of m (foot_at m run) a n ≡ false
-writes_from-touches m run a n h = (or_parts (reads_of m (foot_at m run) a n) (writes_of m (foot_at m run) a n) h).1
+writes_from-touches : (m : Machine) (run : Run m) (a : m.Cell) (n : ℕ) → touches_of m (footprint_at m run) a n ≡ false
+    → writes_of m (footprint_at m run) a n ≡ false
+writes_from-touches m run a n h = (or_parts (reads_of m (footprint_at m run) a n) (writes_of m (footprint_at m run) a n) h).1
 
 none_from-is_some : {A : Type 0} (o : Option A) → is_some o ≡ false → o ≡ None
 none_from-is_some None h = refl
@@ -144,7 +145,7 @@ span_later k t u pos t-u u-next f span =
 -- a new poke keeps the value that stood before it, where something touches the cell
 set_touched : (m : Machine) (x : Shift m) (old new : Run m) (k : ℕ) (trace : Trace m) → 0 < k → IsTraceOf m k old trace
     → Turns m x old new (k * trace.count) → x.first ≡ suc x.from → x.from < k * trace.count
-    → some_from x.from (next_checkpoint k x.from) (touches_of m (foot_at m old) x.cell) ≡ true → kept_by_poke m k trace x.cell x.from x.last ≡ None
+    → some_from x.from (next_checkpoint k x.from) (touches_of m (footprint_at m old) x.cell) ≡ true → kept_by_poke m k trace x.cell x.from x.last ≡ None
 set_touched m x old new k trace pos right turns lo h s =
     choose_none
     (trace.kept x.from x.cell)
@@ -163,7 +164,7 @@ set_touched m x old new k trace pos right turns lo h s =
         → (leb (next_checkpoint k x.from) (k * trace.count) && is_live (writes_of m trace.notes x.cell) x.from (suc x.from) x.last (next_checkpoint k x.from)) ≡ false
     second (inl l) = not_patched m trace x.cell k x.from x.last (k * trace.count) l
     second (inr l) =
-        let w : some_from x.from (next_checkpoint k x.from) (writes_of m trace.notes x.cell) ≡ true = wrote_same m k old trace right x.cell x.from (next_checkpoint k x.from) within ∙ true_from_ne_false (some_from x.from (next_checkpoint k x.from) (writes_of m (foot_at m old) x.cell)) (λ e. true≢false (sym s ∙ none_from x.from (next_checkpoint k x.from) (touches_of m (foot_at m old) x.cell) (reach m x old new (k * trace.count) turns (next_checkpoint k x.from) l within e))) in
+        let w : some_from x.from (next_checkpoint k x.from) (writes_of m trace.notes x.cell) ≡ true = wrote_same m k old trace right x.cell x.from (next_checkpoint k x.from) within ∙ true_from_ne_false (some_from x.from (next_checkpoint k x.from) (writes_of m (footprint_at m old) x.cell)) (λ e. true≢false (sym s ∙ none_from x.from (next_checkpoint k x.from) (touches_of m (footprint_at m old) x.cell) (reach m x old new (k * trace.count) turns (next_checkpoint k x.from) l within e))) in
         rw (w, le-leb (next_checkpoint k x.from) (k * trace.count) within, le-leb (next_checkpoint k x.from) x.last l, le-leb (suc x.from) (next_checkpoint k x.from) (next_above k x.from pos))
 
     third : (ltb x.last (next_checkpoint k x.from) ≡ true) × (not (some_from x.from x.last (writes_of m trace.notes x.cell)) ≡ true)
@@ -172,25 +173,25 @@ set_touched m x old new k trace pos right turns lo h s =
         let l : x.last < next_checkpoint k x.from = ltb-true x.last (next_checkpoint k x.from) p.0 in
         let u-r : x.last ≤ k * trace.count = (let b = within in omega arith) in
         let t-u : x.from ≤ x.last = (let b = turns.first-last in omega arith) in
-        let w : some_from x.from x.last (writes_of m (foot_at m old) x.cell) ≡ false = sym (wrote_same m k old trace right x.cell x.from x.last u-r) ∙ not-true (some_from x.from x.last (writes_of m trace.notes x.cell)) p.1 in
+        let w : some_from x.from x.last (writes_of m (footprint_at m old) x.cell) ≡ false = sym (wrote_same m k old trace right x.cell x.from x.last u-r) ∙ not-true (some_from x.from x.last (writes_of m trace.notes x.cell)) p.1 in
         right.kept x.last x.cell ∙ kept_touched
         m k (k * trace.count) old x.last x.cell
         (true_from_ne_false
-        (some_from x.last (next_checkpoint k x.last) (touches_of m (foot_at m old) x.cell))
-        (λ e. true≢false (sym s ∙ span_from-later k x.from x.last pos t-u l (touches_of m (foot_at m old) x.cell) (reach m x old new (k * trace.count) turns x.last (omega arith) u-r w) e)))
+        (some_from x.last (next_checkpoint k x.last) (touches_of m (footprint_at m old) x.cell))
+        (λ e. true≢false (sym s ∙ span_from-later k x.from x.last pos t-u l (touches_of m (footprint_at m old) x.cell) (reach m x old new (k * trace.count) turns x.last (omega arith) u-r w) e)))
 
 -- .. and where nothing does
 set_untouched : (m : Machine) → IsFramed m → (x : Shift m) (old new : Run m) (k : ℕ) (trace : Trace m) → 0 < k → IsTraceOf m k old trace
     → Turns m x old new (k * trace.count) → x.first ≡ suc x.from → x.from < k * trace.count
-    → some_from x.from (next_checkpoint k x.from) (touches_of m (foot_at m old) x.cell) ≡ false
+    → some_from x.from (next_checkpoint k x.from) (touches_of m (footprint_at m old) x.cell) ≡ false
     → kept_by_poke m k trace x.cell x.from x.last ≡ Some (m.get x.cell (state_at m old x.from))
 set_untouched m law x old new k trace pos right turns lo h s = go (cases_Bool (is_some (m.poke x.cell (old.events x.from)))) (cases_lt x.last (next_checkpoint k x.from))
   where
     within : next_checkpoint k x.from ≤ k * trace.count
     within = next_of_recorded k x.from trace.count pos h
 
-    quiet : (n : ℕ) → x.from ≤ n → n < next_checkpoint k x.from → touches_of m (foot_at m old) x.cell n ≡ false
-    quiet = none_at x.from (next_checkpoint k x.from) (touches_of m (foot_at m old) x.cell) s
+    quiet : (n : ℕ) → x.from ≤ n → n < next_checkpoint k x.from → touches_of m (footprint_at m old) x.cell n ≡ false
+    quiet = none_at x.from (next_checkpoint k x.from) (touches_of m (footprint_at m old) x.cell) s
 
     value : is_some (m.poke x.cell (old.events x.from)) ≡ false → (c : ℕ) → x.from ≤ c → c ≤ next_checkpoint k x.from → c ≤ x.last
         → m.get x.cell (state_at m old c) ≡ m.get x.cell (state_at m old x.from)
@@ -214,7 +215,7 @@ set_untouched m law x old new k trace pos right turns lo h s = go (cases_Bool (i
         (right.kept x.from x.cell ∙ kept_some m k (k * trace.count) old x.from x.cell h p s)
     go (inr p) (inl l) =
         let t-u : x.from ≤ x.last = (let b = turns.first-last in omega arith) in
-        let w : some_from x.from x.last (writes_of m trace.notes x.cell) ≡ false = wrote_same m k old trace right x.cell x.from x.last (let b = within in omega arith) ∙ none_from x.from x.last (writes_of m (foot_at m old) x.cell) (λ n b d. writes_from-touches m old x.cell n (quiet n b (omega arith))) in
+        let w : some_from x.from x.last (writes_of m trace.notes x.cell) ≡ false = wrote_same m k old trace right x.cell x.from x.last (let b = within in omega arith) ∙ none_from x.from x.last (writes_of m (footprint_at m old) x.cell) (λ n b d. writes_from-touches m old x.cell n (quiet n b (omega arith))) in
         let v = value p x.last t-u (omega arith) (omega arith) in
         choose_third
         (trace.kept x.from x.cell)
@@ -226,9 +227,9 @@ set_untouched m law x old new k trace pos right turns lo h s = go (cases_Bool (i
         (right.kept x.from x.cell ∙ kept_unpoked m k (k * trace.count) old x.from x.cell p)
         (not_patched m trace x.cell k x.from x.last (k * trace.count) l)
         (rw (lt-ltb x.last (next_checkpoint k x.from) l, w))
-        (right.kept x.last x.cell ∙ kept_some m k (k * trace.count) old x.last x.cell (let b = within in omega arith) (turns.poked (let b = within in omega arith)) (span_later k x.from x.last pos t-u l (touches_of m (foot_at m old) x.cell) s) ∙ ap Some v)
+        (right.kept x.last x.cell ∙ kept_some m k (k * trace.count) old x.last x.cell (let b = within in omega arith) (turns.poked (let b = within in omega arith)) (span_later k x.from x.last pos t-u l (touches_of m (footprint_at m old) x.cell) s) ∙ ap Some v)
     go (inr p) (inr l) =
-        let w : some_from x.from (next_checkpoint k x.from) (writes_of m trace.notes x.cell) ≡ false = wrote_same m k old trace right x.cell x.from (next_checkpoint k x.from) within ∙ none_from x.from (next_checkpoint k x.from) (writes_of m (foot_at m old) x.cell) (λ n b d. writes_from-touches m old x.cell n (quiet n b d)) in
+        let w : some_from x.from (next_checkpoint k x.from) (writes_of m trace.notes x.cell) ≡ false = wrote_same m k old trace right x.cell x.from (next_checkpoint k x.from) within ∙ none_from x.from (next_checkpoint k x.from) (writes_of m (footprint_at m old) x.cell) (λ n b d. writes_from-touches m old x.cell n (quiet n b d)) in
         let above = next_above k x.from pos in
         choose_second
         (trace.kept x.from x.cell)
@@ -258,12 +259,12 @@ kept_set m law x old new k trace pos right turns lo poked = go (cases_lt x.from 
         (right.kept x.from x.cell ∙ kept_late m k (k * trace.count) old x.from x.cell h)
         (rw (lt-leb (next_checkpoint k x.from) (k * trace.count) (let b = next_above k x.from pos in omega arith)))
         (λ w. z) ∙ sym (kept_late m k (k * trace.count) new x.from x.cell h)
-    go (inl h) = spans (cases_Bool (some_from x.from (next_checkpoint k x.from) (touches_of m (foot_at m old) x.cell)))
+    go (inl h) = spans (cases_Bool (some_from x.from (next_checkpoint k x.from) (touches_of m (footprint_at m old) x.cell)))
       where
-        span : some_from x.from (next_checkpoint k x.from) (touches_of m (foot_at m new) x.cell) ≡ some_from x.from (next_checkpoint k x.from) (touches_of m (foot_at m old) x.cell)
+        span : some_from x.from (next_checkpoint k x.from) (touches_of m (footprint_at m new) x.cell) ≡ some_from x.from (next_checkpoint k x.from) (touches_of m (footprint_at m old) x.cell)
         span = span_same m law x old new k trace.count pos turns x.cell x.from h
 
-        spans : (some_from x.from (next_checkpoint k x.from) (touches_of m (foot_at m old) x.cell) ≡ true) ⊎ (some_from x.from (next_checkpoint k x.from) (touches_of m (foot_at m old) x.cell) ≡ false)
+        spans : (some_from x.from (next_checkpoint k x.from) (touches_of m (footprint_at m old) x.cell) ≡ true) ⊎ (some_from x.from (next_checkpoint k x.from) (touches_of m (footprint_at m old) x.cell) ≡ false)
             → kept_by_poke m k trace x.cell x.from x.last ≡ kept_at m k new (k * trace.count) x.from x.cell
         spans (inl s) = set_touched m x old new k trace pos right turns lo h s ∙ sym (kept_touched m k (k * trace.count) new x.from x.cell (span ∙ s))
         spans (inr s) =

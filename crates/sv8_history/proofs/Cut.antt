@@ -1,10 +1,10 @@
 -- Traces that are cut, and traces that show the same.
 use Rattle.std.proofs.Common.{◌≡◌, ℕ, ◌*◌, ◌<◌, ◌≤◌, cond, ltb, None, ◌∙◌, arith, inl, inr, ◌⊎◌, lt-ltb, le-ltb, mul-le-mul_left}
 use Rattle.std.proofs.lemmas.Bool.{cases_lt}
-use Rattle.sv8_history.specs.Machine.{Machine, foot_at}
+use Rattle.sv8_history.specs.Machine.{Machine, footprint_at}
 use Rattle.sv8_history.specs.Trace.{kept_at}
 use Rattle.sv8_history.specs.Laws.{CutKeeps, AgreesKeeps}
-use Rattle.sv8_history.proofs.Feet.{foot_then}
+use Rattle.sv8_history.proofs.Footprints.{footprint_then}
 
 pub cut_keeps : (m : Machine) → CutKeeps m
 cut_keeps m k run trace count less right = record {
@@ -24,6 +24,6 @@ cut_keeps m k run trace count less right = record {
 pub agrees_keeps : (m : Machine) → AgreesKeeps m
 agrees_keeps m k run trace other same right = record {
   points = λ i l. let e = same.count in let h : i ≤ trace.count = rw (← e) l in same.points i h ∙ right.points i h;
-  notes = λ n l. let e = same.count in let h : n < k * trace.count = rw (← e) l in foot_then (other.notes n) (trace.notes n) (foot_at m run n) (same.notes n h) (right.notes n h);
+  notes = λ n l. let e = same.count in let h : n < k * trace.count = rw (← e) l in footprint_then (other.notes n) (trace.notes n) (footprint_at m run n) (same.notes n h) (right.notes n h);
   kept = λ n a. let e = same.count in rw e (same.kept n a ∙ right.kept n a);
 }

@@ -1,14 +1,14 @@
 -- An edit keeps the recorded run, and leaves as much of it as its first read allows.
 use Rattle.std.proofs.Common.{◌≡◌, ℕ, ◌*◌, ◌<◌, ◌≤◌, false, List, [], ◌∷◌, Option, Some, None, refl, ◌∙◌, mul-le-mul_left}
 use Rattle.std.proofs.lemmas.Bool.{or_parts}
-use Rattle.sv8_history.specs.Machine.{Machine, Run, foot_at}
+use Rattle.sv8_history.specs.Machine.{Machine, Run, footprint_at}
 use Rattle.sv8_history.specs.Framed.{IsFramed}
 use Rattle.sv8_history.specs.Trace.{Trace, IsTraceOf}
 use Rattle.sv8_history.specs.Changes.{Cause, Image, Poke, Clear, Change, IsChanged, IsEdited, IsFitting, IsApart, ArePlanned}
 use Rattle.sv8_history.specs.Reads.{reads_change, reads_edit, IsFirstRead, first_of_edit}
 use Rattle.sv8_history.specs.Patches.{count_after, cut, patch, patch_all}
 use Rattle.sv8_history.specs.Laws.{IsRightCount, EditCounts, EditKeeps}
-use Rattle.sv8_history.proofs.Feet.{edit_like}
+use Rattle.sv8_history.proofs.Footprints.{edit_like}
 use Rattle.sv8_history.proofs.Least.{right_count, cut_unread}
 use Rattle.sv8_history.proofs.Silent.{later_keeps}
 use Rattle.sv8_history.proofs.Cut.{cut_keeps}
@@ -33,7 +33,8 @@ patch_notes m k trace c = parts c.cause
         cleared None e = rw e (record { count = refl; notes = refl })
         cleared (Some v) e = rw e (record { count = refl; notes = refl })
 
-patched_plan : (m : Machine) → IsFramed m → (k : ℕ) (old mid : Run m) (trace : Trace m) (c : Change m) (cs : List (Change m)) → m.Has c.cell old.start × IsFitting m c
+patched_plan : (m : Machine) → IsFramed m → (k : ℕ) (old mid : Run m) (trace : Trace m) (c : Change m) (cs : List (Change m))
+    → m.Has c.cell old.start × IsFitting m c
     → IsApart m c.cell cs → ArePlanned m old (k * trace.count) cs → IsChanged m c old mid → ArePlanned m mid (k * (patch m k trace c).count) cs
 patched_plan m law k old mid trace c cs fits apart plan change =
     let p = patch_notes m k trace c in
@@ -65,7 +66,7 @@ patches_keep m law k pos old new trace (c ∷ cs) right plan edit quiet =
 first_read_cuts : (m : Machine) (k : ℕ) → 0 < k → (run : Run m) (trace : Trace m) (cs : List (Change m)) → IsTraceOf m k run trace
     → IsRightCount k trace.count (count_after k trace.count (first_of_edit m k trace cs)) (IsFirstRead m run cs)
 first_read_cuts m k pos run trace cs right =
-    right_count k trace.count pos (reads_edit m trace.notes cs) (reads_edit m (foot_at m run) cs) (edit_like m trace.notes (foot_at m run) (k * trace.count) right.notes cs)
+    right_count k trace.count pos (reads_edit m trace.notes cs) (reads_edit m (footprint_at m run) cs) (edit_like m trace.notes (footprint_at m run) (k * trace.count) right.notes cs)
 
 patches_count : (m : Machine) (k : ℕ) (trace : Trace m) (cs : List (Change m)) → (patch_all m k trace cs).count ≡ trace.count
 patches_count m k trace [] = refl

@@ -1,15 +1,15 @@
 -- The events of the small machine's runs.
 use Rattle.std.proofs.Common.{◌≡◌, ℕ, ◌==◌, List, [], ◌∷◌, Bool, true, false, cond, leb, Some, None, refl, ne_eqb}
 use Rattle.std.proofs.lemmas.Bool.{lt-leb, true≢false}
-use Rattle.sv8_history.specs.Machine.{Machine, Run, foot_at}
+use Rattle.sv8_history.specs.Machine.{Machine, Run, footprint_at}
 use Rattle.sv8_history.specs.Trace.{IsTraceOf, trace_of}
 use Rattle.sv8_history.specs.Input.{IsRefed}
 use Rattle.sv8_history.specs.Toy.{Code, idle, load, store, take_byte, ask, State, Event, high_byte, low_byte, level, poke_of, execute, takes_input, toy}
 use Rattle.sv8_history.specs.Runs.{nothing, pokes, first_run, at, fed_at}
-use Rattle.sv8_history.proofs.Feet.{foot_same}
+use Rattle.sv8_history.proofs.Footprints.{footprint_same}
 
 pub traced : (m : Machine) (k : ℕ) (run : Run m) (count : ℕ) → IsTraceOf m k run (trace_of m k run count)
-traced m k run count = record { points = λ i l. refl; notes = λ n l. foot_same (foot_at m run n); kept = λ n a. refl }
+traced m k run count = record { points = λ i l. refl; notes = λ n l. footprint_same (footprint_at m run n); kept = λ n a. refl }
 
 -- ---- two runs that differ in the event of one step
 

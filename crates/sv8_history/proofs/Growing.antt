@@ -1,11 +1,11 @@
 -- New and extended traces, and queries.
 use Rattle.std.proofs.Common.{◌≡◌, ℕ, zero, suc, ◌+◌, ◌-◌, ◌*◌, ◌/◌, ◌<◌, ◌≤◌, Bool, not, ◌&&◌, cond, ltb, Option, Some, None, is_some, ◌∙◌, ap, arith, inl, inr, ◌⊎◌, lt-ltb, le-ltb, mul-le-mul_left, min, div-mul-le_self, mul_comm}
 use Rattle.std.proofs.lemmas.Bool.{cases_lt}
-use Rattle.sv8_history.specs.Machine.{SameFoot, Machine, Run, state_at, foot_at, touches_of}
+use Rattle.sv8_history.specs.Machine.{SameFootprint, Machine, Run, state_at, footprint_at, touches_of}
 use Rattle.sv8_history.specs.Trace.{Trace, IsTraceOf, some_from, next_checkpoint, kept_at}
 use Rattle.sv8_history.specs.Growing.{steps_from, state_after, notes_after, kept_after, restored}
 use Rattle.sv8_history.specs.Laws.{NewTrace, ExtendKeeps, RestoreGives, QueryWork}
-use Rattle.sv8_history.proofs.Feet.{foot_same, touches_like}
+use Rattle.sv8_history.proofs.Footprints.{footprint_same, touches_like}
 use Rattle.sv8_history.proofs.Spans.{some_from-like}
 
 pub new_trace_is : (m : Machine) → NewTrace m
@@ -37,12 +37,13 @@ cond_lt n r x y z p q = go (cases_lt n r)
     go (inl l) = rw (lt-ltb n r l) (p l)
     go (inr l) = rw (le-ltb n r l) (q l)
 
-notes_run : (m : Machine) (k : ℕ) (run : Run m) (trace : Trace m) → IsTraceOf m k run trace → (n : ℕ) → SameFoot (notes_after m k run trace n) (foot_at m run n)
+notes_run : (m : Machine) (k : ℕ) (run : Run m) (trace : Trace m) → IsTraceOf m k run trace → (n : ℕ)
+    → SameFootprint (notes_after m k run trace n) (footprint_at m run n)
 notes_run m k run trace right n = go (cases_lt n (k * trace.count))
   where
-    go : (n < k * trace.count) ⊎ (k * trace.count ≤ n) → SameFoot (notes_after m k run trace n) (foot_at m run n)
+    go : (n < k * trace.count) ⊎ (k * trace.count ≤ n) → SameFootprint (notes_after m k run trace n) (footprint_at m run n)
     go (inl l) = rw (lt-ltb n (k * trace.count) l) (right.notes n l)
-    go (inr l) = let e = after_run m k run trace right n l in rw (le-ltb n (k * trace.count) l, e) (foot_same (foot_at m run n))
+    go (inr l) = let e = after_run m k run trace right n l in rw (le-ltb n (k * trace.count) l, e) (footprint_same (footprint_at m run n))
 
 -- a value kept by what was on record stays kept
 kept_more : (m : Machine) (k r q : ℕ) (run : Run m) (n : ℕ) (a : m.Cell) → n < r → r ≤ q → kept_at m k run r n a ≡ kept_at m k run q n a
@@ -56,7 +57,7 @@ kept_run : (m : Machine) (k : ℕ) → 0 < k → (run : Run m) (trace : Trace m)
 kept_run m k pos run trace right n a =
     cond_lt n (k * trace.count) (trace.kept n a) new (kept_at m k run (k * suc trace.count) n a)
     (λ l. right.kept n a ∙ kept_more m k (k * trace.count) (k * suc trace.count) run n a l (mul-le-mul_left k (omega arith)))
-    (λ l. cond_kept (ltb n (k * suc trace.count)) (is_some (m.poke a (run.events n))) (some_from n (next_checkpoint k n) notes) (some_from n (next_checkpoint k n) (touches_of m (foot_at m run) a)) (m.get a (state_after m k run trace n)) (m.get a (state_at m run n)) (some_from-like n (next_checkpoint k n) notes (touches_of m (foot_at m run) a) (λ j d. touches_like m (notes_after m k run trace) (foot_at m run) (suc j) (λ i b. notes_run m k run trace right i) a j (omega arith))) (ap (m.get a) (after_run m k run trace right n l)))
+    (λ l. cond_kept (ltb n (k * suc trace.count)) (is_some (m.poke a (run.events n))) (some_from n (next_checkpoint k n) notes) (some_from n (next_checkpoint k n) (touches_of m (footprint_at m run) a)) (m.get a (state_after m k run trace n)) (m.get a (state_at m run n)) (some_from-like n (next_checkpoint k n) notes (touches_of m (footprint_at m run) a) (λ j d. touches_like m (notes_after m k run trace) (footprint_at m run) (suc j) (λ i b. notes_run m k run trace right i) a j (omega arith))) (ap (m.get a) (after_run m k run trace right n l)))
   where
     notes : ℕ → Bool
     notes = touches_of m (notes_after m k run trace) a

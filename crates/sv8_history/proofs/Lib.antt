@@ -1,6 +1,6 @@
 pub mod Spans
 pub mod Least
-pub mod Feet
+pub mod Footprints
 pub mod Spread
 pub mod Kept
 pub mod Silent

@@ -1,9 +1,9 @@
 -- The edits of the small machine's run, in numbers.
 use Rattle.std.proofs.Common.{◌≡◌, ℕ, ◌<◌, ◌≤◌, true, false, Some, None, is_some, refl, sym, ◌∙◌, ap, arith}
-use Rattle.sv8_history.specs.Machine.{Run, state_at, foot_at}
+use Rattle.sv8_history.specs.Machine.{Run, state_at, footprint_at}
 use Rattle.sv8_history.specs.Trace.{trace_of}
 use Rattle.sv8_history.specs.Changes.{IsNextEvent, IsEdited, ArePlanned, with_changes}
-use Rattle.sv8_history.specs.Laws.{SameFeet}
+use Rattle.sv8_history.specs.Laws.{SameFootprints}
 use Rattle.sv8_history.specs.Reads.{reads_change, reads_edit, IsFirstRead, AreWords}
 use Rattle.sv8_history.specs.Toy.{high_byte, low_byte, level, poke_of, toy}
 use Rattle.sv8_history.specs.Runs.{nothing, pokes, first_run, plain_run, first_trace}
@@ -54,8 +54,8 @@ word_poke_worked = record {
   kept_next = refl;
 }
 
-word_quiet : (n : ℕ) → n < 5 → reads_edit toy (foot_at toy first_run) word_poke n ≡ false
-word_quiet = found 5 (reads_edit toy (foot_at toy first_run) word_poke)
+word_quiet : (n : ℕ) → n < 5 → reads_edit toy (footprint_at toy first_run) word_poke n ≡ false
+word_quiet = found 5 (reads_edit toy (footprint_at toy first_run) word_poke)
 
 word_planned_to : (r : ℕ) → r ≤ 8 → ArePlanned toy first_run r word_poke
 word_planned_to r l = (
@@ -96,7 +96,7 @@ word_poke_laws = record {
   found = refl;
 }
   where
-    agrees : ((n : ℕ) → n ≤ 5 → state_at toy word_run n ≡ with_changes toy first_run word_poke n (state_at toy first_run n)) × SameFeet toy first_run word_run 5
+    agrees : ((n : ℕ) → n ≤ 5 → state_at toy word_run n ≡ with_changes toy first_run word_poke n (state_at toy first_run n)) × SameFootprints toy first_run word_run 5
     agrees = unread_agrees toy toy_framed first_run word_run word_poke 5 (word_planned_to 5 (omega arith)) word_edit word_quiet
 
 -- ---- it is cleared

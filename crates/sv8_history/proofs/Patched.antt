@@ -1,14 +1,14 @@
 -- A patch keeps the recorded run.
 use Rattle.std.proofs.Common.{◌≡◌, ℕ, suc, ◌*◌, ◌<◌, ◌≤◌, ◌==◌, Bool, true, false, not, ◌&&◌, cond, ltb, Option, Some, None, is_some, refl, sym, ◌∙◌, ap, ap₂, subst, arith, inl, inr, ◌⊎◌, le-leb, mul-le-mul_left, eq-eqb, ne_eqb}
 use Rattle.std.proofs.lemmas.Bool.{cases_lt, cases_Bool, cases_eq, lt-leb, true_from_ne_false, true≢false}
-use Rattle.sv8_history.specs.Machine.{Machine, Run, state_at, foot_at, writes_of, touches_of}
+use Rattle.sv8_history.specs.Machine.{Machine, Run, state_at, footprint_at, writes_of, touches_of}
 use Rattle.sv8_history.specs.Framed.{IsFramed}
 use Rattle.sv8_history.specs.Trace.{some_from, next_checkpoint, kept_at, Trace, IsTraceOf, Agrees}
 use Rattle.sv8_history.specs.Changes.{Cause, Image, Poke, Clear, IsRepoked, IsChanged, is_live}
 use Rattle.sv8_history.specs.Patches.{patched_point, kept_at_end, kept_by_poke, spread, keeping, uncover, patch}
 use Rattle.sv8_history.specs.Laws.{PatchKeeps}
-use Rattle.sv8_history.proofs.Feet.{foot_same, foot_then, foot_back, change_like}
-use Rattle.sv8_history.proofs.Spread.{Shift, Turns, mixed, same_feet}
+use Rattle.sv8_history.proofs.Footprints.{footprint_same, footprint_then, footprint_back, change_like}
+use Rattle.sv8_history.proofs.Spread.{Shift, Turns, mixed, same_footprints}
 use Rattle.sv8_history.proofs.Spans.{none_from, next_of_point}
 use Rattle.sv8_history.proofs.Kept.{reach, kept_other, kept_elsewhere}
 use Rattle.sv8_history.proofs.Below.{kept_late, kept_touched, kept_unpoked, kept_some, wrote_same, cond_twice, kept_end, span_from-later, kept_set}
@@ -27,7 +27,7 @@ patched m law x old new k trace right turns kept keeps = record {
       let w = wrote_same m k old trace right x.cell x.from (k * i) l in
       let p = right.points i h in
       rw (w, p) (sym (mixed m law x old new (k * trace.count) turns (k * i) l));
-  notes = λ n h. foot_then (trace.notes n) (foot_at m old n) (foot_at m new n) (right.notes n h) (foot_back (foot_at m new n) (foot_at m old n) (same_feet m law x old new (k * trace.count) turns n h));
+  notes = λ n h. footprint_then (trace.notes n) (footprint_at m old n) (footprint_at m new n) (right.notes n h) (footprint_back (footprint_at m new n) (footprint_at m old n) (same_footprints m law x old new (k * trace.count) turns n h));
   kept = keeps;
 }
 
@@ -96,7 +96,7 @@ event_keeps m law x old new k trace pos right turns p edit q below =
 
 -- the value below a poke that is kept
 kept_value : (m : Machine) (k r : ℕ) (run : Run m) (n : ℕ) (a : m.Cell) (v : m.Value) → kept_at m k run r n a ≡ Some v → v ≡ m.get a (state_at m run n)
-kept_value m k r run n a v e = go (ltb n r && is_some (m.poke a (run.events n)) && not (some_from n (next_checkpoint k n) (touches_of m (foot_at m run) a))) e
+kept_value m k r run n a v e = go (ltb n r && is_some (m.poke a (run.events n)) && not (some_from n (next_checkpoint k n) (touches_of m (footprint_at m run) a))) e
   where
     go : (b : Bool) → cond b (Some (m.get a (state_at m run n))) None ≡ Some v → v ≡ m.get a (state_at m run n)
     go true h = cc
@@ -112,7 +112,7 @@ idle_agrees m law x old new k trace pos right turns next poked idle = record {
       let dead = not_live i (mul-le-mul_left k l) (cases_lt (k * i) x.first) (cases_lt x.last (k * i)) in
       let w = wrote_same m k old trace right x.cell x.from (k * i) (mul-le-mul_left k l) in
       rw (w, dead);
-  notes = λ n l. foot_same (trace.notes n);
+  notes = λ n l. footprint_same (trace.notes n);
   kept = λ n b. sym
       (at_cell
       m law x.cell b n x.from None
@@ -123,27 +123,27 @@ idle_agrees m law x old new k trace pos right turns next poked idle = record {
       m law x.cell b n x.last
       (kept_at_end m trace x.cell x.value x.from x.last)
       trace.kept trace.kept
-      (sym (end (cases_lt x.last (k * trace.count)) (cases_Bool (some_from x.from x.last (writes_of m (foot_at m old) x.cell))) (cases_lt x.last (next_checkpoint k x.from))))
+      (sym (end (cases_lt x.last (k * trace.count)) (cases_Bool (some_from x.from x.last (writes_of m (footprint_at m old) x.cell))) (cases_lt x.last (next_checkpoint k x.from))))
       (λ h. refl)));
 }
   where
-    touched : x.from < k * trace.count → some_from x.from (next_checkpoint k x.from) (touches_of m (foot_at m old) x.cell) ≡ true
+    touched : x.from < k * trace.count → some_from x.from (next_checkpoint k x.from) (touches_of m (footprint_at m old) x.cell) ≡ true
     touched h =
         true_from_ne_false
-        (some_from x.from (next_checkpoint k x.from) (touches_of m (foot_at m old) x.cell))
+        (some_from x.from (next_checkpoint k x.from) (touches_of m (footprint_at m old) x.cell))
         (λ e. let p = kept_some m k (k * trace.count) old x.from x.cell h poked e in let q = right.kept x.from x.cell in cc)
 
     wrote : (c : ℕ) → x.from < c → next_checkpoint k x.from ≤ c → c ≤ x.last → c ≤ k * trace.count
-        → some_from x.from c (writes_of m (foot_at m old) x.cell) ≡ true
+        → some_from x.from c (writes_of m (footprint_at m old) x.cell) ≡ true
     wrote c from-c next-c c-last c-r =
         true_from_ne_false
-        (some_from x.from c (writes_of m (foot_at m old) x.cell))
+        (some_from x.from c (writes_of m (footprint_at m old) x.cell))
         (λ e.
-        let q = none_from x.from (next_checkpoint k x.from) (touches_of m (foot_at m old) x.cell) (λ n b d. reach m x old new (k * trace.count) turns c c-last c-r e n b (omega arith)) in
+        let q = none_from x.from (next_checkpoint k x.from) (touches_of m (footprint_at m old) x.cell) (λ n b d. reach m x old new (k * trace.count) turns c c-last c-r e n b (omega arith)) in
         true≢false (sym (touched (omega arith)) ∙ q))
 
     not_live : (i : ℕ) → k * i ≤ k * trace.count → (k * i < x.first) ⊎ (x.first ≤ k * i) → (x.last < k * i) ⊎ (k * i ≤ x.last)
-        → is_live (writes_of m (foot_at m old) x.cell) x.from x.first x.last (k * i) ≡ false
+        → is_live (writes_of m (footprint_at m old) x.cell) x.from x.first x.last (k * i) ≡ false
     not_live i l (inl h) b = rw (lt-leb x.first (k * i) h)
     not_live i l (inr h) (inl b) = rw (le-leb x.first (k * i) h, lt-leb (k * i) x.last b)
     not_live i l (inr h) (inr b) =
@@ -152,7 +152,7 @@ idle_agrees m law x old new k trace pos right turns next poked idle = record {
         rw (le-leb x.first (k * i) h, le-leb (k * i) x.last b, w)
 
     end : (x.last < k * trace.count) ⊎ (k * trace.count ≤ x.last)
-        → (some_from x.from x.last (writes_of m (foot_at m old) x.cell) ≡ true) ⊎ (some_from x.from x.last (writes_of m (foot_at m old) x.cell) ≡ false)
+        → (some_from x.from x.last (writes_of m (footprint_at m old) x.cell) ≡ true) ⊎ (some_from x.from x.last (writes_of m (footprint_at m old) x.cell) ≡ false)
         → (x.last < next_checkpoint k x.from) ⊎ (next_checkpoint k x.from ≤ x.last)
         → trace.kept x.last x.cell ≡ kept_at_end m trace x.cell x.value x.from x.last
     end (inr h) b c =
@@ -165,7 +165,7 @@ idle_agrees m law x old new k trace pos right turns next poked idle = record {
         let q = turns.first-last in
         let from-last : x.from ≤ x.last = omega (arith, q, next) in
         let recorded : x.from < k * trace.count = omega (arith, from-last, h) in
-        let e : trace.kept x.last x.cell ≡ None = right.kept x.last x.cell ∙ kept_touched m k (k * trace.count) old x.last x.cell (true_from_ne_false (some_from x.last (next_checkpoint k x.last) (touches_of m (foot_at m old) x.cell)) (λ f. true≢false (sym (touched recorded) ∙ span_from-later k x.from x.last pos from-last c (touches_of m (foot_at m old) x.cell) below f))) in
+        let e : trace.kept x.last x.cell ≡ None = right.kept x.last x.cell ∙ kept_touched m k (k * trace.count) old x.last x.cell (true_from_ne_false (some_from x.last (next_checkpoint k x.last) (touches_of m (footprint_at m old) x.cell)) (λ f. true≢false (sym (touched recorded) ∙ span_from-later k x.from x.last pos from-last c (touches_of m (footprint_at m old) x.cell) below f))) in
         rw (w, e)
     end (inl h) (inr b) (inr c) =
         let q = turns.first-last in
@@ -199,7 +199,7 @@ pub patch_keeps : (m : Machine) → PatchKeeps m
 patch_keeps m law k pos old new trace c right plan change unread = parts c.cell c.from c.to c.cause change turns
   where
     turns : Turns m (shift_of m old c) old new (k * trace.count)
-    turns = turns_of m law old new (k * trace.count) c plan change (λ n l. sym (change_like m trace.notes (foot_at m old) (k * trace.count) right.notes c n l) ∙ unread n l)
+    turns = turns_of m law old new (k * trace.count) c plan change (λ n l. sym (change_like m trace.notes (footprint_at m old) (k * trace.count) right.notes c n l) ∙ unread n l)
 
     parts : (a : m.Cell) (t u : ℕ) (d : Cause m.Value) → IsChanged m (record { cell = a; from = t; to = u; cause = d }) old new
         → Turns m (shift_of m old (record { cell = a; from = t; to = u; cause = d })) old new (k * trace.count)

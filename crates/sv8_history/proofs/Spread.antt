@@ -1,11 +1,11 @@
 -- How far a change of one cell spreads: the states and footprints of the run with it, beside those of the run without.
 use Rattle.std.proofs.Common.{◌≡◌, ℕ, zero, suc, ◌<◌, ◌≤◌, Bool, true, false, not, ◌&&◌, ◌||◌, cond, leb, Option, Some, None, is_some, refl, ◌∙◌, ap, subst, arith, inl, inr, ◌⊎◌, le-leb}
 use Rattle.std.proofs.lemmas.Bool.{cases_lt, cases_order, lt-leb, true≢false}
-use Rattle.sv8_history.specs.Machine.{SameFoot, Machine, Run, state_at, foot_at, reads_of, writes_of}
+use Rattle.sv8_history.specs.Machine.{SameFootprint, Machine, Run, state_at, footprint_at, reads_of, writes_of}
 use Rattle.sv8_history.specs.Framed.{IsFramed}
 use Rattle.sv8_history.specs.Changes.{is_live}
 use Rattle.sv8_history.specs.Trace.{some_from}
-use Rattle.sv8_history.proofs.Feet.{foot_same}
+use Rattle.sv8_history.proofs.Footprints.{footprint_same}
 
 -- A change of the cell to the value, of a cause at step `from`, that the states from `first` to `last` can show.
 pub record Shift (m : Machine) : Type 0 where
@@ -23,18 +23,18 @@ pub record Turns (m : Machine) (x : Shift m) (old new : Run m) (r : ℕ) : Type 
   pub first-last : x.first ≤ x.last
   -- before `first` the runs are one, with one footprint
   pub before : (n : ℕ) → n < x.first → state_at m new n ≡ state_at m old n
-  pub foot_before : (n : ℕ) → n < x.first → n < r → SameFoot (foot_at m new n) (foot_at m old n)
+  pub footprint_before : (n : ℕ) → n < x.first → n < r → SameFootprint (footprint_at m new n) (footprint_at m old n)
   pub base : x.first ≤ r
-      → state_at m new x.first ≡ cond (some_from x.from x.first (writes_of m (foot_at m old) x.cell)) (state_at m old x.first) (m.put x.cell x.value (state_at m old x.first))
+      → state_at m new x.first ≡ cond (some_from x.from x.first (writes_of m (footprint_at m old) x.cell)) (state_at m old x.first) (m.put x.cell x.value (state_at m old x.first))
   pub same_events : (n : ℕ) → x.first ≤ n → new.events n ≡ old.events n
   pub unpoked : (n : ℕ) → x.first ≤ n → n < x.last → m.poke x.cell (old.events n) ≡ None
   pub poked : x.last < r → is_some (m.poke x.cell (old.events x.last)) ≡ true
-  pub unread : (n : ℕ) → x.from ≤ n → n < x.last → n < r → some_from x.from n (writes_of m (foot_at m old) x.cell) ≡ false
-      → reads_of m (foot_at m old) x.cell n ≡ false
+  pub unread : (n : ℕ) → x.from ≤ n → n < x.last → n < r → some_from x.from n (writes_of m (footprint_at m old) x.cell) ≡ false
+      → reads_of m (footprint_at m old) x.cell n ≡ false
 
 -- the state of the changed run, as long as the change lasts
 abbrev pub Mix : (m : Machine) → Shift m → Run m → Run m → ℕ → Type 0
-Mix m x old new n = state_at m new n ≡ cond (some_from x.from n (writes_of m (foot_at m old) x.cell)) (state_at m old n) (m.put x.cell x.value (state_at m old n))
+Mix m x old new n = state_at m new n ≡ cond (some_from x.from n (writes_of m (footprint_at m old) x.cell)) (state_at m old n) (m.put x.cell x.value (state_at m old n))
 
 pub has_at : (m : Machine) → IsFramed m → (a : m.Cell) (run : Run m) → m.Has a run.start → (n : ℕ) → m.Has a (state_at m run n)
 has_at m law a run h zero = h
@@ -42,15 +42,15 @@ has_at m law a run h (suc n) = law.cells.has_step a (run.events n) (state_at m r
 
 -- one quiet step
 pub quiet_step : (m : Machine) → IsFramed m → (a : m.Cell) (v : m.Value) (e : m.Event) (s : m.State) → m.Has a s → m.Fits a v → m.poke a e ≡ None
-    → (m.foot e s).reads a ≡ false → m.step e (m.put a v s) ≡ cond ((m.foot e s).writes a) (m.step e s) (m.put a v (m.step e s))
+    → (m.footprint e s).reads a ≡ false → m.step e (m.put a v s) ≡ cond ((m.footprint e s).writes a) (m.step e s) (m.put a v (m.step e s))
 quiet_step m law a v e s has fits no_poke no_read =
     let q = law.quiet a v e e s has fits (law.events.alike_self a e) no_read in
     rw no_poke at q
 
 -- one step of the mixture, from a state that the change was written over in, or not
 mix_step : (m : Machine) → IsFramed m → (a : m.Cell) (v : m.Value) (e f : m.Event) (s r : m.State) (wrote within : Bool) → m.Has a s → m.Fits a v
-    → f ≡ e → within ≡ true → r ≡ cond wrote s (m.put a v s) → m.poke a e ≡ None → (wrote ≡ false → (m.foot e s).reads a ≡ false)
-    → m.step f r ≡ cond (wrote || within && (m.foot e s).writes a) (m.step e s) (m.put a v (m.step e s))
+    → f ≡ e → within ≡ true → r ≡ cond wrote s (m.put a v s) → m.poke a e ≡ None → (wrote ≡ false → (m.footprint e s).reads a ≡ false)
+    → m.step f r ≡ cond (wrote || within && (m.footprint e s).writes a) (m.step e s) (m.put a v (m.step e s))
 mix_step m law a v e f s r true within has fits same w is no_poke no_read = rw same (ap (m.step e) is)
 mix_step m law a v e f s r false within has fits same w is no_poke no_read =
     rw (same, w) (ap (m.step e) is ∙ quiet_step m law a v e s has fits no_poke (no_read refl))
@@ -65,7 +65,7 @@ during m law x old new r turns (suc n) lo-n n-u n-r = go (during m law x old new
     go rest (inl h) = let e : x.first ≡ suc n = omega arith in subst (λ k. Mix m x old new k) e (turns.base (omega arith))
     go rest (inr h) =
         mix_step
-        m law x.cell x.value (old.events n) (new.events n) (state_at m old n) (state_at m new n) (some_from x.from n (writes_of m (foot_at m old) x.cell)) (leb x.from n) (has_at m law x.cell old turns.has n) turns.fits
+        m law x.cell x.value (old.events n) (new.events n) (state_at m old n) (state_at m new n) (some_from x.from n (writes_of m (footprint_at m old) x.cell)) (leb x.from n) (has_at m law x.cell old turns.has n) turns.fits
         (turns.same_events n h)
         (le-leb x.from n (let a = turns.from-first in omega arith))
         (rest h (omega arith) (omega arith))
@@ -97,66 +97,66 @@ after m law x old new r turns (suc n) u-n n-r = go (after m law x old new r turn
         let l : x.first ≤ n = (let a = turns.first-last in omega arith) in
         let p : is_some (m.poke x.cell (old.events n)) ≡ true = rw e (turns.poked (omega arith)) in
         alike_step
-        m law x.cell x.value (old.events n) (new.events n) (state_at m old n) (state_at m new n) (some_from x.from n (writes_of m (foot_at m old) x.cell)) (has_at m law x.cell old turns.has n) turns.fits
+        m law x.cell x.value (old.events n) (new.events n) (state_at m old n) (state_at m new n) (some_from x.from n (writes_of m (footprint_at m old) x.cell)) (has_at m law x.cell old turns.has n) turns.fits
         (turns.same_events n l)
         (during m law x old new r turns n l h (omega arith))
         p
 
 -- the state of the changed run, anywhere
 pub mixed : (m : Machine) → IsFramed m → (x : Shift m) (old new : Run m) (r : ℕ) → Turns m x old new r → (n : ℕ) → n ≤ r
-    → state_at m new n ≡ cond (is_live (writes_of m (foot_at m old) x.cell) x.from x.first x.last n) (m.put x.cell x.value (state_at m old n)) (state_at m old n)
+    → state_at m new n ≡ cond (is_live (writes_of m (footprint_at m old) x.cell) x.from x.first x.last n) (m.put x.cell x.value (state_at m old n)) (state_at m old n)
 mixed m law x old new r turns n n-r = go (cases_lt n x.first) (cases_lt x.last n)
   where
     go : (n < x.first) ⊎ (x.first ≤ n) → (x.last < n) ⊎ (n ≤ x.last)
-        → state_at m new n ≡ cond (is_live (writes_of m (foot_at m old) x.cell) x.from x.first x.last n) (m.put x.cell x.value (state_at m old n)) (state_at m old n)
+        → state_at m new n ≡ cond (is_live (writes_of m (footprint_at m old) x.cell) x.from x.first x.last n) (m.put x.cell x.value (state_at m old n)) (state_at m old n)
     go (inl h) b = rw (lt-leb x.first n h) (turns.before n h)
     go (inr h) (inl k) = rw (le-leb x.first n h, lt-leb n x.last k) (after m law x old new r turns n k n-r)
-    go (inr h) (inr k) = rw (le-leb x.first n h, le-leb n x.last k) (turned (some_from x.from n (writes_of m (foot_at m old) x.cell)) (during m law x old new r turns n h k n-r))
+    go (inr h) (inr k) = rw (le-leb x.first n h, le-leb n x.last k) (turned (some_from x.from n (writes_of m (footprint_at m old) x.cell)) (during m law x old new r turns n h k n-r))
       where
         turned : (b : Bool) → state_at m new n ≡ cond b (state_at m old n) (m.put x.cell x.value (state_at m old n))
             → state_at m new n ≡ cond (not b) (m.put x.cell x.value (state_at m old n)) (state_at m old n)
         turned true e = e
         turned false e = e
 
-foot_step : (m : Machine) (a : m.Cell) (v : m.Value) (e f : m.Event) (s r : m.State) (wrote : Bool) → f ≡ e → r ≡ cond wrote s (m.put a v s)
-    → (wrote ≡ false → SameFoot (m.foot e (m.put a v s)) (m.foot e s)) → SameFoot (m.foot f r) (m.foot e s)
-foot_step m a v e f s r true same is h = rw (same, is) (foot_same (m.foot e s))
-foot_step m a v e f s r false same is h = rw (same, is) (h refl)
+footprint_step : (m : Machine) (a : m.Cell) (v : m.Value) (e f : m.Event) (s r : m.State) (wrote : Bool) → f ≡ e → r ≡ cond wrote s (m.put a v s)
+    → (wrote ≡ false → SameFootprint (m.footprint e (m.put a v s)) (m.footprint e s)) → SameFootprint (m.footprint f r) (m.footprint e s)
+footprint_step m a v e f s r true same is h = rw (same, is) (footprint_same (m.footprint e s))
+footprint_step m a v e f s r false same is h = rw (same, is) (h refl)
 
-quiet_foot_step : (m : Machine) → IsFramed m → (a : m.Cell) (v : m.Value) (e : m.Event) (s : m.State) → m.Has a s → m.Fits a v
-    → (m.foot e s).reads a ≡ false → SameFoot (m.foot e (m.put a v s)) (m.foot e s)
-quiet_foot_step m law a v e s has fits no_read =
-    law.quiet_foot a v e e s has fits (law.events.alike_self a e) no_read
+quiet_footprint_step : (m : Machine) → IsFramed m → (a : m.Cell) (v : m.Value) (e : m.Event) (s : m.State) → m.Has a s → m.Fits a v
+    → (m.footprint e s).reads a ≡ false → SameFootprint (m.footprint e (m.put a v s)) (m.footprint e s)
+quiet_footprint_step m law a v e s has fits no_read =
+    law.quiet_footprint a v e e s has fits (law.events.alike_self a e) no_read
 
-alike_foot_step : (m : Machine) → IsFramed m → (a : m.Cell) (v : m.Value) (e : m.Event) (s : m.State) → m.Has a s → m.Fits a v
-    → is_some (m.poke a e) ≡ true → SameFoot (m.foot e (m.put a v s)) (m.foot e s)
-alike_foot_step m law a v e s has fits poked = go (m.poke a e) refl poked
+alike_footprint_step : (m : Machine) → IsFramed m → (a : m.Cell) (v : m.Value) (e : m.Event) (s : m.State) → m.Has a s → m.Fits a v
+    → is_some (m.poke a e) ≡ true → SameFootprint (m.footprint e (m.put a v s)) (m.footprint e s)
+alike_footprint_step m law a v e s has fits poked = go (m.poke a e) refl poked
   where
-    go : (p : Option m.Value) → m.poke a e ≡ p → is_some p ≡ true → SameFoot (m.foot e (m.put a v s)) (m.foot e s)
+    go : (p : Option m.Value) → m.poke a e ≡ p → is_some p ≡ true → SameFootprint (m.footprint e (m.put a v s)) (m.footprint e s)
     go None q h = cc
-    go (Some w) q h = law.alike_foot a w v e s has fits q
+    go (Some w) q h = law.alike_footprint a w v e s has fits q
 
 -- the footprints of the two runs are one
-pub same_feet : (m : Machine) → IsFramed m → (x : Shift m) (old new : Run m) (r : ℕ) → Turns m x old new r → (n : ℕ) → n < r
-    → SameFoot (foot_at m new n) (foot_at m old n)
-same_feet m law x old new r turns n n-r = go (cases_lt n x.first) (cases_order n x.last)
+pub same_footprints : (m : Machine) → IsFramed m → (x : Shift m) (old new : Run m) (r : ℕ) → Turns m x old new r → (n : ℕ) → n < r
+    → SameFootprint (footprint_at m new n) (footprint_at m old n)
+same_footprints m law x old new r turns n n-r = go (cases_lt n x.first) (cases_order n x.last)
   where
-    go : (n < x.first) ⊎ (x.first ≤ n) → (n ≡ x.last) ⊎ ((n < x.last) ⊎ (x.last < n)) → SameFoot (foot_at m new n) (foot_at m old n)
-    go (inl h) b = turns.foot_before n h n-r
+    go : (n < x.first) ⊎ (x.first ≤ n) → (n ≡ x.last) ⊎ ((n < x.last) ⊎ (x.last < n)) → SameFootprint (footprint_at m new n) (footprint_at m old n)
+    go (inl h) b = turns.footprint_before n h n-r
     go (inr h) (inl k) =
-        foot_step
-        m x.cell x.value (old.events n) (new.events n) (state_at m old n) (state_at m new n) (some_from x.from n (writes_of m (foot_at m old) x.cell))
+        footprint_step
+        m x.cell x.value (old.events n) (new.events n) (state_at m old n) (state_at m new n) (some_from x.from n (writes_of m (footprint_at m old) x.cell))
         (turns.same_events n h)
         (during m law x old new r turns n h (omega arith) (omega arith))
-        (λ w. alike_foot_step m law x.cell x.value (old.events n) (state_at m old n) (has_at m law x.cell old turns.has n) turns.fits (rw k (turns.poked (omega arith))))
+        (λ w. alike_footprint_step m law x.cell x.value (old.events n) (state_at m old n) (has_at m law x.cell old turns.has n) turns.fits (rw k (turns.poked (omega arith))))
     go (inr h) (inr (inl k)) =
-        foot_step
-        m x.cell x.value (old.events n) (new.events n) (state_at m old n) (state_at m new n) (some_from x.from n (writes_of m (foot_at m old) x.cell))
+        footprint_step
+        m x.cell x.value (old.events n) (new.events n) (state_at m old n) (state_at m new n) (some_from x.from n (writes_of m (footprint_at m old) x.cell))
         (turns.same_events n h)
         (during m law x old new r turns n h (omega arith) (omega arith))
-        (λ w. quiet_foot_step m law x.cell x.value (old.events n) (state_at m old n) (has_at m law x.cell old turns.has n) turns.fits (turns.unread n (let a = turns.from-first in omega arith) k n-r w))
+        (λ w. quiet_footprint_step m law x.cell x.value (old.events n) (state_at m old n) (has_at m law x.cell old turns.has n) turns.fits (turns.unread n (let a = turns.from-first in omega arith) k n-r w))
     go (inr h) (inr (inr k)) =
-        foot_step
+        footprint_step
         m x.cell x.value (old.events n) (new.events n) (state_at m old n) (state_at m new n) true
         (turns.same_events n h)
         (after m law x old new r turns n k (omega arith))

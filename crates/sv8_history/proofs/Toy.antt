@@ -1,10 +1,10 @@
 -- The small machine obeys the frame law.
 use Rattle.std.proofs.Common.{◌≡◌, ℕ, ◌==◌, List, Bool, true, false, ◌||◌, cond, Option, Some, None, unwrap_or, option_map, refl, sym, ◌∙◌, ap, subst}
 use Rattle.std.proofs.lemmas.Bool.{true≢false}
-use Rattle.sv8_history.specs.Machine.{SameFoot}
+use Rattle.sv8_history.specs.Machine.{SameFootprint}
 use Rattle.sv8_history.specs.Framed.{AreCells, AreEvents, IsFramed}
 use Rattle.sv8_history.specs.Acting.{IsActing}
-use Rattle.sv8_history.specs.Toy.{Code, idle, load, store, take_byte, ask, State, Event, Ready, come, code_of, tick, execute, act, Cell, high_byte, low_byte, level, Value, number, bit, number_of, bit_of, same_cell, fits, get_cell, put_cell, poke_of, alike_but, reads_word, writes_word, asks_level, takes_input, reads_cell, writes_cell, foot, toy, toy_parts}
+use Rattle.sv8_history.specs.Toy.{Code, idle, load, store, take_byte, ask, State, Event, Ready, come, code_of, tick, execute, act, Cell, high_byte, low_byte, level, Value, number, bit, number_of, bit_of, same_cell, fits, get_cell, put_cell, poke_of, alike_but, reads_word, writes_word, asks_level, takes_input, reads_cell, writes_cell, footprint, toy, toy_parts}
 use Rattle.sv8_history.proofs.Acting.{acting_frames}
 
 -- ---- cells
@@ -193,8 +193,8 @@ quiet level v r unread =
     own : cond (r.state.timer == 1) (record (act r) { pending = r.state.pending || r.state.timer == 1 }) (record (act r) { pending = bit_of v }) ≡ cond (r.state.timer == 1) (act r) (record (act r) { pending = bit_of v })
     own = ap (λ z. cond (r.state.timer == 1) z (record (act r) { pending = bit_of v })) (sym (quiet_pending (code_of r.state) r.delivered (tick r.state) (r.state.pending || r.state.timer == 1) unread))
 
-same_foot : (a : Cell) (v : Value) (s : State) → SameFoot (foot (put_cell a v s)) (foot s)
-same_foot a v s = record { reads = reads a; writes = writes a; takes = takes a }
+same_footprint : (a : Cell) (v : Value) (s : State) → SameFootprint (footprint (put_cell a v s)) (footprint s)
+same_footprint a v s = record { reads = reads a; writes = writes a; takes = takes a }
   where
     reads : (a b : Cell) → reads_cell (put_cell a v s) b ≡ reads_cell s b
     reads high_byte high_byte = refl
@@ -233,15 +233,15 @@ untaken ask bytes other s e = refl
 toy_acts : IsActing toy_parts
 toy_acts = record {
   step_is = λ e s. refl;
-  foot_is = λ e s. refl;
+  footprint_is = λ e s. refl;
   sound_come = λ e s sound. tt;
   has_come = λ a e s has. tt;
   comes = λ a v e f s has fit alike. comes a v e f s alike;
   delivers = λ e f s alike. (f.delivered, ap (λ x. come x s) alike);
   quiet = λ a v r has fit unread. quiet a v r unread;
-  quiet_foot = λ a v r has fit unread. same_foot a v r.state;
+  quiet_footprint = λ a v r has fit unread. same_footprint a v r.state;
   untaken = λ bytes r sound none. untaken (code_of r.state) bytes r.delivered (tick r.state) none;
-  untaken_foot = λ bytes r sound none. record { reads = λ a. refl; writes = λ a. refl; takes = refl };
+  untaken_footprint = λ bytes r sound none. record { reads = λ a. refl; writes = λ a. refl; takes = refl };
 }
 
 pub toy_framed : IsFramed toy

@@ -1,18 +1,18 @@
 -- Edits of the input of the small machine's run, and traces that are cut, made and extended, in numbers.
 use Rattle.std.proofs.Common.{◌≡◌, ℕ, zero, suc, ◌+◌, ◌*◌, ◌<◌, ◌≤◌, List, length, true, false, cond, ltb, refl, arith, inl, inr, ◌⊎◌, ne_eqb, le-leb}
 use Rattle.std.proofs.lemmas.Bool.{cases_Bool, ltb-true}
-use Rattle.sv8_history.specs.Machine.{state_at, foot_at}
-use Rattle.sv8_history.specs.Trace.{Agrees}
+use Rattle.sv8_history.specs.Machine.{state_at, footprint_at}
+use Rattle.sv8_history.specs.Trace.{IsTraceOf, Agrees}
 use Rattle.sv8_history.specs.Growing.{new_trace, extended}
-use Rattle.sv8_history.specs.Input.{takes_edit, IsFirstTake, IsFed, AreDelivered}
+use Rattle.sv8_history.specs.Input.{edited_input, takes_edit, IsFirstTake, IsFed, AreDelivered}
 use Rattle.sv8_history.specs.Toy.{Code, idle, load, store, take_byte, ask, State, come, code_of, tick, execute, toy}
 use Rattle.sv8_history.specs.Runs.{nothing, pokes, first_run, fed_at, delivered_before, first_trace}
 use Rattle.sv8_history.specs.WorkedTraces.{LateInput, EarlyInput, Cut, later_run, Later, other_trace, Other, Grown, Query}
 use Rattle.sv8_history.proofs.Toy.{toy_framed}
 use Rattle.sv8_history.proofs.Events.{traced, at_other, refed, delivered_by, stays_by}
-use Rattle.sv8_history.proofs.Feet.{foot_same}
+use Rattle.sv8_history.proofs.Footprints.{footprint_same}
 use Rattle.sv8_history.proofs.Least.{found}
-use Rattle.sv8_history.proofs.Input.{input_edit_keeps, input_edit_counts, untaken_agrees, first_take_stays, input_edit_feeds}
+use Rattle.sv8_history.proofs.Input.{input_edit_keeps, input_edit_counts, untaken_agrees, first_take_stays, input_edit_feeds, refed_back}
 use Rattle.sv8_history.proofs.Cut.{cut_keeps, agrees_keeps}
 use Rattle.sv8_history.proofs.Silent.{later_keeps}
 use Rattle.sv8_history.proofs.Growing.{new_trace_is, extend_keeps, restore_gives, query_work}
@@ -64,12 +64,15 @@ delivers_more = record { same = same; rising = rising }
     rising (suc (suc (suc zero))) = omega arith
     rising (suc (suc (suc (suc n)))) = let p = two (suc (suc (suc n))) (omega arith) in let q = two (suc (suc (suc (suc n)))) (omega arith) in omega (arith, p, q)
 
-late_untaken : (n : ℕ) → n < 8 → takes_edit toy (foot_at toy first_run) 3 n ≡ false
-late_untaken = found 8 (takes_edit toy (foot_at toy first_run) 3)
+late_untaken : (n : ℕ) → n < 8 → takes_edit toy (footprint_at toy first_run) 3 n ≡ false
+late_untaken = found 8 (takes_edit toy (footprint_at toy first_run) 3)
+
+late_kept : IsTraceOf toy 2 (fed_at 3) (edited_input toy 2 first_trace 3)
+late_kept = input_edit_keeps toy toy_framed 2 (omega arith) first_run (fed_at 3) first_trace 3 (traced toy 2 first_run 4) (refed 3)
 
 pub late_input_worked : LateInput
 late_input_worked = record {
-  keeps = input_edit_keeps toy toy_framed 2 (omega arith) first_run (fed_at 3) first_trace 3 (traced toy 2 first_run 4) (refed 3);
+  keeps = late_kept;
   first = refl;
   count = refl;
   states = (untaken_agrees toy toy_framed first_run (fed_at 3) 3 8 (refed 3) late_untaken).0;
@@ -77,10 +80,13 @@ late_input_worked = record {
   fed = input_edit_feeds toy toy_framed first_run (fed_at 3) 3 8 (refed 3) late_untaken (λ s. s.taken) (delivered_before first_run) (delivered_before (fed_at 3)) first_fed delivers_more;
   taken = refl;
   delivered = refl;
+  cleared =
+      input_edit_keeps toy toy_framed 2 (omega arith) (fed_at 3) first_run (edited_input toy 2 first_trace 3) 3 late_kept
+      (refed_back toy toy_framed 3 first_run (fed_at 3) (refed 3));
 }
 
 early_take : IsFirstTake toy first_run 1 2
-early_take = record { here = refl; least = found 2 (takes_edit toy (foot_at toy first_run) 1) }
+early_take = record { here = refl; least = found 2 (takes_edit toy (footprint_at toy first_run) 1) }
 
 pub early_input_worked : EarlyInput
 early_input_worked = record {
@@ -106,7 +112,7 @@ other_same : Agrees toy 2 first_trace other_trace
 other_same = record {
   count = refl;
   points = λ i l. let e = ne_eqb (2 * i) 3 (λ e. omega arith) in rw e;
-  notes = λ n l. foot_same (foot_at toy first_run n);
+  notes = λ n l. footprint_same (footprint_at toy first_run n);
   kept = λ n a. refl;
 }
 
@@ -128,7 +134,7 @@ pub query_worked : Query
 query_worked = record {
   from = refl;
   gives = restore_gives toy 2 (omega arith) first_run first_trace 7 (traced toy 2 first_run 4);
-  acc = refl;
+  accumulator = refl;
   work = refl;
   from_old = refl;
   equal = (query_work 2 1 7).0;

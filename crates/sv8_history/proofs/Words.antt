@@ -1,13 +1,13 @@
 -- One search for several cells.
 use Rattle.std.proofs.Common.{◌≡◌, ℕ, zero, suc, ◌*◌, ◌<◌, ◌≤◌, min, max, Bool, true, false, not, ◌&&◌, ◌||◌, ltb, leb, List, [], ◌∷◌, ◌++◌, Option, Some, None, refl, sym, ◌∙◌, ap, arith, inl, inr, ◌⊎◌, lt-ltb, le-ltb}
 use Rattle.std.proofs.lemmas.Bool.{cases_lt}
-use Rattle.sv8_history.specs.Machine.{Machine, Run, state_at, foot_at, Notes, reads_of, writes_of}
+use Rattle.sv8_history.specs.Machine.{Machine, Run, state_at, footprint_at, Notes, reads_of, writes_of}
 use Rattle.sv8_history.specs.Trace.{some_from}
 use Rattle.sv8_history.specs.Changes.{Clear, Change}
 use Rattle.sv8_history.specs.Reads.{reads_change, reads_edit, IsLeast, least_below, first_of_change, first_of_edit, first_of_each, earlier, AreTogether, AreOneWord, last_end, WordChanges, AreWords, all_changes, by_words}
 use Rattle.sv8_history.specs.Laws.{FirstOfEach, SearchByWords}
 use Rattle.sv8_history.proofs.Spans.{some_from-like}
-use Rattle.sv8_history.proofs.Feet.{AreAlike}
+use Rattle.sv8_history.proofs.Footprints.{AreAlike}
 use Rattle.sv8_history.proofs.Least.{Found, found, found_one}
 
 -- ---- the least of several
@@ -85,13 +85,14 @@ none_before r w a n = let e = le-ltb n 0 (omega arith) in go a (ltb n 0) e
     go false b e = refl
 
 -- The two cells have the same notes, as far as they are those of a run.
-together : (m : Machine) (run : Run m) (notes : Notes m) (r : ℕ) → AreAlike m notes (foot_at m run) r → (a b : m.Cell) → AreTogether m a b → (n : ℕ) → n < r
+together : (m : Machine) (run : Run m) (notes : Notes m) (r : ℕ) → AreAlike m notes (footprint_at m run) r → (a b : m.Cell) → AreTogether m a b
+    → (n : ℕ) → n < r
     → (reads_of m notes a n ≡ reads_of m notes b n) × (writes_of m notes a n ≡ writes_of m notes b n)
 together m run notes r alike a b same n l =
     let x = alike n l in
     (x.reads a ∙ same.reads (run.events n) (state_at m run n) ∙ sym (x.reads b), x.writes a ∙ same.writes (run.events n) (state_at m run n) ∙ sym (x.writes b))
 
-word_reads : (m : Machine) (run : Run m) (notes : Notes m) (r : ℕ) → AreAlike m notes (foot_at m run) r → (a : m.Cell) (t : ℕ) (cs : List (Change m))
+word_reads : (m : Machine) (run : Run m) (notes : Notes m) (r : ℕ) → AreAlike m notes (footprint_at m run) r → (a : m.Cell) (t : ℕ) (cs : List (Change m))
     → AreOneWord m a t cs → (n : ℕ) → n < r
     → reads_edit m notes cs n ≡ reads_change m notes (record { cell = a; from = t; to = last_end m cs; cause = Clear }) n
 word_reads m run notes r alike a t [] one n l =
@@ -121,7 +122,7 @@ reads_append m notes (c ∷ cs) ds n =
     or_assoc true b d = refl
     or_assoc false b d = refl
 
-words_read : (m : Machine) (run : Run m) (notes : Notes m) (r : ℕ) → AreAlike m notes (foot_at m run) r → (ws : List (WordChanges m)) → AreWords m ws
+words_read : (m : Machine) (run : Run m) (notes : Notes m) (r : ℕ) → AreAlike m notes (footprint_at m run) r → (ws : List (WordChanges m)) → AreWords m ws
     → (n : ℕ) → n < r → reads_edit m notes (all_changes m ws) n ≡ reads_edit m notes (by_words m ws) n
 words_read m run notes r alike [] words n l = refl
 words_read m run notes r alike (w ∷ ws) words n l =

@@ -1,6 +1,6 @@
 -- A machine whose step lets the event come, and then acts. Where these two parts obey a law each, the machine obeys the frame law.
 use Rattle.std.specs.Prelude.{◌≡◌, false, cond, unwrap_or}
-use Rattle.sv8_history.specs.Machine.{Foot, SameFoot, Machine}
+use Rattle.sv8_history.specs.Machine.{Footprint, SameFootprint, Machine}
 use Rattle.sv8_history.specs.Framed.{AreCells, AreEvents, IsFramed}
 
 pub record Acting : Type 1 where
@@ -10,7 +10,7 @@ pub record Acting : Type 1 where
   pub come : machine.Event → machine.State → Ready
   -- the rest of the step, and its footprint
   pub act : Ready → machine.State
-  pub foot : Ready → Foot machine.Cell
+  pub footprint : Ready → Footprint machine.Cell
   -- the same with another value in a cell, or with other bytes waiting
   pub put : machine.Cell → machine.Value → Ready → Ready
   pub Waiting : Type 0
@@ -22,7 +22,7 @@ pub record Acting : Type 1 where
 pub record IsActing (p : Acting) : Type 0 where
   -- a step is its two parts
   pub step_is : (e : p.machine.Event) (s : p.machine.State) → p.machine.step e s ≡ p.act (p.come e s)
-  pub foot_is : (e : p.machine.Event) (s : p.machine.State) → p.machine.foot e s ≡ p.foot (p.come e s)
+  pub footprint_is : (e : p.machine.Event) (s : p.machine.State) → p.machine.footprint e s ≡ p.footprint (p.come e s)
   pub sound_come : (e : p.machine.Event) (s : p.machine.State) → p.machine.Sound s → p.Sound (p.come e s)
   pub has_come : (a : p.machine.Cell) (e : p.machine.Event) (s : p.machine.State) → p.machine.Has a s → p.Has a (p.come e s)
   -- THE EVENT: what came of two states and two events that differ in one cell differs there alone. It holds what was poked, or else what it had.
@@ -32,13 +32,13 @@ pub record IsActing (p : Acting) : Type 0 where
   pub delivers : (e f : p.machine.Event) (s : p.machine.State) → p.machine.AlikeInput e f
       → (w : p.Waiting) × (p.come f s ≡ p.wait w (p.come e s))
   -- THE ACT, where it does not read the cell: what it makes differs there alone, and not even there where it wrote it
-  pub quiet : (a : p.machine.Cell) (v : p.machine.Value) (r : p.Ready) → p.Has a r → p.machine.Fits a v → (p.foot r).reads a ≡ false
-      → p.act (p.put a v r) ≡ cond ((p.foot r).writes a) (p.act r) (p.machine.put a v (p.act r))
-  pub quiet_foot : (a : p.machine.Cell) (v : p.machine.Value) (r : p.Ready) → p.Has a r → p.machine.Fits a v → (p.foot r).reads a ≡ false
-      → SameFoot (p.foot (p.put a v r)) (p.foot r)
+  pub quiet : (a : p.machine.Cell) (v : p.machine.Value) (r : p.Ready) → p.Has a r → p.machine.Fits a v → (p.footprint r).reads a ≡ false
+      → p.act (p.put a v r) ≡ cond ((p.footprint r).writes a) (p.act r) (p.machine.put a v (p.act r))
+  pub quiet_footprint : (a : p.machine.Cell) (v : p.machine.Value) (r : p.Ready) → p.Has a r → p.machine.Fits a v → (p.footprint r).reads a ≡ false
+      → SameFootprint (p.footprint (p.put a v r)) (p.footprint r)
   -- .. and where it takes no input
-  pub untaken : (w : p.Waiting) (r : p.Ready) → p.Sound r → (p.foot r).takes ≡ false → p.act (p.wait w r) ≡ p.act r
-  pub untaken_foot : (w : p.Waiting) (r : p.Ready) → p.Sound r → (p.foot r).takes ≡ false → SameFoot (p.foot (p.wait w r)) (p.foot r)
+  pub untaken : (w : p.Waiting) (r : p.Ready) → p.Sound r → (p.footprint r).takes ≡ false → p.act (p.wait w r) ≡ p.act r
+  pub untaken_footprint : (w : p.Waiting) (r : p.Ready) → p.Sound r → (p.footprint r).takes ≡ false → SameFootprint (p.footprint (p.wait w r)) (p.footprint r)
 
 abbrev pub ActingFrames : Acting → Type 0
 ActingFrames p = AreCells p.machine → AreEvents p.machine → IsActing p → IsFramed p.machine

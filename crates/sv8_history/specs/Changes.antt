@@ -5,7 +5,7 @@
 -- anyway, in both runs alike, they are one again too, whatever that step reads. So up to the first read each state of the new run is that of the old one
 -- with the new value put where it still shows, and every footprint stays.
 use Rattle.std.specs.Prelude.{◌≡◌, List, [], ◌∷◌, ℕ, suc, ◌<◌, ◌≤◌, Bool, true, false, not, ◌&&◌, cond, leb, Option, Some, None, is_some}
-use Rattle.sv8_history.specs.Machine.{Machine, Run, state_at, foot_at, writes_of}
+use Rattle.sv8_history.specs.Machine.{Machine, Run, state_at, footprint_at, writes_of}
 use Rattle.sv8_history.specs.Trace.{some_from}
 
 -- what changes a cell
@@ -116,4 +116,4 @@ with_changes m old [] n s = s
 with_changes m old (c ∷ cs) n s =
     with_changes
     m old cs n
-    (cond (is_live (writes_of m (foot_at m old) c.cell) c.from (shown_from m c) c.to n) (m.put c.cell (value_of m old c) s) s)
+    (cond (is_live (writes_of m (footprint_at m old) c.cell) c.from (shown_from m c) c.to n) (m.put c.cell (value_of m old c) s) s)

@@ -1,6 +1,6 @@
 -- What a machine owes: the laws of cells and events, and the frame law of one cell.
 use Rattle.std.specs.Prelude.{◌≡◌, true, false, cond, Some, unwrap_or}
-use Rattle.sv8_history.specs.Machine.{SameFoot, Machine}
+use Rattle.sv8_history.specs.Machine.{SameFootprint, Machine}
 
 -- A cell holds what was put there last, to put something changes no other cell, and steps keep the cells.
 pub record AreCells (m : Machine) : Type 0 where
@@ -29,15 +29,16 @@ pub record IsFramed (m : Machine) : Type 0 where
   pub events : AreEvents m
   -- A step that does not read the cell, of two states and two events that differ there alone: what it makes differs there alone, and not even there
   -- where the step wrote it.
-  pub quiet : (a : m.Cell) (v : m.Value) (e f : m.Event) (s : m.State) → m.Has a s → m.Fits a v → m.AlikeBut a e f → (m.foot e s).reads a ≡ false
-      → m.step f (m.put a v s) ≡ cond ((m.foot e s).writes a) (m.step e s) (m.put a (unwrap_or (m.poke a f) v) (m.step e s))
-  pub quiet_foot : (a : m.Cell) (v : m.Value) (e f : m.Event) (s : m.State) → m.Has a s → m.Fits a v → m.AlikeBut a e f → (m.foot e s).reads a ≡ false
-      → SameFoot (m.foot f (m.put a v s)) (m.foot e s)
+  pub quiet : (a : m.Cell) (v : m.Value) (e f : m.Event) (s : m.State) → m.Has a s → m.Fits a v → m.AlikeBut a e f → (m.footprint e s).reads a ≡ false
+      → m.step f (m.put a v s) ≡ cond ((m.footprint e s).writes a) (m.step e s) (m.put a (unwrap_or (m.poke a f) v) (m.step e s))
+  pub quiet_footprint : (a : m.Cell) (v : m.Value) (e f : m.Event) (s : m.State) → m.Has a s → m.Fits a v → m.AlikeBut a e f → (m.footprint e s).reads a ≡ false
+      → SameFootprint (m.footprint f (m.put a v s)) (m.footprint e s)
   -- a step whose event sets the cell, whatever stood there and whatever the step reads
   pub alike : (a : m.Cell) (w v : m.Value) (e : m.Event) (s : m.State) → m.Has a s → m.Fits a v → m.poke a e ≡ Some w
       → m.step e (m.put a v s) ≡ m.step e s
-  pub alike_foot : (a : m.Cell) (w v : m.Value) (e : m.Event) (s : m.State) → m.Has a s → m.Fits a v → m.poke a e ≡ Some w
-      → SameFoot (m.foot e (m.put a v s)) (m.foot e s)
+  pub alike_footprint : (a : m.Cell) (w v : m.Value) (e : m.Event) (s : m.State) → m.Has a s → m.Fits a v → m.poke a e ≡ Some w
+      → SameFootprint (m.footprint e (m.put a v s)) (m.footprint e s)
   -- a step that takes no input, of two events that differ there alone
-  pub input : (e f : m.Event) (s : m.State) → m.Sound s → m.AlikeInput e f → (m.foot e s).takes ≡ false → m.step f s ≡ m.step e s
-  pub input_foot : (e f : m.Event) (s : m.State) → m.Sound s → m.AlikeInput e f → (m.foot e s).takes ≡ false → SameFoot (m.foot f s) (m.foot e s)
+  pub input : (e f : m.Event) (s : m.State) → m.Sound s → m.AlikeInput e f → (m.footprint e s).takes ≡ false → m.step f s ≡ m.step e s
+  pub input_footprint : (e f : m.Event) (s : m.State) → m.Sound s → m.AlikeInput e f → (m.footprint e s).takes ≡ false
+      → SameFootprint (m.footprint f s) (m.footprint e s)

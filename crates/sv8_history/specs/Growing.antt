@@ -23,7 +23,7 @@ state_after m k run trace n = steps_from m run (k * trace.count) (trace.point (k
 
 -- the notes, with those of the steps after the record
 abbrev pub notes_after : (m : Machine) → ℕ → Run m → Trace m → Notes m
-notes_after m k run trace n = cond (ltb n (k * trace.count)) (trace.notes n) (m.foot (run.events n) (state_after m k run trace n))
+notes_after m k run trace n = cond (ltb n (k * trace.count)) (trace.notes n) (m.footprint (run.events n) (state_after m k run trace n))
 
 -- the kept values, with those below the events of the next k steps, by their own notes
 abbrev pub kept_after : (m : Machine) → ℕ → Run m → Trace m → ℕ → m.Cell → Option m.Value

@@ -1,6 +1,6 @@
 -- What edits, cuts and queries keep, for any machine that meets the frame law.
 use Rattle.std.specs.Prelude.{List, ◌≡◌, ℕ, suc, ◌+◌, ◌-◌, ◌*◌, ◌/◌, ◌<◌, ◌≤◌, false, min, max}
-use Rattle.sv8_history.specs.Machine.{SameFoot, Machine, Run, state_at, foot_at}
+use Rattle.sv8_history.specs.Machine.{SameFootprint, Machine, Run, state_at, footprint_at}
 use Rattle.sv8_history.specs.Framed.{IsFramed}
 use Rattle.sv8_history.specs.Trace.{Trace, IsTraceOf, Agrees}
 use Rattle.sv8_history.specs.Growing.{new_trace, extended, steps_from, restored}
@@ -10,8 +10,8 @@ use Rattle.sv8_history.specs.Patches.{cut, patch, edited}
 use Rattle.sv8_history.specs.Input.{IsRefed, takes_edit, IsFirstTake, edited_input, IsFed, AreDelivered}
 
 -- the steps before `r` have one footprint in both runs
-abbrev pub SameFeet : (m : Machine) → Run m → Run m → ℕ → Type 0
-SameFeet m old new r = (n : ℕ) → n < r → SameFoot (foot_at m new n) (foot_at m old n)
+abbrev pub SameFootprints : (m : Machine) → Run m → Run m → ℕ → Type 0
+SameFootprints m old new r = (n : ℕ) → n < r → SameFootprint (footprint_at m new n) (footprint_at m old n)
 
 -- ---- edits of cells
 
@@ -20,8 +20,8 @@ SameFeet m old new r = (n : ℕ) → n < r → SameFoot (foot_at m new n) (foot_
 abbrev pub UnreadAgrees : Machine → Type 0
 UnreadAgrees m =
     IsFramed m → (old new : Run m) (cs : List (Change m)) (r : ℕ) → ArePlanned m old r cs → IsEdited m cs old new
-    → ((n : ℕ) → n < r → reads_edit m (foot_at m old) cs n ≡ false)
-    → ((n : ℕ) → n ≤ r → state_at m new n ≡ with_changes m old cs n (state_at m old n)) × SameFeet m old new r
+    → ((n : ℕ) → n < r → reads_edit m (footprint_at m old) cs n ≡ false)
+    → ((n : ℕ) → n ≤ r → state_at m new n ≡ with_changes m old cs n (state_at m old n)) × SameFootprints m old new r
 
 -- The first read of an edit is the same by the run before it and by the run after it. (Those of its single changes may move.)
 abbrev pub FirstReadStays : Machine → Type 0
@@ -80,8 +80,8 @@ InputEditCounts m =
 -- the runs are one up to the first step that takes input
 abbrev pub UntakenAgrees : Machine → Type 0
 UntakenAgrees m =
-    IsFramed m → (old new : Run m) (t r : ℕ) → IsRefed m t old new → ((n : ℕ) → n < r → takes_edit m (foot_at m old) t n ≡ false)
-    → ((n : ℕ) → n ≤ r → state_at m new n ≡ state_at m old n) × SameFeet m old new r
+    IsFramed m → (old new : Run m) (t r : ℕ) → IsRefed m t old new → ((n : ℕ) → n < r → takes_edit m (footprint_at m old) t n ≡ false)
+    → ((n : ℕ) → n ≤ r → state_at m new n ≡ state_at m old n) × SameFootprints m old new r
 
 -- .. which is the same before and after the edit
 abbrev pub FirstTakeStays : Machine → Type 0
@@ -92,7 +92,7 @@ FirstTakeStays m =
 -- The states that an edit of the input leaves have taken no more bytes than are delivered by then, where that was so before.
 abbrev pub InputEditFeeds : Machine → Type 0
 InputEditFeeds m =
-    IsFramed m → (old new : Run m) (t r : ℕ) → IsRefed m t old new → ((n : ℕ) → n < r → takes_edit m (foot_at m old) t n ≡ false)
+    IsFramed m → (old new : Run m) (t r : ℕ) → IsRefed m t old new → ((n : ℕ) → n < r → takes_edit m (footprint_at m old) t n ≡ false)
     → (taken : m.State → ℕ) (delivered redelivered : ℕ → ℕ) → IsFed m old taken delivered → AreDelivered t delivered redelivered
     → (n : ℕ) → n ≤ r → taken (state_at m new n) ≤ redelivered n
 

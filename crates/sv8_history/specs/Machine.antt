@@ -2,7 +2,7 @@
 use Rattle.std.specs.Prelude.{◌≡◌, ℕ, zero, suc, Bool, ◌||◌, Option}
 
 -- The footprint of a step: the cells that it reads, those that it sets whatever stood there, and whether it takes input.
-pub record Foot (Cell : Type 0) : Type 0 where
+pub record Footprint (Cell : Type 0) : Type 0 where
   -- A byte of RAM is read and written with its word. A level is read where the step asks for it or changes it by program.
   pub reads : Cell → Bool
   -- A level is written where the timer expires.
@@ -11,7 +11,7 @@ pub record Foot (Cell : Type 0) : Type 0 where
   pub takes : Bool
 
 -- the footprints are the same
-pub record SameFoot {Cell : Type 0} (x y : Foot Cell) : Type 0 where
+pub record SameFootprint {Cell : Type 0} (x y : Footprint Cell) : Type 0 where
   pub reads : (a : Cell) → x.reads a ≡ y.reads a
   pub writes : (a : Cell) → x.writes a ≡ y.writes a
   pub takes : x.takes ≡ y.takes
@@ -42,7 +42,7 @@ pub record Machine : Type 1 where
   -- the events differ at most in the bytes that were delivered to the console
   pub AlikeInput : Event → Event → Type 0
   pub step : Event → State → State
-  pub foot : Event → State → Foot Cell
+  pub footprint : Event → State → Footprint Cell
   -- A write of the cell ends the search for the first read of a change. It does for a byte, since the change is gone. For a level the search goes
   -- on: a timer that expires is not taken as the end of a request.
   pub ends_search : Cell → Bool
@@ -60,14 +60,14 @@ state_at m run zero = run.start
 state_at m run (suc n) = m.step (run.events n) (state_at m run n)
 
 -- the footprint of step n
-abbrev pub foot_at : (m : Machine) → Run m → ℕ → Foot m.Cell
-foot_at m run n = m.foot (run.events n) (state_at m run n)
+abbrev pub footprint_at : (m : Machine) → Run m → ℕ → Footprint m.Cell
+footprint_at m run n = m.footprint (run.events n) (state_at m run n)
 
 -- ---- notes
 
 -- a note is the footprint of a step
 abbrev pub Notes : Machine → Type 0
-Notes m = ℕ → Foot m.Cell
+Notes m = ℕ → Footprint m.Cell
 
 -- step n reads the cell, writes it, does either, by the notes
 abbrev pub reads_of : (m : Machine) → Notes m → m.Cell → ℕ → Bool

@@ -1,6 +1,6 @@
 -- The steps that read what an edit has changed, and the first of them.
 use Rattle.std.specs.Prelude.{◌≡◌, List, [], ◌∷◌, ◌++◌, ℕ, zero, suc, ◌*◌, ◌<◌, Bool, true, false, not, ◌&&◌, ◌||◌, cond, ltb, leb, Option, Some, None, min, max}
-use Rattle.sv8_history.specs.Machine.{Machine, Run, foot_at, Notes, reads_of, writes_of}
+use Rattle.sv8_history.specs.Machine.{Machine, Run, footprint_at, Notes, reads_of, writes_of}
 use Rattle.sv8_history.specs.Trace.{some_from, Trace}
 use Rattle.sv8_history.specs.Changes.{Change, Clear}
 
@@ -23,7 +23,7 @@ pub record IsLeast (f : ℕ → Bool) (s : ℕ) : Type 0 where
   pub least : (n : ℕ) → n < s → f n ≡ false
 
 abbrev pub IsFirstRead : (m : Machine) → Run m → List (Change m) → ℕ → Type 0
-IsFirstRead m run cs s = IsLeast (reads_edit m (foot_at m run) cs) s
+IsFirstRead m run cs s = IsLeast (reads_edit m (footprint_at m run) cs) s
 
 -- ---- the first read, by the notes of a trace
 
@@ -59,8 +59,8 @@ first_of_each m k trace (c ∷ cs) = earlier (first_of_change m k trace c) (firs
 
 -- Every step reads and writes the cells together, as the bytes of a word.
 pub record AreTogether (m : Machine) (a b : m.Cell) : Type 0 where
-  pub reads : (e : m.Event) (s : m.State) → (m.foot e s).reads a ≡ (m.foot e s).reads b
-  pub writes : (e : m.Event) (s : m.State) → (m.foot e s).writes a ≡ (m.foot e s).writes b
+  pub reads : (e : m.Event) (s : m.State) → (m.footprint e s).reads a ≡ (m.footprint e s).reads b
+  pub writes : (e : m.Event) (s : m.State) → (m.footprint e s).writes a ≡ (m.footprint e s).writes b
   pub ends : m.ends_search a ≡ m.ends_search b
 
 -- the changes have one cause, at `t`, and are within the word of the cell `a`

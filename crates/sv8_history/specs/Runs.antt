@@ -8,7 +8,7 @@ abbrev pub start_with : Code → State
 start_with first = record {
   program = first ∷ idle ∷ take_byte ∷ idle ∷ idle ∷ load ∷ idle ∷ ask ∷ [];
   place = 0;
-  acc = 1286;
+  accumulator = 1286;
   high = 1;
   low = 2;
   pending = false;

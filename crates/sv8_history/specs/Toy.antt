@@ -1,6 +1,6 @@
 -- A small machine with cells of each kind: a word of two bytes, an interrupt level with a timer, and console input. It shows that the laws' premises can be met.
 use Rattle.std.specs.Prelude.{◌≡◌, ℕ, ◌+◌, ◌-◌, ◌*◌, ◌/◌, ◌%◌, ◌==◌, List, length, get_or, Bool, true, false, ◌||◌, cond, ltb, Option, Some, None, unwrap_or, option_map}
-use Rattle.sv8_history.specs.Machine.{Foot, Machine}
+use Rattle.sv8_history.specs.Machine.{Footprint, Machine}
 use Rattle.sv8_history.specs.Acting.{Acting}
 
 pub data Code : Type 0 where
@@ -17,7 +17,7 @@ pub data Code : Type 0 where
 pub record State : Type 0 where
   pub program : List Code
   pub place : ℕ
-  pub acc : ℕ
+  pub accumulator : ℕ
   -- the bytes of the word
   pub high : ℕ
   pub low : ℕ
@@ -57,10 +57,10 @@ tick s = record s { place = s.place + 1; pending = s.pending || s.timer == 1; ti
 
 abbrev pub execute : Code → List ℕ → State → State
 execute idle bytes s = s
-execute load bytes s = record s { acc = 256 * s.high + s.low }
-execute store bytes s = record s { high = s.acc / 256; low = s.acc % 256 }
-execute take_byte bytes s = record s { acc = get_or bytes s.taken 0; taken = cond (ltb s.taken (length bytes)) (s.taken + 1) s.taken }
-execute ask bytes s = record s { acc = cond s.pending 1 0 }
+execute load bytes s = record s { accumulator = 256 * s.high + s.low }
+execute store bytes s = record s { high = s.accumulator / 256; low = s.accumulator % 256 }
+execute take_byte bytes s = record s { accumulator = get_or bytes s.taken 0; taken = cond (ltb s.taken (length bytes)) (s.taken + 1) s.taken }
+execute ask bytes s = record s { accumulator = cond s.pending 1 0 }
 
 abbrev pub act : Ready → State
 act r = execute (code_of r.state) r.delivered (tick r.state)
@@ -143,8 +143,8 @@ writes_cell s high_byte = writes_word (code_of s)
 writes_cell s low_byte = writes_word (code_of s)
 writes_cell s level = s.timer == 1
 
-abbrev pub foot : State → Foot Cell
-foot s = record { reads = reads_cell s; writes = writes_cell s; takes = takes_input (code_of s) }
+abbrev pub footprint : State → Footprint Cell
+footprint s = record { reads = reads_cell s; writes = writes_cell s; takes = takes_input (code_of s) }
 
 -- the search for a read of the level goes on where the timer expires
 abbrev pub ends_search : Cell → Bool
@@ -168,7 +168,7 @@ toy = record {
   AlikeBut = alike_but;
   AlikeInput = λ e f. f ≡ record e { delivered = f.delivered };
   step = λ e s. act (come e s);
-  foot = λ e s. foot (come e s).state;
+  footprint = λ e s. footprint (come e s).state;
   ends_search = ends_search;
 }
 
@@ -178,7 +178,7 @@ toy_parts = record {
   Ready = Ready;
   come = come;
   act = act;
-  foot = λ r. foot r.state;
+  footprint = λ r. footprint r.state;
   put = λ a v r. record r { state = put_cell a v r.state };
   Waiting = List ℕ;
   wait = λ bytes r. record r { delivered = bytes };

@@ -1,6 +1,6 @@
 -- What a trace keeps of a run: checkpoints, notes, and the values below events.
 use Rattle.std.specs.Prelude.{◌≡◌, ℕ, zero, suc, ◌+◌, ◌*◌, ◌/◌, ◌<◌, ◌≤◌, Bool, false, not, ◌&&◌, ◌||◌, cond, ltb, leb, Option, Some, None, is_some}
-use Rattle.sv8_history.specs.Machine.{SameFoot, Machine, Run, state_at, foot_at, Notes, touches_of}
+use Rattle.sv8_history.specs.Machine.{SameFootprint, Machine, Run, state_at, footprint_at, Notes, touches_of}
 
 -- some step from `t` on and before `c` is in `f`
 abbrev pub some_from : ℕ → ℕ → (ℕ → Bool) → Bool
@@ -16,7 +16,7 @@ next_checkpoint k n = k * (n / k) + k
 abbrev pub kept_at : (m : Machine) → ℕ → Run m → ℕ → ℕ → m.Cell → Option m.Value
 kept_at m k run recorded n a =
     cond
-    (ltb n recorded && is_some (m.poke a (run.events n)) && not (some_from n (next_checkpoint k n) (touches_of m (foot_at m run) a)))
+    (ltb n recorded && is_some (m.poke a (run.events n)) && not (some_from n (next_checkpoint k n) (touches_of m (footprint_at m run) a)))
     (Some (m.get a (state_at m run n)))
     None
 
@@ -34,7 +34,7 @@ pub record Trace (m : Machine) : Type 0 where
 -- THE TRACE IS THAT OF THE RUN: each checkpoint is the run's state, each note its step's footprint, and each value that is to be kept is kept.
 pub record IsTraceOf (m : Machine) (k : ℕ) (run : Run m) (trace : Trace m) : Type 0 where
   pub points : (i : ℕ) → i ≤ trace.count → trace.point (k * i) ≡ state_at m run (k * i)
-  pub notes : (n : ℕ) → n < k * trace.count → SameFoot (trace.notes n) (foot_at m run n)
+  pub notes : (n : ℕ) → n < k * trace.count → SameFootprint (trace.notes n) (footprint_at m run n)
   pub kept : (n : ℕ) (a : m.Cell) → trace.kept n a ≡ kept_at m k run (k * trace.count) n a
 
 -- the trace that records a run in one go
@@ -42,7 +42,7 @@ abbrev pub trace_of : (m : Machine) → ℕ → Run m → ℕ → Trace m
 trace_of m k run count = record {
   count = count;
   point = state_at m run;
-  notes = foot_at m run;
+  notes = footprint_at m run;
   kept = kept_at m k run (k * count);
 }
 
@@ -50,5 +50,5 @@ trace_of m k run count = record {
 pub record Agrees (m : Machine) (k : ℕ) (trace other : Trace m) : Type 0 where
   pub count : other.count ≡ trace.count
   pub points : (i : ℕ) → i ≤ trace.count → other.point (k * i) ≡ trace.point (k * i)
-  pub notes : (n : ℕ) → n < k * trace.count → SameFoot (other.notes n) (trace.notes n)
+  pub notes : (n : ℕ) → n < k * trace.count → SameFootprint (other.notes n) (trace.notes n)
   pub kept : (n : ℕ) (a : m.Cell) → other.kept n a ≡ trace.kept n a

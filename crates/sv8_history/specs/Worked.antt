@@ -5,7 +5,7 @@ use Rattle.sv8_history.specs.Trace.{Trace, IsTraceOf, trace_of}
 use Rattle.sv8_history.specs.Changes.{Change, Image, Poke, Clear, with_changes}
 use Rattle.sv8_history.specs.Reads.{IsFirstRead, first_of_edit, first_of_each, WordChanges, by_words}
 use Rattle.sv8_history.specs.Patches.{patch, edited}
-use Rattle.sv8_history.specs.Laws.{SameFeet, IsRightCount}
+use Rattle.sv8_history.specs.Laws.{SameFootprints, IsRightCount}
 use Rattle.sv8_history.specs.Toy.{idle, high_byte, low_byte, level, number, bit, toy}
 use Rattle.sv8_history.specs.Runs.{start_with, nothing, first_run, plain_run, at, first_trace, shows_word, shows_level}
 
@@ -44,7 +44,7 @@ pub record WordPokeLaws : Type 0 where
   pub shown : (with_changes toy first_run word_poke 3 (state_at toy first_run 3)).low ≡ 4
   pub high_shown : (with_changes toy first_run word_poke 4 (state_at toy first_run 4)).high ≡ 9
   pub gone : (with_changes toy first_run word_poke 4 (state_at toy first_run 4)).low ≡ 8
-  pub feet : SameFeet toy first_run word_run 5
+  pub feet : SameFootprints toy first_run word_run 5
   pub before : IsFirstRead toy first_run word_poke 5
   pub after : IsFirstRead toy word_run word_poke 5
   pub count : IsRightCount 2 4 2 (IsFirstRead toy first_run word_poke)

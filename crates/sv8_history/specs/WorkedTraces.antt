@@ -5,7 +5,7 @@ use Rattle.sv8_history.specs.Trace.{Trace, IsTraceOf, Agrees}
 use Rattle.sv8_history.specs.Growing.{new_trace, extended, steps_from, restored}
 use Rattle.sv8_history.specs.Patches.{cut}
 use Rattle.sv8_history.specs.Input.{IsFirstTake, first_take, edited_input}
-use Rattle.sv8_history.specs.Laws.{SameFeet, IsRightCount}
+use Rattle.sv8_history.specs.Laws.{SameFootprints, IsRightCount}
 use Rattle.sv8_history.specs.Toy.{low_byte, number, toy}
 use Rattle.sv8_history.specs.Runs.{nothing, first_run, at, fed_at, delivered_before, first_trace, shows_word}
 
@@ -17,11 +17,13 @@ pub record LateInput : Type 0 where
   pub first : first_take toy 2 first_trace 3 ≡ None
   pub count : (edited_input toy 2 first_trace 3).count ≡ 4
   pub states : (n : ℕ) → n ≤ 8 → state_at toy (fed_at 3) n ≡ state_at toy first_run n
-  pub feet : SameFeet toy first_run (fed_at 3) 8
+  pub feet : SameFootprints toy first_run (fed_at 3) 8
   -- no state has taken more bytes than are delivered: one, of one or two
   pub fed : (n : ℕ) → n ≤ 8 → (state_at toy (fed_at 3) n).taken ≤ delivered_before (fed_at 3) n
   pub taken : (state_at toy (fed_at 3) 8).taken ≡ 1
   pub delivered : delivered_before (fed_at 3) 8 ≡ 2
+  -- the edit is taken back
+  pub cleared : IsTraceOf toy 2 first_run (edited_input toy 2 (edited_input toy 2 first_trace 3) 3)
 
 -- Step 2 takes a byte, so the record ends at step 2.
 pub record EarlyInput : Type 0 where
@@ -73,7 +75,7 @@ pub record Query : Type 0 where
   pub from : restored 2 4 7 ≡ 6
   pub gives : steps_from toy first_run 6 (first_trace.point 6) 1 ≡ state_at toy first_run 7
   -- step 5 has loaded 5 * 256 + 7
-  pub acc : (steps_from toy first_run 6 (first_trace.point 6) 1).acc ≡ 1287
+  pub accumulator : (steps_from toy first_run 6 (first_trace.point 6) 1).accumulator ≡ 1287
   -- With checkpoints up to step 2 alone it is two times two steps and one more: five, as many as from step 2.
   pub work : 2 * (7 / 2 - 1) + (7 - restored 2 (1 + (7 / 2 - 1)) 7) ≡ 5
   pub from_old : 7 - restored 2 1 7 ≡ 5

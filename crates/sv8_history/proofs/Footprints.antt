@@ -1,23 +1,23 @@
 -- Footprints that are the same, and what they say alike of changes.
 use Rattle.std.proofs.Common.{◌≡◌, ℕ, ◌<◌, ◌≤◌, List, [], ◌∷◌, refl, sym, ◌∙◌, arith}
-use Rattle.sv8_history.specs.Machine.{Foot, SameFoot, Machine, Notes, writes_of, touches_of}
+use Rattle.sv8_history.specs.Machine.{Footprint, SameFootprint, Machine, Notes, writes_of, touches_of}
 use Rattle.sv8_history.specs.Trace.{some_from}
 use Rattle.sv8_history.specs.Changes.{Change}
 use Rattle.sv8_history.specs.Reads.{reads_change, reads_edit}
 use Rattle.sv8_history.proofs.Spans.{some_from-like}
 
-pub foot_same : {C : Type 0} (x : Foot C) → SameFoot x x
-foot_same x = record { reads = λ a. refl; writes = λ a. refl; takes = refl }
+pub footprint_same : {C : Type 0} (x : Footprint C) → SameFootprint x x
+footprint_same x = record { reads = λ a. refl; writes = λ a. refl; takes = refl }
 
-pub foot_then : {C : Type 0} (x y z : Foot C) → SameFoot x y → SameFoot y z → SameFoot x z
-foot_then x y z p q = record { reads = λ a. p.reads a ∙ q.reads a; writes = λ a. p.writes a ∙ q.writes a; takes = p.takes ∙ q.takes }
+pub footprint_then : {C : Type 0} (x y z : Footprint C) → SameFootprint x y → SameFootprint y z → SameFootprint x z
+footprint_then x y z p q = record { reads = λ a. p.reads a ∙ q.reads a; writes = λ a. p.writes a ∙ q.writes a; takes = p.takes ∙ q.takes }
 
-pub foot_back : {C : Type 0} (x y : Foot C) → SameFoot x y → SameFoot y x
-foot_back x y p = record { reads = λ a. sym (p.reads a); writes = λ a. sym (p.writes a); takes = sym p.takes }
+pub footprint_back : {C : Type 0} (x y : Footprint C) → SameFootprint x y → SameFootprint y x
+footprint_back x y p = record { reads = λ a. sym (p.reads a); writes = λ a. sym (p.writes a); takes = sym p.takes }
 
 -- the notes of the steps before `r` are the same
 abbrev pub AreAlike : (m : Machine) → Notes m → Notes m → ℕ → Type 0
-AreAlike m x y r = (n : ℕ) → n < r → SameFoot (x n) (y n)
+AreAlike m x y r = (n : ℕ) → n < r → SameFootprint (x n) (y n)
 
 pub touches_like : (m : Machine) (x y : Notes m) (r : ℕ) → AreAlike m x y r → (a : m.Cell) (n : ℕ) → n < r → touches_of m x a n ≡ touches_of m y a n
 touches_like m x y r alike a n l =
