@@ -36,7 +36,7 @@ back_by_poke m law old mid r a t u p has change next unread =
 
     fits : (q : Option m.Value) → m.poke a (old.events t) ≡ q → m.Fits a (unwrap_or q (m.get a (state_at m mid t)))
     fits None e = law.cells.get_fits a (state_at m mid t) (has_at m law a mid (let i = change.start in rw i has) t)
-    fits (Some w) e = law.events.poke_fits a w (old.events t) e
+    fits (Some w) e = law.events.poke_fits a w (old.events t) (old.valid t) e
 
     undo : IsRepoked m a t (m.poke a (old.events t)) mid old
     undo = record { start = sym change.start; here = law.events.alike_back a (old.events t) (mid.events t) change.here; poke = refl; elsewhere = λ n w. sym (change.elsewhere n w) }

@@ -13,7 +13,7 @@ use Rattle.sv8_history.proofs.Cut.{cut_keeps}
 
 sound_at : (m : Machine) → IsFramed m → (run : Run m) → m.Sound run.start → (n : ℕ) → m.Sound (state_at m run n)
 sound_at m law run h zero = h
-sound_at m law run h (suc n) = law.cells.sound_step (run.events n) (state_at m run n) (sound_at m law run h n)
+sound_at m law run h (suc n) = law.cells.sound_step (run.events n) (state_at m run n) (run.valid n) (sound_at m law run h n)
 
 -- other input, that no step takes
 silent_input : (m : Machine) → IsFramed m → (old new : Run m) (t r : ℕ) → IsRefed m t old new
@@ -30,11 +30,11 @@ silent_input m law old new t r fed untaken = record {
 
     step : (n : ℕ) → n < r → (n < t) ⊎ (t ≤ n) → m.step (new.events n) (state_at m old n) ≡ m.step (old.events n) (state_at m old n)
     step n l (inl h) = let e = fed.before n h in rw e
-    step n l (inr h) = law.input (old.events n) (new.events n) (state_at m old n) (sound_at m law old fed.sound n) (fed.alike n) (none n l h)
+    step n l (inr h) = law.input (old.events n) (new.events n) (state_at m old n) (old.valid n) (new.valid n) (sound_at m law old fed.sound n) (fed.alike n) (none n l h)
 
     footprint : (n : ℕ) → n < r → (n < t) ⊎ (t ≤ n) → SameFootprint (m.footprint (new.events n) (state_at m old n)) (footprint_at m old n)
     footprint n l (inl h) = let e = fed.before n h in rw e (footprint_same (footprint_at m old n))
-    footprint n l (inr h) = law.input_footprint (old.events n) (new.events n) (state_at m old n) (sound_at m law old fed.sound n) (fed.alike n) (none n l h)
+    footprint n l (inr h) = law.input_footprint (old.events n) (new.events n) (state_at m old n) (old.valid n) (new.valid n) (sound_at m law old fed.sound n) (fed.alike n) (none n l h)
 
 takes_like : (m : Machine) (x y : Notes m) (t r : ℕ) → AreAlike m x y r → (n : ℕ) → n < r → takes_edit m x t n ≡ takes_edit m y t n
 takes_like m x y t r alike n l = ap (λ b. leb t n && b) ((alike n l).takes)

@@ -26,13 +26,13 @@ reach m x old new r turns c c-u c-r wrote n t-n n-c =
     rw (q, w)
 
 -- a cell that nothing touches or pokes keeps its value
-unchanged_step : (m : Machine) → IsFramed m → (a : m.Cell) (e : m.Event) (s : m.State) → m.Has a s → m.poke a e ≡ None
+unchanged_step : (m : Machine) → IsFramed m → (a : m.Cell) (e : m.Event) (s : m.State) → m.Valid e → m.Has a s → m.poke a e ≡ None
     → ((m.footprint e s).reads a || (m.footprint e s).writes a) ≡ false → m.get a (m.step e s) ≡ m.get a s
-unchanged_step m law a e s has no_poke untouched =
+unchanged_step m law a e s valid has no_poke untouched =
     let p = or_parts ((m.footprint e s).reads a) ((m.footprint e s).writes a) untouched in
-    let q = quiet_step m law a (m.get a s) e s has (law.cells.get_fits a s has) no_poke p.0 in
+    let q = quiet_step m law a (m.get a s) e s valid has (law.cells.get_fits a s has) no_poke p.0 in
     let q2 = rw (p.1, law.cells.put-get a s) at q in
-    ap (m.get a) q2 ∙ law.cells.get-put a (m.get a s) (m.step e s) (law.cells.has_step a e s has) (law.cells.get_fits a s has)
+    ap (m.get a) q2 ∙ law.cells.get-put a (m.get a s) (m.step e s) (law.cells.has_step a e s valid has) (law.cells.get_fits a s has)
 
 pub unchanged : (m : Machine) → IsFramed m → (a : m.Cell) (run : Run m) (t c : ℕ) → m.Has a run.start → t ≤ c
     → ((n : ℕ) → t ≤ n → n < c → m.poke a (run.events n) ≡ None) → ((n : ℕ) → t ≤ n → n < c → touches_of m (footprint_at m run) a n ≡ false)
@@ -44,7 +44,7 @@ unchanged m law a run t (suc c) has h unpoked untouched = go (unchanged m law a 
         → (c < t) ⊎ (t ≤ c) → m.get a (state_at m run (suc c)) ≡ m.get a (state_at m run t)
     go rest (inl l) = let e : t ≡ suc c = omega arith in rw e
     go rest (inr l) =
-        unchanged_step m law a (run.events c) (state_at m run c) (has_at m law a run has c) (unpoked c l (omega arith)) (untouched c l (omega arith)) ∙ rest l (λ n p q. unpoked n p (omega arith)) (λ n p q. untouched n p (omega arith))
+        unchanged_step m law a (run.events c) (state_at m run c) (run.valid c) (has_at m law a run has c) (unpoked c l (omega arith)) (untouched c l (omega arith)) ∙ rest l (λ n p q. unpoked n p (omega arith)) (λ n p q. untouched n p (omega arith))
 
 -- values in the changed run
 get_cond : (m : Machine) → IsFramed m → (a : m.Cell) (v : m.Value) (s r : m.State) (live : Bool) → m.Has a s → m.Fits a v

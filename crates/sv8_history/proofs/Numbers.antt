@@ -287,7 +287,7 @@ source_stored_over_worked = record {
 }
   where
     between : Run toy
-    between = record { start = record first_run.start { high = 6 }; events = first_run.events }
+    between = record { start = record first_run.start { high = 6 }; events = first_run.events; valid = λ n. tt }
 
     edit : IsEdited toy source_edit first_run source_run
     edit = (
@@ -306,7 +306,7 @@ source_edit_worked = record {
 }
   where
     between : Run toy
-    between = record { start = record plain_run.start { high = 6 }; events = plain_run.events }
+    between = record { start = record plain_run.start { high = 6 }; events = plain_run.events; valid = λ n. tt }
 
     edit : IsEdited toy source_edit plain_run plain_source_run
     edit = (

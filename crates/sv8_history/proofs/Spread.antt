@@ -38,22 +38,22 @@ Mix m x old new n = state_at m new n ≡ cond (some_from x.from n (writes_of m (
 
 pub has_at : (m : Machine) → IsFramed m → (a : m.Cell) (run : Run m) → m.Has a run.start → (n : ℕ) → m.Has a (state_at m run n)
 has_at m law a run h zero = h
-has_at m law a run h (suc n) = law.cells.has_step a (run.events n) (state_at m run n) (has_at m law a run h n)
+has_at m law a run h (suc n) = law.cells.has_step a (run.events n) (state_at m run n) (run.valid n) (has_at m law a run h n)
 
 -- one quiet step
-pub quiet_step : (m : Machine) → IsFramed m → (a : m.Cell) (v : m.Value) (e : m.Event) (s : m.State) → m.Has a s → m.Fits a v → m.poke a e ≡ None
+pub quiet_step : (m : Machine) → IsFramed m → (a : m.Cell) (v : m.Value) (e : m.Event) (s : m.State) → m.Valid e → m.Has a s → m.Fits a v → m.poke a e ≡ None
     → (m.footprint e s).reads a ≡ false → m.step e (m.put a v s) ≡ cond ((m.footprint e s).writes a) (m.step e s) (m.put a v (m.step e s))
-quiet_step m law a v e s has fits no_poke no_read =
-    let q = law.quiet a v e e s has fits (law.events.alike_self a e) no_read in
+quiet_step m law a v e s valid has fits no_poke no_read =
+    let q = law.quiet a v e e s valid valid has fits (law.events.alike_self a e) no_read in
     rw no_poke at q
 
 -- one step of the mixture, from a state that the change was written over in, or not
-mix_step : (m : Machine) → IsFramed m → (a : m.Cell) (v : m.Value) (e f : m.Event) (s r : m.State) (wrote within : Bool) → m.Has a s → m.Fits a v
+mix_step : (m : Machine) → IsFramed m → (a : m.Cell) (v : m.Value) (e f : m.Event) (s r : m.State) (wrote within : Bool) → m.Valid e → m.Has a s → m.Fits a v
     → f ≡ e → within ≡ true → r ≡ cond wrote s (m.put a v s) → m.poke a e ≡ None → (wrote ≡ false → (m.footprint e s).reads a ≡ false)
     → m.step f r ≡ cond (wrote || within && (m.footprint e s).writes a) (m.step e s) (m.put a v (m.step e s))
-mix_step m law a v e f s r true within has fits same w is no_poke no_read = rw same (ap (m.step e) is)
-mix_step m law a v e f s r false within has fits same w is no_poke no_read =
-    rw (same, w) (ap (m.step e) is ∙ quiet_step m law a v e s has fits no_poke (no_read refl))
+mix_step m law a v e f s r true within valid has fits same w is no_poke no_read = rw same (ap (m.step e) is)
+mix_step m law a v e f s r false within valid has fits same w is no_poke no_read =
+    rw (same, w) (ap (m.step e) is ∙ quiet_step m law a v e s valid has fits no_poke (no_read refl))
 
 during : (m : Machine) → IsFramed m → (x : Shift m) (old new : Run m) (r : ℕ) → Turns m x old new r → (n : ℕ) → x.first ≤ n → n ≤ x.last → n ≤ r
     → Mix m x old new n
@@ -65,7 +65,7 @@ during m law x old new r turns (suc n) lo-n n-u n-r = go (during m law x old new
     go rest (inl h) = let e : x.first ≡ suc n = omega arith in subst (λ k. Mix m x old new k) e (turns.base (omega arith))
     go rest (inr h) =
         mix_step
-        m law x.cell x.value (old.events n) (new.events n) (state_at m old n) (state_at m new n) (some_from x.from n (writes_of m (footprint_at m old) x.cell)) (leb x.from n) (has_at m law x.cell old turns.has n) turns.fits
+        m law x.cell x.value (old.events n) (new.events n) (state_at m old n) (state_at m new n) (some_from x.from n (writes_of m (footprint_at m old) x.cell)) (leb x.from n) (old.valid n) (has_at m law x.cell old turns.has n) turns.fits
         (turns.same_events n h)
         (le-leb x.from n (let a = turns.from-first in omega arith))
         (rest h (omega arith) (omega arith))
@@ -73,14 +73,14 @@ during m law x old new r turns (suc n) lo-n n-u n-r = go (during m law x old new
         (turns.unread n (let a = turns.from-first in omega arith) (omega arith) (omega arith))
 
 -- at the next poke of the cell the states become one again
-alike_step : (m : Machine) → IsFramed m → (a : m.Cell) (v : m.Value) (e f : m.Event) (s r : m.State) (wrote : Bool) → m.Has a s → m.Fits a v → f ≡ e
+alike_step : (m : Machine) → IsFramed m → (a : m.Cell) (v : m.Value) (e f : m.Event) (s r : m.State) (wrote : Bool) → m.Valid e → m.Has a s → m.Fits a v → f ≡ e
     → r ≡ cond wrote s (m.put a v s) → is_some (m.poke a e) ≡ true → m.step f r ≡ m.step e s
-alike_step m law a v e f s r true has fits same is poked = rw same (ap (m.step e) is)
-alike_step m law a v e f s r false has fits same is poked = go (m.poke a e) refl poked
+alike_step m law a v e f s r true valid has fits same is poked = rw same (ap (m.step e) is)
+alike_step m law a v e f s r false valid has fits same is poked = go (m.poke a e) refl poked
   where
     go : (p : Option m.Value) → m.poke a e ≡ p → is_some p ≡ true → m.step f r ≡ m.step e s
     go None q h = cc
-    go (Some w) q h = rw same (ap (m.step e) is ∙ law.alike a w v e s has fits q)
+    go (Some w) q h = rw same (ap (m.step e) is ∙ law.alike a w v e s valid has fits q)
 
 after : (m : Machine) → IsFramed m → (x : Shift m) (old new : Run m) (r : ℕ) → Turns m x old new r → (n : ℕ) → x.last < n → n ≤ r
     → state_at m new n ≡ state_at m old n
@@ -97,7 +97,7 @@ after m law x old new r turns (suc n) u-n n-r = go (after m law x old new r turn
         let l : x.first ≤ n = (let a = turns.first-last in omega arith) in
         let p : is_some (m.poke x.cell (old.events n)) ≡ true = rw e (turns.poked (omega arith)) in
         alike_step
-        m law x.cell x.value (old.events n) (new.events n) (state_at m old n) (state_at m new n) (some_from x.from n (writes_of m (footprint_at m old) x.cell)) (has_at m law x.cell old turns.has n) turns.fits
+        m law x.cell x.value (old.events n) (new.events n) (state_at m old n) (state_at m new n) (some_from x.from n (writes_of m (footprint_at m old) x.cell)) (old.valid n) (has_at m law x.cell old turns.has n) turns.fits
         (turns.same_events n l)
         (during m law x old new r turns n l h (omega arith))
         p
@@ -123,18 +123,18 @@ footprint_step : (m : Machine) (a : m.Cell) (v : m.Value) (e f : m.Event) (s r :
 footprint_step m a v e f s r true same is h = rw (same, is) (footprint_same (m.footprint e s))
 footprint_step m a v e f s r false same is h = rw (same, is) (h refl)
 
-quiet_footprint_step : (m : Machine) → IsFramed m → (a : m.Cell) (v : m.Value) (e : m.Event) (s : m.State) → m.Has a s → m.Fits a v
+quiet_footprint_step : (m : Machine) → IsFramed m → (a : m.Cell) (v : m.Value) (e : m.Event) (s : m.State) → m.Valid e → m.Has a s → m.Fits a v
     → (m.footprint e s).reads a ≡ false → SameFootprint (m.footprint e (m.put a v s)) (m.footprint e s)
-quiet_footprint_step m law a v e s has fits no_read =
-    law.quiet_footprint a v e e s has fits (law.events.alike_self a e) no_read
+quiet_footprint_step m law a v e s valid has fits no_read =
+    law.quiet_footprint a v e e s valid valid has fits (law.events.alike_self a e) no_read
 
-alike_footprint_step : (m : Machine) → IsFramed m → (a : m.Cell) (v : m.Value) (e : m.Event) (s : m.State) → m.Has a s → m.Fits a v
+alike_footprint_step : (m : Machine) → IsFramed m → (a : m.Cell) (v : m.Value) (e : m.Event) (s : m.State) → m.Valid e → m.Has a s → m.Fits a v
     → is_some (m.poke a e) ≡ true → SameFootprint (m.footprint e (m.put a v s)) (m.footprint e s)
-alike_footprint_step m law a v e s has fits poked = go (m.poke a e) refl poked
+alike_footprint_step m law a v e s valid has fits poked = go (m.poke a e) refl poked
   where
     go : (p : Option m.Value) → m.poke a e ≡ p → is_some p ≡ true → SameFootprint (m.footprint e (m.put a v s)) (m.footprint e s)
     go None q h = cc
-    go (Some w) q h = law.alike_footprint a w v e s has fits q
+    go (Some w) q h = law.alike_footprint a w v e s valid has fits q
 
 -- the footprints of the two runs are one
 pub same_footprints : (m : Machine) → IsFramed m → (x : Shift m) (old new : Run m) (r : ℕ) → Turns m x old new r → (n : ℕ) → n < r
@@ -148,13 +148,13 @@ same_footprints m law x old new r turns n n-r = go (cases_lt n x.first) (cases_o
         m x.cell x.value (old.events n) (new.events n) (state_at m old n) (state_at m new n) (some_from x.from n (writes_of m (footprint_at m old) x.cell))
         (turns.same_events n h)
         (during m law x old new r turns n h (omega arith) (omega arith))
-        (λ w. alike_footprint_step m law x.cell x.value (old.events n) (state_at m old n) (has_at m law x.cell old turns.has n) turns.fits (rw k (turns.poked (omega arith))))
+        (λ w. alike_footprint_step m law x.cell x.value (old.events n) (state_at m old n) (old.valid n) (has_at m law x.cell old turns.has n) turns.fits (rw k (turns.poked (omega arith))))
     go (inr h) (inr (inl k)) =
         footprint_step
         m x.cell x.value (old.events n) (new.events n) (state_at m old n) (state_at m new n) (some_from x.from n (writes_of m (footprint_at m old) x.cell))
         (turns.same_events n h)
         (during m law x old new r turns n h (omega arith) (omega arith))
-        (λ w. quiet_footprint_step m law x.cell x.value (old.events n) (state_at m old n) (has_at m law x.cell old turns.has n) turns.fits (turns.unread n (let a = turns.from-first in omega arith) k n-r w))
+        (λ w. quiet_footprint_step m law x.cell x.value (old.events n) (state_at m old n) (old.valid n) (has_at m law x.cell old turns.has n) turns.fits (turns.unread n (let a = turns.from-first in omega arith) k n-r w))
     go (inr h) (inr (inr k)) =
         footprint_step
         m x.cell x.value (old.events n) (new.events n) (state_at m old n) (state_at m new n) true

@@ -59,8 +59,8 @@ toy_cells = record {
   get-put = λ a v s has. get-put a v s;
   get-put_other = get-put_other;
   get_fits = λ a s has. get_fits a s;
-  sound_step = λ e s sound. tt;
-  has_step = λ a e s has. tt;
+  sound_step = λ e s valid sound. tt;
+  has_step = λ a e s valid has. tt;
   has_put = λ a b v s has there fit. tt;
 }
 
@@ -109,7 +109,7 @@ toy_events : AreEvents toy
 toy_events = record {
   alike_self = alike_self;
   alike_back = alike_back;
-  poke_fits = poke_fits;
+  poke_fits = λ a v e valid. poke_fits a v e;
   alike_poke = alike_poke;
   input_back = λ e f h. sym (ap {A = Event} {B = Event} (λ x. record x { delivered = e.delivered }) h);
   input_poke = input_poke;
@@ -234,10 +234,10 @@ toy_acts : IsActing toy_parts
 toy_acts = record {
   step_is = λ e s. refl;
   footprint_is = λ e s. refl;
-  sound_come = λ e s sound. tt;
-  has_come = λ a e s has. tt;
-  comes = λ a v e f s has fit alike. comes a v e f s alike;
-  delivers = λ e f s alike. (f.delivered, ap (λ x. come x s) alike);
+  sound_come = λ e s valid sound. tt;
+  has_come = λ a e s valid has. tt;
+  comes = λ a v e f s valid too has fit alike. comes a v e f s alike;
+  delivers = λ e f s valid too alike. (f.delivered, ap (λ x. come x s) alike);
   quiet = λ a v r has fit unread. quiet a v r unread;
   quiet_footprint = λ a v r has fit unread. same_footprint a v r.state;
   untaken = λ bytes r sound none. untaken (code_of r.state) bytes r.delivered (tick r.state) none;

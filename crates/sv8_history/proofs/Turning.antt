@@ -32,7 +32,7 @@ turns_by_poke m law a v t u r p old new has fits edit next value unread = record
   footprint_before = λ n h k. footprint n k (cases_lt n t) h;
   base = λ h.
       let s = states_before m a t p old new edit t (omega arith) in
-      let q = law.quiet a (m.get a (state_at m old t)) (old.events t) (new.events t) (state_at m old t) (has_at m law a old has t) (law.cells.get_fits a (state_at m old t) (has_at m law a old has t)) edit.here (no_read h) in
+      let q = law.quiet a (m.get a (state_at m old t)) (old.events t) (new.events t) (state_at m old t) (old.valid t) (new.valid t) (has_at m law a old has t) (law.cells.get_fits a (state_at m old t) (has_at m law a old has t)) edit.here (no_read h) in
       let q1 = rw (edit.poke, law.cells.put-get) at q in
       let q2 : m.step (new.events t) (state_at m old t) ≡ cond (writes_of m (footprint_at m old) a t) (m.step (old.events t) (state_at m old t)) (m.put a v (m.step (old.events t) (state_at m old t))) = rw value q1 in
       let none : some_from t t (writes_of m (footprint_at m old) a) ≡ false = none_from t t (writes_of m (footprint_at m old) a) (λ n b c. absurd (omega arith)) in
@@ -54,7 +54,7 @@ turns_by_poke m law a v t u r p old new has fits edit next value unread = record
     footprint n k (inr h) l =
         let at_t : n ≡ t = omega arith in
         let s = states_before m a t p old new edit t (omega arith) in
-        let q = law.quiet_footprint a (m.get a (state_at m old t)) (old.events t) (new.events t) (state_at m old t) (has_at m law a old has t) (law.cells.get_fits a (state_at m old t) (has_at m law a old has t)) edit.here (no_read (omega arith)) in
+        let q = law.quiet_footprint a (m.get a (state_at m old t)) (old.events t) (new.events t) (state_at m old t) (old.valid t) (new.valid t) (has_at m law a old has t) (law.cells.get_fits a (state_at m old t) (has_at m law a old has t)) edit.here (no_read (omega arith)) in
         let q2 = rw law.cells.put-get at q in
         rw (footprint_at, at_t) (rw s q2)
 
@@ -103,7 +103,7 @@ turns_parts : (m : Machine) → IsFramed m → (old new : Run m) (r : ℕ) (a : 
     → ((n : ℕ) → t ≤ n → n < u → n < r → some_from t n (writes_of m (footprint_at m old) a) ≡ false → reads_of m (footprint_at m old) a n ≡ false)
     → Turns m (shift_of m old (record { cell = a; from = t; to = u; cause = d })) old new r
 turns_parts m law old new r a t u (Poke v) plan change unread =
-    turns_by_poke m law a v t u r (Some v) old new plan.has (law.events.poke_fits a v (new.events t) change.poke) change plan.next refl unread
+    turns_by_poke m law a v t u r (Some v) old new plan.has (law.events.poke_fits a v (new.events t) (new.valid t) change.poke) change plan.next refl unread
 turns_parts m law old new r a t u Clear plan change unread =
     turns_by_poke m law a (m.get a (state_at m old t)) t u r None old new plan.has (law.cells.get_fits a (state_at m old t) (has_at m law a old plan.has t)) change.1 plan.next refl unread
 turns_parts m law old new r a t u (Image v) plan change unread = go t change.0 plan.next.after plan.next.none_between unread

@@ -23,13 +23,13 @@ pub record IsActing (p : Acting) : Type 0 where
   -- a step is its two parts
   pub step_is : (e : p.machine.Event) (s : p.machine.State) → p.machine.step e s ≡ p.act (p.come e s)
   pub footprint_is : (e : p.machine.Event) (s : p.machine.State) → p.machine.footprint e s ≡ p.footprint (p.come e s)
-  pub sound_come : (e : p.machine.Event) (s : p.machine.State) → p.machine.Sound s → p.Sound (p.come e s)
-  pub has_come : (a : p.machine.Cell) (e : p.machine.Event) (s : p.machine.State) → p.machine.Has a s → p.Has a (p.come e s)
+  pub sound_come : (e : p.machine.Event) (s : p.machine.State) → p.machine.Valid e → p.machine.Sound s → p.Sound (p.come e s)
+  pub has_come : (a : p.machine.Cell) (e : p.machine.Event) (s : p.machine.State) → p.machine.Valid e → p.machine.Has a s → p.Has a (p.come e s)
   -- THE EVENT: what came of two states and two events that differ in one cell differs there alone. It holds what was poked, or else what it had.
-  pub comes : (a : p.machine.Cell) (v : p.machine.Value) (e f : p.machine.Event) (s : p.machine.State) → p.machine.Has a s → p.machine.Fits a v
+  pub comes : (a : p.machine.Cell) (v : p.machine.Value) (e f : p.machine.Event) (s : p.machine.State) → p.machine.Valid e → p.machine.Valid f → p.machine.Has a s → p.machine.Fits a v
       → p.machine.AlikeBut a e f → p.come f (p.machine.put a v s) ≡ p.put a (unwrap_or (p.machine.poke a f) v) (p.come e s)
   -- events that differ in the input leave other bytes waiting, and nothing else
-  pub delivers : (e f : p.machine.Event) (s : p.machine.State) → p.machine.AlikeInput e f
+  pub delivers : (e f : p.machine.Event) (s : p.machine.State) → p.machine.Valid e → p.machine.Valid f → p.machine.AlikeInput e f
       → (w : p.Waiting) × (p.come f s ≡ p.wait w (p.come e s))
   -- THE ACT, where it does not read the cell: what it makes differs there alone, and not even there where it wrote it
   pub quiet : (a : p.machine.Cell) (v : p.machine.Value) (r : p.Ready) → p.Has a r → p.machine.Fits a v → (p.footprint r).reads a ≡ false

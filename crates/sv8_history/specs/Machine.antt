@@ -20,8 +20,9 @@ pub record SameFootprint {Cell : Type 0} (x y : Footprint Cell) : Type 0 where
 -- those that were taken, and each event has all that were delivered so far.
 pub record Machine : Type 1 where
   pub State : Type 0
-  -- what comes from outside in one step
+  -- what comes from outside in one step, and what holds of it: a poked byte is below 256, a requested level is one
   pub Event : Type 0
+  pub Valid : Event → Type 0
   pub Cell : Type 0
   -- what stands in a cell: a number in a byte, pending or not in a level
   pub Value : Type 0
@@ -53,6 +54,7 @@ pub record Machine : Type 1 where
 pub record Run (m : Machine) : Type 0 where
   pub start : m.State
   pub events : ℕ → m.Event
+  pub valid : (n : ℕ) → m.Valid (events n)
 
 -- the state before step n and its event
 abbrev pub state_at : (m : Machine) → Run m → ℕ → m.State

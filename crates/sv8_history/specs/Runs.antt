@@ -25,21 +25,22 @@ pokes n = cond (n == 3) (record nothing { low = Some 8 }) (cond (n == 5) (record
 
 -- THE RUN. Step 0 stores 1286, which is 5 * 256 + 6. The timer expires in step 2, which also takes a byte. Step 5 loads the word, and step 7 asks the level.
 abbrev pub first_run : Run toy
-first_run = record { start = start_with store; events = pokes }
+first_run = record { start = start_with store; events = pokes; valid = λ n. tt }
 
 -- the same without the store
 abbrev pub plain_run : Run toy
-plain_run = record { start = start_with idle; events = pokes }
+plain_run = record { start = start_with idle; events = pokes; valid = λ n. tt }
 
 -- the run with another event of step `t`
 abbrev pub at : ℕ → Event → Run toy → Run toy
-at t e run = record { start = run.start; events = λ n. cond (n == t) e (run.events n) }
+at t e run = record { start = run.start; events = λ n. cond (n == t) e (run.events n); valid = λ n. tt }
 
 -- the run with another byte delivered from step `t` on
 abbrev pub fed_at : ℕ → Run toy
 fed_at t = record {
   start = first_run.start;
   events = λ n. cond (leb t n) (record (pokes n) { delivered = 10 ∷ 65 ∷ [] }) (pokes n);
+  valid = λ n. tt;
 }
 
 -- the number of bytes delivered before a step

@@ -156,6 +156,7 @@ abbrev pub toy : Machine
 toy = record {
   State = State;
   Event = Event;
+  Valid = λ e. Unit {0};
   Cell = Cell;
   Value = Value;
   same = same_cell;

@@ -171,7 +171,7 @@ source_edit =
     record { cell = high_byte; from = 0; to = 100; cause = Image (number 6) } ∷ record { cell = low_byte; from = 0; to = 3; cause = Image (number 7) } ∷ []
 
 abbrev pub source_run : Run toy
-source_run = record { start = record first_run.start { high = 6; low = 7 }; events = first_run.events }
+source_run = record { start = record first_run.start { high = 6; low = 7 }; events = first_run.events; valid = λ n. tt }
 
 abbrev pub source_trace : Trace toy
 source_trace = edited toy 2 first_trace source_edit
@@ -184,7 +184,7 @@ pub record SourceStoredOver : Type 0 where
   pub points : shows_word source_trace 0 6 7 × shows_word source_trace 2 5 6
 
 abbrev pub plain_source_run : Run toy
-plain_source_run = record { start = record (start_with idle) { high = 6; low = 7 }; events = plain_run.events }
+plain_source_run = record { start = record (start_with idle) { high = 6; low = 7 }; events = plain_run.events; valid = λ n. tt }
 
 abbrev pub plain_source_trace : Trace toy
 plain_source_trace = edited toy 2 (trace_of toy 2 plain_run 4) source_edit
