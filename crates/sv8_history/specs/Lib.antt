@@ -1,0 +1,14 @@
+pub mod Machine
+pub mod Framed
+pub mod Acting
+pub mod Trace
+pub mod Growing
+pub mod Changes
+pub mod Reads
+pub mod Patches
+pub mod Input
+pub mod Laws
+pub mod Toy
+pub mod Runs
+pub mod Worked
+pub mod WorkedTraces
