@@ -1,10 +1,10 @@
 //! The input bytes of one stretch of steps.
 
-ghost use Rattle.std.specs.Prelude.{◌≡◌, ℕ, ◌+◌, ◌≤◌, ◌<◌, ◌^◌, List, [], ◌∷◌, ◌++◌, take, drop, length, MatchResult, OnOk, OnErr, nat_lt, nat_le, true, false, slice_get, slice_set, vec_len, if◌then◌else◌, option_map, Some};
+ghost use Rattle.std.specs.Prelude.{◌≡◌, ℕ, ◌+◌, ◌≤◌, ◌<◌, List, [], ◌∷◌, ◌++◌, take, length, MatchResult, OnOk, OnErr, nat_lt, true, false, slice_get, slice_set, vec_len, if◌then◌else◌, option_map, Some};
 ghost use Rattle.std.specs.List.{prefix_len, insert, remove};
-ghost use Rattle.sv8_time.specs.Order.{Rising, Stands, Misses, passes_at, Each};
+ghost use Rattle.sv8_time.specs.Order.{Stands, Misses, passes_at};
 ghost use Rattle.sv8_time.specs.Schedule.{input_of, input_before, is_input_at, has_input, put_input, cut_input, bytes_of_step, input_bytes, bytes_below, byte_count};
-ghost use Rattle.sv8_time.specs.Inputs.{given, givens, starts_of, IsShort};
+ghost use Rattle.sv8_time.specs.Inputs.{given, givens};
 
 use crate::starts::{Holder, count_started, recount, start_at, start_in};
 use std::alloc::{AllocError, Global};

@@ -1,11 +1,11 @@
 //! The input bytes of a timeline.
 
 ghost use Rattle.std.specs.Prelude.{◌≡◌, ℕ, ◌+◌, ◌/◌, ◌≤◌, ◌<◌, [], ◌∷◌, ◌++◌, length, OnOk, OnErr, true, false, slice_get, slice_index_or, slice_set, if◌then◌else◌};
-ghost use Rattle.sv8_time.specs.Schedule.{Input, input_of, has_input, put_input, cut_input, bytes_of_step, input_bytes, bytes_below};
-ghost use Rattle.sv8_time.specs.Inputs.{joined, whole, Spread};
+ghost use Rattle.sv8_time.specs.Schedule.{input_of, has_input, put_input, cut_input, bytes_of_step, input_bytes, bytes_below};
+ghost use Rattle.sv8_time.specs.Inputs.{joined, Spread};
 
 use crate::block::Block;
-use crate::starts::{Holder, count_started, recount, start_at, start_in};
+use crate::starts::{Holder, count_started, recount, start_in};
 use std::alloc::{AllocError, Global};
 use std::marker::Model;
 
@@ -22,9 +22,10 @@ impl Holder for Block {
     }
 }
 
-/// Inputs in rising step, in a block for each 1,024 steps up to the last that ever had one.
+/// Inputs in rising step: a block for each 1,024 steps, up to the last step that ever had one, and the number of bytes
+/// before each block.
 ///
-/// An edit costs what one block and the number of blocks do, whatever the order of edits.
+/// An edit moves and counts the inputs of one block, and counts the blocks behind it.
 #[derive(Drop)]
 pub(crate) struct Inputs {
     blocks: Vec<Block>,
@@ -52,6 +53,7 @@ fn block_of(step: u32) -> usize
     step as usize / STEPS
 }
 
+/// Puts an empty block behind the others, which have `total` bytes.
 fn add_block(
     blocks: &mut Vec<Block>,
     starts: &mut Vec<u32>,
