@@ -1,5 +1,6 @@
 -- What each operation of Appendix B.11 to B.19 gives, as formulas over whole numbers.
-use Rattle.std.specs.Prelude.{ℕ, ℤ, pos, negsuc, Bool, false, ◌+◌, ◌*◌, ◌-◌, ◌%◌, ◌/◌, ◌^◌, ◌==◌, ◌||◌, not, nat_lt, nat_le, min, if◌then◌else◌, Option, Some, None, ◌+ℤ◌, ◌-ℤ◌, int_div, bit_and, bit_or, bit_xor}
+use Rattle.std.specs.Prelude.{ℕ, ℤ, pos, Bool, false, ◌+◌, ◌*◌, ◌-◌, ◌%◌, ◌/◌, ◌^◌, ◌==◌, ◌||◌, not, nat_lt, nat_le, min, if◌then◌else◌, Option, Some, None, ◌+ℤ◌, ◌-ℤ◌, int_div, bit_and, bit_or, bit_xor}
+use Rattle.sv8_model.specs.Words.{digit, signed, low_bits}
 use Rattle.sv8_alu.specs.declared.Icc.{Icc}
 use Rattle.sv8_alu.specs.declared.Answer.{Answer}
 use Rattle.sv8_alu.specs.declared.Product.{Product}
@@ -10,19 +11,6 @@ use Rattle.sv8_alu.specs.declared.Logical.{Logical}
 use Rattle.sv8_alu.specs.declared.Logical.TheVariants.{And, Andn, Or, Orn, Xor, Xnor}
 use lib.Signed.{lt_z}
 use lib.IntN.{◌*ℤ◌}
-
--- the number that v stands for, as k bits in two's complement
-abbrev pub signed : ℕ → ℕ → ℤ
-signed v k = if nat_lt v (2 ^ (k - 1)) then pos v else (pos v -ℤ pos (2 ^ k))
-
--- the k bits that stand for a number modulo 2^k
-abbrev pub low_bits : ℤ → ℕ → ℕ
-low_bits (pos n) k = n % 2 ^ k
-low_bits (negsuc n) k = 2 ^ k - 1 - n % 2 ^ k
-
--- a condition as one bit
-abbrev pub bit : Bool → ℕ
-bit b = if b then 1 else 0
 
 -- a number outside -2^31 to 2^31 - 1, the range of signed words
 abbrev pub is_outside : ℤ → Bool
@@ -39,14 +27,14 @@ plain_icc value = icc_of value false false
 -- ADD, ADDX and their cc forms (B.13): V where the sum of the signed words is no signed word, C where that of the unsigned ones is 2^32 or more
 abbrev pub sum_of : ℕ → ℕ → Bool → Answer
 sum_of x y carry =
-    let value = (x + y + bit carry) % 2 ^ 32 in
-    record { value = value; icc = icc_of value (is_outside (signed x 32 +ℤ signed y 32 +ℤ pos (bit carry))) (nat_le (2 ^ 32) (x + y + bit carry)) }
+    let value = (x + y + digit carry) % 2 ^ 32 in
+    record { value = value; icc = icc_of value (is_outside (signed x 32 +ℤ signed y 32 +ℤ pos (digit carry))) (nat_le (2 ^ 32) (x + y + digit carry)) }
 
 -- SUB, SUBX and their cc forms (B.15): V where the difference of the signed words is no signed word, C where it borrows
 abbrev pub difference_of : ℕ → ℕ → Bool → Answer
 difference_of x y carry =
-    let value = (x + (2 ^ 32 - (y + bit carry))) % 2 ^ 32 in
-    record { value = value; icc = icc_of value (is_outside (signed x 32 -ℤ signed y 32 -ℤ pos (bit carry))) (nat_lt x (y + bit carry)) }
+    let value = (x + (2 ^ 32 - (y + digit carry))) % 2 ^ 32 in
+    record { value = value; icc = icc_of value (is_outside (signed x 32 -ℤ signed y 32 -ℤ pos (digit carry))) (nat_lt x (y + digit carry)) }
 
 -- V is also set where bits 1:0 of an operand are not 0 (B.14, B.16)
 abbrev pub with_tags : ℕ → ℕ → Answer → Answer
@@ -92,7 +80,7 @@ signed_quotient_of high low divisor =
 
 -- the first operand of MULScc (B.17): N xor V, followed by bits 31:1 of r[rs1]
 abbrev pub shifted_operand : ℕ → Icc → ℕ
-shifted_operand x icc = (if icc.n then bit (not icc.v) else bit icc.v) * 2 ^ 31 + x / 2
+shifted_operand x icc = (if icc.n then digit (not icc.v) else digit icc.v) * 2 ^ 31 + x / 2
 
 -- the second operand of MULScc (B.17): 0 where bit 0 of Y is 0
 abbrev pub chosen_operand : ℕ → ℕ → ℕ

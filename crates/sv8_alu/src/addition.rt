@@ -1,7 +1,8 @@
 //! Sums and differences, plain and tagged.
 
 ghost use Rattle.std.specs.Prelude.{◌≡◌, ◌≤◌, pos, ◌+ℤ◌, ◌-ℤ◌};
-ghost use Rattle.sv8_alu.specs.Arithmetic.{signed, sum_of, difference_of, with_tags, tagged_sum_of, tagged_difference_of};
+ghost use Rattle.sv8_model.specs.Words.{signed};
+ghost use Rattle.sv8_alu.specs.Arithmetic.{sum_of, difference_of, with_tags, tagged_sum_of, tagged_difference_of};
 
 use crate::words::{WORDS, bit_of, codes, overflows, signed_word};
 use crate::{Answer, Icc};

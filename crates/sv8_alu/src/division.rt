@@ -1,7 +1,8 @@
 //! Quotients of a double word by a word.
 
 ghost use Rattle.std.specs.Prelude.{◌≡◌, ◌*◌, ◌+◌, ◌^◌, pos, negsuc, ◌≤ℤ◌, int_div};
-ghost use Rattle.sv8_alu.specs.Arithmetic.{signed, low_bits, is_outside, clamped, quotient_of, signed_quotient_of};
+ghost use Rattle.sv8_model.specs.Words.{signed, low_bits};
+ghost use Rattle.sv8_alu.specs.Arithmetic.{is_outside, clamped, quotient_of, signed_quotient_of};
 
 use crate::Answer;
 use crate::words::{WORDS, codes, signed_word};
@@ -26,6 +27,7 @@ pub fn unsigned_divide(high: u32, low: u32, divisor: u32) -> Option<Answer>
 }
 
 /// The number that a double word stands for in two's complement.
+#[tactic(auto, unfolding(sv8_model::specs::Words::signed))]
 #[inline(always)]
 fn signed_double(high: u32, low: u32) -> i128
     ensures value { result ≡ signed (high * 2 ^ 32 + low) 64 }
@@ -94,6 +96,7 @@ fn outside(z: i128) -> bool
 ///
 /// `high` is Y and `low` is r[rs1]. None where the divisor is 0, so that the instruction traps with
 /// division_by_zero. V tells that the quotient does not fit a signed word; the result is then the nearest one.
+#[tactic(auto, unfolding(sv8_model::specs::Words::signed))]
 pub fn signed_divide(high: u32, low: u32, divisor: u32) -> Option<Answer>
     ensures { result ≡ signed_quotient_of high low divisor }
 {

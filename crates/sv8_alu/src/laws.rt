@@ -13,6 +13,7 @@ ghost use Rattle.sv8_alu.specs.declared.Logical.TheVariants.{And, Andn, Orn, Xor
 /// - `with_carry`: -1 and -1 and the carry are -1.
 /// - `borrows`, `past_least`, `equal`, `with_borrow`: the same of differences.
 /// - `tags` to `second_tag`: an operand that is no multiple of 4 sets V.
+#[tactic(auto, unfolding(sv8_model::specs::Words::signed))]
 pub fn worked_sums()
     ensures past_most { sum_of 0x7FFFFFFF 1 false ≡ answer 0x80000000 (codes true false true false) }
     ensures carries { sum_of 0xFFFFFFFF 1 false ≡ answer 0 (codes false true false true) }
@@ -33,6 +34,7 @@ pub fn worked_sums()
 /// - `high_bit`: 80000000 times 2 is 00000001 00000000; `signed_high_bit`: as signed words it is -2^32.
 /// - `adds`: with bit 0 of Y set, half of 6 and the operand 5 are 8; `next_bit`: bit 0 of 6 goes into Y.
 /// - `passes`: with bit 0 of Y clear nothing is added, and N other than V comes in from the left.
+#[tactic(auto, unfolding(sv8_model::specs::Words::signed))]
 pub fn worked_products()
     ensures largest { product_of 0xFFFFFFFF 0xFFFFFFFF ≡ record { high = 0xFFFFFFFE; low = answer 1 (codes false false false false) } }
     ensures ones { signed_product_of 0xFFFFFFFF 0xFFFFFFFF ≡ record { high = 0; low = answer 1 (codes false false false false) } }
@@ -49,6 +51,7 @@ pub fn worked_products()
 /// - `no_quotient` and `no_signed_quotient`: a divisor of 0.
 /// - `rounded` and `rounded_signed`: 7 by 2 is 3, and -7 by 2 is -3.
 /// - `least`: -2^63 by -1, which 64 bits do not hold.
+#[tactic(auto, unfolding(sv8_model::specs::Words::signed))]
 pub fn worked_quotients()
     ensures too_large { quotient_of 1 0 1 ≡ Some (answer 0xFFFFFFFF (codes true false true false)) }
     ensures too_large_signed { signed_quotient_of 0xFFFFFFFF 0x80000000 0xFFFFFFFF ≡ Some (answer 0x7FFFFFFF (codes false false true false)) }

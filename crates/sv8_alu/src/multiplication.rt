@@ -2,7 +2,8 @@
 
 ghost use Rattle.std.specs.Prelude.{◌≡◌, pos, negsuc, ◌≤ℤ◌};
 ghost use lib.IntN.{◌*ℤ◌};
-ghost use Rattle.sv8_alu.specs.Arithmetic.{low_bits, product_of, signed_product_of, shifted_operand, chosen_operand, step_of};
+ghost use Rattle.sv8_model.specs.Words.{low_bits};
+ghost use Rattle.sv8_alu.specs.Arithmetic.{product_of, signed_product_of, shifted_operand, chosen_operand, step_of};
 
 use crate::addition::add;
 use crate::words::{WORDS, plain, signed_word};

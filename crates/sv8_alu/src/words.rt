@@ -1,7 +1,8 @@
 //! Words as signed numbers, and the condition codes of a word.
 
 ghost use Rattle.std.specs.Prelude.{◌≡◌, ◌≤◌, pos, negsuc, ◌≤ℤ◌};
-ghost use Rattle.sv8_alu.specs.Arithmetic.{signed, bit, is_outside, icc_of, plain_icc};
+ghost use Rattle.sv8_model.specs.Words.{signed, digit};
+ghost use Rattle.sv8_alu.specs.Arithmetic.{is_outside, icc_of, plain_icc};
 
 use crate::{Answer, Icc};
 
@@ -9,6 +10,7 @@ use crate::{Answer, Icc};
 pub(crate) const WORDS: u64 = 1 << 32;
 
 /// The number that the word stands for in two's complement.
+#[tactic(auto, unfolding(sv8_model::specs::Words::signed))]
 #[inline(always)]
 pub(crate) fn signed_word(x: u32) -> i64
     ensures value { result ≡ signed x 32 }
@@ -25,7 +27,7 @@ pub(crate) fn signed_word(x: u32) -> i64
 /// A condition as one bit.
 #[inline(always)]
 pub(crate) fn bit_of(b: bool) -> u32
-    ensures value { result ≡ bit b }
+    ensures value { result ≡ digit b }
     ensures small { result ≤ 1 }
 {
     if b { 1 } else { 0 }

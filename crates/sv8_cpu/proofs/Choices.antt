@@ -5,7 +5,8 @@ use Rattle.sv8_trap.specs.declared.table.Trap.{Trap}
 use Rattle.sv8_trap.specs.declared.table.Trap.TheVariants.{PrivilegedInstruction, IllegalInstruction, FpDisabled, CpDisabled, WindowUnderflow, MemAddressNotAligned, DataAccessException}
 use Rattle.sv8_trap.specs.Table.{row_of, taken}
 use Rattle.sv8_trap.specs.Processor.{Processor}
-use Rattle.sv8_regs.specs.Control.{bit_at, above}
+use Rattle.sv8_model.specs.Words.{bit}
+use Rattle.sv8_regs.specs.Control.{above}
 use Rattle.sv8_isa.specs.declared.instr.Operand.{Operand}
 use Rattle.sv8_isa.specs.declared.instr.StateRegister.{StateRegister}
 use Rattle.sv8_isa.specs.declared.instr.MemoryOp.{MemoryOp}
@@ -113,7 +114,7 @@ pub aligned_return : (windows : ℕ) (p : Processor) (rs1 : ℕ) (operand : Oper
 unfolding return_traps
 aligned_return windows p rs1 operand e =
     multiple (sum_of_sources windows p rs1 operand % 4)
-    (none_returning p.registers.psr.et p.registers.psr.s (bit_at p.registers.wim (above windows p.registers.cwp)) (is_misaligned (sum_of_sources windows p rs1 operand)) e)
+    (none_returning p.registers.psr.et p.registers.psr.s (bit p.registers.wim (above windows p.registers.cwp)) (is_misaligned (sum_of_sources windows p rs1 operand)) e)
 
 -- the window of a word for the PSR
 pub present_window : (windows : ℕ) (p : Processor) (register : StateRegister) (rs1 : ℕ) (operand : Operand) → taken (write_traps windows p register rs1 operand) ≡ None

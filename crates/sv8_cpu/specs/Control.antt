@@ -4,7 +4,8 @@ use Rattle.sv8_isa.specs.declared.instr.Operand.{Operand}
 use Rattle.sv8_isa.specs.declared.instr.Cond.{Cond}
 use Rattle.sv8_isa.specs.declared.instr.Cond.TheVariants.{Never, Equal, LessOrEqual, Less, LessOrEqualUnsigned, CarrySet, Negative, OverflowSet, Always, NotEqual, Greater, GreaterOrEqual, GreaterUnsigned, CarryClear, Positive, OverflowClear}
 use Rattle.sv8_model.specs.Words.{word_of_number}
-use Rattle.sv8_regs.specs.Control.{bit_at, above}
+use Rattle.sv8_model.specs.Words.{bit}
+use Rattle.sv8_regs.specs.Control.{above}
 use Rattle.sv8_regs.specs.declared.Psr.{Psr}
 use Rattle.sv8_trap.specs.declared.table.Trap.{Trap}
 use Rattle.sv8_trap.specs.declared.table.Trap.TheVariants.{PrivilegedInstruction, IllegalInstruction, WindowUnderflow, MemAddressNotAligned, TrapInstruction}
@@ -75,7 +76,7 @@ return_traps windows p rs1 operand =
     if p.registers.psr.et
     then (if p.registers.psr.s then IllegalInstruction ∷ [] else PrivilegedInstruction ∷ [])
     else when (not p.registers.psr.s) PrivilegedInstruction
-        ++ when (bit_at p.registers.wim (above windows p.registers.cwp)) WindowUnderflow
+        ++ when (bit p.registers.wim (above windows p.registers.cwp)) WindowUnderflow
         ++ when (is_misaligned (sum_of_sources windows p rs1 operand)) MemAddressNotAligned
 
 -- ---- Ticc (B.27)

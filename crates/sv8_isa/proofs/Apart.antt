@@ -4,7 +4,7 @@ use Rattle.std.specs.Prelude.{count_by}
 use Rattle.std.specs.List.{list_all, list_any}
 use Rattle.std.proofs.lemmas.Bool.{eqb-true, eqb-false, cases_Bool, not-true}
 use Rattle.std.proofs.lemmas.List.Sums.{sum_by-cons}
-use Rattle.sv8_isa.specs.Field.{field}
+use Rattle.sv8_model.specs.Words.{field}
 use Rattle.sv8_isa.specs.Table.{value, high, low, Fixed, Row, fits, table}
 use Rattle.sv8_isa.specs.Laws.{RowsAreApart}
 use Rattle.sv8_isa.proofs.Unused.{both}

@@ -4,7 +4,7 @@ use Rattle.std.proofs.lemmas.Bool.{eqb-true, eqb-false, cases_Bool, cases_lt}
 use Rattle.std.proofs.lemmas.Bool.Decides.{nat_tests}
 use Rattle.std.proofs.lemmas.Int.{ints}
 use Rattle.std.proofs.lemmas.Nat.{mod_below, pow_pos}
-use Rattle.sv8_isa.specs.Field.{field, signed}
+use Rattle.sv8_model.specs.Words.{field, signed}
 use Rattle.sv8_isa.specs.Operands.{operand_of, count_of, trap_number_of, condition_of}
 use Rattle.sv8_isa.specs.Table.{op, op2, op3, rd, rs1, rs2, i, asi, annul, cond, simm13, low5, low7, low19, imm22, disp30, low, placed, Fixed, ◌is◌, Row, row, fits, source, table, row_of, meaning, canonical, bits_at, instr_at}
 use Rattle.sv8_isa.specs.Encoding.{encoding, format_2, format_3, format_call, source_bits, natural_source, alternate_source, unsigned_bits, signed_bits, cond_code, annul_code}

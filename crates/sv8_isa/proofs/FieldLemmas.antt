@@ -4,7 +4,7 @@ use Rattle.std.proofs.lemmas.Bool.Decides.{nat_tests}
 use Rattle.std.proofs.lemmas.Int.{ints}
 use Rattle.std.proofs.Math.Nat.{mod-eq_of_lt}
 use Rattle.std.proofs.lemmas.Nat.{pow-add, mod_low, pow_pos}
-use Rattle.sv8_isa.specs.Field.{signed}
+use Rattle.sv8_model.specs.Words.{signed}
 use Rattle.sv8_isa.specs.Encoding.{signed_bits}
 
 pub signed_low : (v k : ℕ) → v < 2 ^ (k - 1) → signed v k ≡ pos v

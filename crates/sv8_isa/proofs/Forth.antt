@@ -4,7 +4,7 @@ use Rattle.std.specs.Prelude.{IfSome}
 use Rattle.std.proofs.lemmas.Bool.{eqb-true, cases_Bool, cases_lt}
 use Rattle.std.proofs.lemmas.Bool.Decides.{nat_tests}
 use Rattle.std.proofs.lemmas.Int.{ints}
-use Rattle.sv8_isa.specs.Field.{field, signed}
+use Rattle.sv8_model.specs.Words.{field, signed}
 use Rattle.sv8_isa.specs.Operands.{operand_of, count_of, trap_number_of, condition_of}
 use Rattle.sv8_isa.specs.Table.{meaning, instr_at}
 use Rattle.sv8_isa.specs.Encoding.{encoding, format_2, format_3, format_call, source_bits, natural_source, natural_bits, alternate_source, unsigned_bits, signed_bits, immediate_source, cond_code, annul_code, arith_code, cc_code, tagged_code, shift_code, read_code, write_code, memory_code, fp_word, cp_word}

@@ -3,7 +3,7 @@ use Rattle.std.proofs.Common.{◌≡◌, ℕ, zero, suc, ◌<◌, Bool, true, fa
 use Rattle.std.specs.List.{filter, list_all, list_any}
 use Rattle.std.specs.Option.{is_none}
 use Rattle.std.proofs.lemmas.Bool.{ne_eqb, cases_lt}
-use Rattle.sv8_isa.specs.Field.{field}
+use Rattle.sv8_model.specs.Words.{field}
 use Rattle.sv8_isa.specs.Table.{Field, op, op3, value, Row, table, meaning, instr_at}
 use Rattle.sv8_isa.specs.declared.instr.Instr.TheVariants.{Illegal}
 

@@ -1,6 +1,6 @@
 -- What the operand fields of a word stand for.
 use Rattle.std.specs.Prelude.{ℕ, pos, ◌==◌, if◌then◌else◌, List, [], ◌∷◌, slice_index_or}
-use Rattle.sv8_isa.specs.Field.{field, signed}
+use Rattle.sv8_model.specs.Words.{field, signed}
 use Rattle.sv8_isa.specs.declared.instr.Operand.{Operand}
 use Rattle.sv8_isa.specs.declared.instr.Operand.TheVariants.{Register, Immediate}
 use Rattle.sv8_isa.specs.declared.instr.Cond.{Cond}

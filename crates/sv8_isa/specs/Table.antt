@@ -1,7 +1,7 @@
 -- The opcode table: a list of rows. A row fixes some fields of a word, and names others as operands.
 use Rattle.std.specs.Prelude.{ℕ, Bool, ◌+◌, ◌*◌, ◌^◌, ◌==◌, ◌||◌, if◌then◌else◌, List, [], ◌∷◌, ◌++◌, Option, Some, None, find, map, true, false}
 use Rattle.std.specs.List.{list_all}
-use Rattle.sv8_isa.specs.Field.{field, signed}
+use Rattle.sv8_model.specs.Words.{field, signed}
 use Rattle.sv8_isa.specs.Operands.{operand_of, count_of, trap_number_of, condition_of}
 use Rattle.sv8_isa.specs.declared.instr.Operand.{Operand}
 use Rattle.sv8_isa.specs.declared.instr.ArithOp.TheVariants.{Add, And, Or, Xor, Sub, Andn, Orn, Xnor, Addx, Umul, Smul, Subx, Udiv, Sdiv}

@@ -289,29 +289,13 @@ pub fn encode(instr: &Instr) -> Option<u32>
     opcodes!(encode_rows!(instr))
 }
 
-/// A test of a word, from the list.
+/// A test of a word, from the group of the queue stores, which is the last of the list.
 macro_rules! queue_rows {
-    (
-        [$word:ident]
-        call $call:literal
-        format_2 { Unimp $unimp:literal, Bicc $bicc:literal, Sethi $sethi:literal }
-        format_2_whole { $($near:ident $near_code:literal),* }
-        arith { $($arith:ident $plain:literal $cc:literal),* }
-        tagged { $($tagged:ident $tagged_code:literal),* }
-        three_fields { $($three:ident $three_code:literal),* }
-        two_fields { $($two:ident $two_code:literal),* }
-        shift { $($shift:ident $shift_code:literal),* }
-        trap { Ticc $ticc:literal }
-        read_y { ReadState $rdy:literal $rdy_rs1:literal, Stbar $stbar:literal $stbar_rs1:literal }
-        read { $($from:ident $read_code:literal),* }
-        write_y { WriteState $wry:literal $wry_rd:literal }
-        write { $($to:ident $write_code:literal),* }
-        whole { $($whole:ident $whole_code:literal),* }
-        memory { $($memory:ident $normal:literal $alternate:literal),* }
-        memory_whole { $($far:ident $far_code:literal),* }
-        queue_whole { $($queue:ident $queue_code:literal),* }
-    ) => {
+    ([$word:ident] queue_whole { $($queue:ident $queue_code:literal),* }) => {
         bits($word, 31, 30) == 3 && ($(bits($word, 24, 19) == $queue_code)||*)
+    };
+    ([$word:ident] $group:ident $rows:tt $($later:tt)*) => {
+        queue_rows!([$word] $($later)*)
     };
 }
 

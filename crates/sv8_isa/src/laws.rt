@@ -40,7 +40,7 @@ pub fn encodes_in_range()
 /// - `state`: `wr %g0, 0xa0, %psr`. `itself`: `ba,a` to itself. `back`: `bne` to two words before it.
 /// - `zero`: the word 0 is UNIMP. `barrier` to `no_y`: op3 28 (hexadecimal) with rs1 15, 0 and 3.
 /// - `space_immediate`: an alternate space form with i = 1. `float`: a floating-point word, kept whole.
-#[tactic(auto, unfolding(crate::specs::Table::meaning, crate::specs::Field::field, crate::specs::Field::signed, crate::specs::Operands::operand_of, crate::specs::Operands::count_of, crate::specs::Operands::trap_number_of, crate::specs::Operands::condition_of))]
+#[tactic(auto, unfolding(crate::specs::Table::meaning, sv8_model::specs::Words::field, sv8_model::specs::Words::signed, crate::specs::Operands::operand_of, crate::specs::Operands::count_of, crate::specs::Operands::trap_number_of, crate::specs::Operands::condition_of))]
 pub fn worked_meanings()
     ensures sum { meaning 0x84006001 ≡ Arith Add false 2 1 (Immediate (pos 1)) }
     ensures set_5 { meaning 0x82102005 ≡ Arith Or false 1 0 (Immediate (pos 5)) }
@@ -67,7 +67,7 @@ pub fn worked_meanings()
 /// - `too_large`: 4096 is no immediate number of 13 bits with a sign. `no_register`: there is no register 32.
 /// - `no_float`: `Fp` of a word that is `nop` has none. `no_word`: neither have `AltImm` and `Illegal`.
 /// - `reserved`: of `rett %l2` with rd and asi bits set, those bits are dropped.
-#[tactic(auto, unfolding(crate::specs::Table::meaning, crate::specs::Table::canonical, crate::specs::Field::field, crate::specs::Field::signed, crate::specs::Encoding::encoding, crate::specs::Encoding::format_2, crate::specs::Encoding::format_3, crate::specs::Encoding::unsigned_bits, crate::specs::Encoding::signed_bits, crate::specs::Encoding::alternate_source))]
+#[tactic(auto, unfolding(crate::specs::Table::meaning, crate::specs::Table::canonical, sv8_model::specs::Words::field, sv8_model::specs::Words::signed, crate::specs::Encoding::encoding, crate::specs::Encoding::format_2, crate::specs::Encoding::format_3, crate::specs::Encoding::unsigned_bits, crate::specs::Encoding::signed_bits, crate::specs::Encoding::alternate_source))]
 pub fn worked_words()
     ensures sum { encoding (Arith Add false 2 1 (Immediate (pos 1))) ≡ Some 0x84006001 }
     ensures trap { encoding (Ticc Always 0 (Immediate (pos 0))) ≡ Some 0x91D02000 }
@@ -88,7 +88,7 @@ pub fn worked_words()
 {}
 
 /// STDFQ and STDCQ are stores of a queue; STF, the store of a register of the floating-point unit, is none.
-#[tactic(auto, unfolding(crate::specs::Field::field))]
+#[tactic(auto, unfolding(sv8_model::specs::Words::field))]
 pub fn worked_queue_stores()
     ensures float { is_queue_store 0xC1300000 ≡ true }
     ensures coprocessor { is_queue_store 0xC1B00000 ≡ true }

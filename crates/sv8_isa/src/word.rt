@@ -2,7 +2,7 @@
 
 ghost use Rattle.std.specs.Prelude.{◌≡◌, ◌+◌, ◌-◌, ◌^◌, ◌<◌, ◌≤◌, IfSome};
 ghost use Rattle.std.specs.Option.{ForSome};
-ghost use Rattle.sv8_isa.specs.Field.{field, signed};
+ghost use Rattle.sv8_model.specs.Words.{field, signed};
 ghost use Rattle.sv8_isa.specs.Operands.{operand_of, count_of, trap_number_of, condition_of};
 ghost use Rattle.sv8_isa.specs.Registers.{OperandHasRegister};
 ghost use Rattle.sv8_isa.specs.Encoding.{unsigned_bits, signed_bits, source_bits, natural_source, alternate_source, cond_code, annul_code, format_call, format_2, format_3};

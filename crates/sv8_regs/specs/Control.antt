@@ -1,32 +1,25 @@
 -- The control and status registers: chapter 4, section 4.2.
-use Rattle.std.specs.Prelude.{ℕ, Bool, ◌+◌, ◌*◌, ◌-◌, ◌%◌, ◌/◌, ◌^◌, ◌==◌, if◌then◌else◌}
+use Rattle.std.specs.Prelude.{ℕ, ◌+◌, ◌*◌, ◌-◌, ◌%◌, ◌/◌, ◌^◌}
+use Rattle.sv8_model.specs.Words.{bit, digit}
 use Rattle.sv8_regs.specs.declared.Psr.{Psr}
 use Rattle.sv8_regs.specs.declared.ConditionCodes.{ConditionCodes}
-
--- a condition as one bit
-abbrev pub bit : Bool → ℕ
-bit b = if b then 1 else 0
-
--- bit k of a word
-abbrev pub bit_at : ℕ → ℕ → Bool
-bit_at word k = word / 2 ^ k % 2 == 1
 
 -- PSR: N 23, Z 22, V 21, C 20, PIL 11:8, S 7, PS 6, ET 5, CWP 4:0; every other bit reads 0
 abbrev pub packed_psr : Psr → ℕ → ℕ
 packed_psr p cwp =
-    bit p.n * 2 ^ 23 + bit p.z * 2 ^ 22 + bit p.v * 2 ^ 21 + bit p.c * 2 ^ 20 + p.pil * 2 ^ 8 + bit p.s * 2 ^ 7 + bit p.ps * 2 ^ 6 + bit p.et * 2 ^ 5 + cwp
+    digit p.n * 2 ^ 23 + digit p.z * 2 ^ 22 + digit p.v * 2 ^ 21 + digit p.c * 2 ^ 20 + p.pil * 2 ^ 8 + digit p.s * 2 ^ 7 + digit p.ps * 2 ^ 6 + digit p.et * 2 ^ 5 + cwp
 
 -- the fields of a PSR word, but for CWP
 abbrev pub unpacked_psr : ℕ → Psr
 unpacked_psr word = record {
-  n = bit_at word 23;
-  z = bit_at word 22;
-  v = bit_at word 21;
-  c = bit_at word 20;
+  n = bit word 23;
+  z = bit word 22;
+  v = bit word 21;
+  c = bit word 20;
   pil = word / 2 ^ 8 % 2 ^ 4;
-  s = bit_at word 7;
-  ps = bit_at word 6;
-  et = bit_at word 5;
+  s = bit word 7;
+  ps = bit word 6;
+  et = bit word 5;
 }
 
 -- CWP, bits 4:0 of a PSR word

@@ -7,7 +7,8 @@ mod laws;
 mod tests;
 
 ghost use Rattle.std.specs.Prelude.{◌≡◌, ◌<◌, ◌≤◌, ◌^◌};
-ghost use Rattle.sv8_regs.specs.Control.{bit, bit_at, packed_psr, unpacked_psr, kept_mask};
+ghost use Rattle.sv8_model.specs.Words.{bit, digit};
+ghost use Rattle.sv8_regs.specs.Control.{packed_psr, unpacked_psr, kept_mask};
 
 pub use laws::{
     a_write_is_read, a_write_keeps_others, outs_are_ins_above, packing_keeps_fields,
@@ -88,7 +89,8 @@ impl<const NW: usize> Model for Regs<NW> {
 impl<const NW: usize> Regs<NW> {
     ghost use Rattle.std.specs.Prelude.{◌≡◌, ◌<◌, ◌≤◌, ◌^◌, ◌%◌};
     ghost use Rattle.sv8_regs.specs.Ring.{read, write, reset};
-    ghost use Rattle.sv8_regs.specs.Control.{bit_at, packed_psr, unpacked_psr, window_field, kept_mask, with_base, with_trap_type, below, above, condition_codes, with_condition_codes};
+    ghost use Rattle.sv8_model.specs.Words.{bit};
+    ghost use Rattle.sv8_regs.specs.Control.{packed_psr, unpacked_psr, window_field, kept_mask, with_base, with_trap_type, below, above, condition_codes, with_condition_codes};
 
     /// The registers as they are after a reset: S is set and all else is 0. The manual fixes S = 1 and ET = 0
     /// alone (chapter 7); the other zeros are this project's.
@@ -314,7 +316,7 @@ impl<const NW: usize> Regs<NW> {
     #[inline(always)]
     pub fn is_invalid(&self, window: u32) -> bool
         requires { window < NW }
-        ensures { result ≡ bit_at self.now.wim window }
+        ensures { result ≡ bit self.now.wim window }
     {
         is_set(self.wim, window)
     }
@@ -365,14 +367,14 @@ impl<const NW: usize> Regs<NW> {
 #[inline(always)]
 fn is_set(word: u32, k: u32) -> bool
     requires { k < 32 }
-    ensures { result ≡ bit_at word k }
+    ensures { result ≡ bit word k }
 {
     (word >> k) % 2 == 1
 }
 
 #[inline(always)]
 fn one_bit(b: bool) -> u32
-    ensures value { result ≡ bit b }
+    ensures value { result ≡ digit b }
     ensures small { result ≤ 1 }
 {
     if b { 1 } else { 0 }

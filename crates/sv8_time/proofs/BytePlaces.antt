@@ -1,9 +1,9 @@
 -- The poked bytes of one word, among all.
-use Rattle.std.proofs.Common.{◌≡◌, ◌∙◌, refl, sym, ap, subst, arith, ℕ, zero, suc, ◌+◌, ◌<◌, ◌≤◌, Bool, true, false, not, cond, ◌&&◌, ◌||◌, nat_lt, nat_le, ◌==◌, List, [], ◌∷◌, ◌++◌, length, set, Option, Some, None, is_some}
-use Rattle.std.specs.List.{filter, list_any}
+use Rattle.std.proofs.Common.{◌≡◌, ◌∙◌, refl, ap, subst, arith, ℕ, zero, suc, ◌+◌, ◌<◌, ◌≤◌, Bool, true, false, not, ◌&&◌, ◌||◌, ◌==◌, List, [], ◌∷◌, ◌++◌, length, set, Option, Some, None, is_some}
+use Rattle.std.specs.List.{filter}
 use Rattle.std.proofs.lemmas.Bool.Decides.{nat_tests}
 use Rattle.std.proofs.lemmas.List.Folds.{list_any-append}
-use Rattle.sv8_time.specs.Order.{Each, Rising, place_before, placed, passes_at}
+use Rattle.sv8_time.specs.Order.{Each, place_before, passes_at}
 use Rattle.sv8_time.specs.Schedule.{BytePoke, poke_of, poke_before, is_poke_at, has_poke, put_poke, cut_poke}
 use Rattle.sv8_time.specs.Words.{poked_from, with_bytes, is_poked}
 use Rattle.sv8_time.proofs.Orders.{key_order}

@@ -9,7 +9,7 @@ use Rattle.std.proofs.lemmas.List.{take-set, take-append-le, take-append-drop, m
 use Rattle.sv8_time.specs.Order.{Each, Rising, Stands, Misses, passes_at}
 use Rattle.sv8_time.specs.Schedule.{Input, input_of, input_before, is_input_at, byte_count, bytes_below, input_bytes}
 use Rattle.sv8_time.specs.Inputs.{starts_of, IsShort}
-use Rattle.sv8_time.proofs.Parts.{each_map, each_placed, each_filter, Parted, parted_rising, filter_none}
+use Rattle.sv8_time.proofs.Parts.{each_placed, each_filter, Parted, parted_rising, filter_none}
 use Rattle.sv8_time.proofs.Places.{stands_at, misses_at}
 use Rattle.sv8_time.proofs.Orders.{input_order}
 
@@ -105,16 +105,22 @@ pub count_more : (total n : ℕ) (inputs : List Input) (x : Input) (all : ℕ) �
 count_more total n inputs x all e h = let g : total + (length x.bytes + byte_count (drop (n + 1) inputs)) ≡ all = rw e at h in omega arith
 
 -- the bytes before those of an input are no more than the bytes before a later one
-starts_above : (low n : ℕ) → low ≤ n → (xs : List Input) → Each (λ s. low ≤ s) (starts_of n xs)
+starts_above : (low n : ℕ) → low ≤ n → (xs : List Input) → Each (λ s. nat_le low s ≡ true) (starts_of n xs)
 starts_above low n h [] = tt
-starts_above low n h (x ∷ xs) = (h, starts_above low (n + length x.bytes) (omega arith) xs)
+starts_above low n h (x ∷ xs) = (le_test low n h, starts_above low (n + length x.bytes) (omega arith) xs)
+  where
+    le_test : (a b : ℕ) → a ≤ b → nat_le a b ≡ true
+    le_test a b l = grind (arith, nat_tests)
 
-above_not : (a b n : ℕ) → a ≤ b → nat_le a n ≡ false → nat_le b n ≡ false
+pub starts_rise : (n : ℕ) (xs : List Input) → Rising nat_le (starts_of n xs)
+starts_rise n [] = tt
+starts_rise n (x ∷ xs) = (starts_above n (n + length x.bytes) (omega arith) xs, starts_rise (n + length x.bytes) xs)
+
+above_not : (a b n : ℕ) → nat_le a b ≡ true → nat_le a n ≡ false → nat_le b n ≡ false
 above_not a b n h e = grind (arith, nat_tests)
 
-pub starts_parted : (byte n : ℕ) (xs : List Input) → Parted (λ s. nat_le s byte) (starts_of n xs)
-starts_parted byte n [] = tt
-starts_parted byte n (x ∷ xs) = (λ e. each_map (λ s. n ≤ s) (λ s. nat_le s byte ≡ false) (λ s h. above_not n s byte h e) (starts_of (n + length x.bytes) xs) (starts_above n (n + length x.bytes) (omega arith) xs), starts_parted byte (n + length x.bytes) xs)
+pub starts_parted : (byte : ℕ) (starts : List ℕ) → Rising nat_le starts → Parted (λ s. nat_le s byte) starts
+starts_parted byte starts h = parted_rising nat_le (λ s. nat_le s byte) (λ x y b e. above_not x y byte b e) starts h
 
 pub length_starts : (n : ℕ) (xs : List Input) → length (starts_of n xs) ≡ length xs
 length_starts n [] = refl
@@ -164,7 +170,7 @@ last_bytes byte n y xs l (inl e) = rw (e, append-nil y.bytes) refl
 last_bytes byte n y xs l (inr h) = get_left y.bytes (input_bytes xs) (byte - n) (omega arith)
 
 -- the input of a byte is the last one that begins at or below it
-pub byte_found : (byte n : ℕ) (xs : List Input) (m s : ℕ) (bytes : List ℕ) → prefix_len (λ t. nat_le t byte) (starts_of n xs) ≡ suc m → option_map (λ i. i.bytes) (slice_get xs m) ≡ Some bytes → slice_get (starts_of n xs) m ≡ Some s
+byte_found : (byte n : ℕ) (xs : List Input) (m s : ℕ) (bytes : List ℕ) → prefix_len (λ t. nat_le t byte) (starts_of n xs) ≡ suc m → option_map (λ i. i.bytes) (slice_get xs m) ≡ Some bytes → slice_get (starts_of n xs) m ≡ Some s
     → slice_get (input_bytes xs) (byte - n) ≡ slice_get bytes (byte - s)
 byte_found byte n [] m s bytes e f g = absurd (cc)
 byte_found byte n (y ∷ xs) zero s bytes e f g =
@@ -177,18 +183,42 @@ byte_found byte n (y ∷ xs) (suc m) s bytes e f g =
     let d : byte - n ≡ length y.bytes + (byte - (n + length y.bytes)) = omega arith in
     rw d (get_right y.bytes (input_bytes xs) (byte - (n + length y.bytes))) ∙ byte_found byte (n + length y.bytes) xs m s bytes r f g
 
-pub start_le : (byte n : ℕ) (xs : List Input) (m s : ℕ) → prefix_len (λ t. nat_le t byte) (starts_of n xs) ≡ suc m → slice_get (starts_of n xs) m ≡ Some s → s ≤ byte
+start_le : (byte n : ℕ) (xs : List Input) (m s : ℕ) → prefix_len (λ t. nat_le t byte) (starts_of n xs) ≡ suc m → slice_get (starts_of n xs) m ≡ Some s → s ≤ byte
 start_le byte n [] m s e g = absurd (cc)
 start_le byte n (y ∷ xs) zero s e g =
     let d : n ≡ s = cc in
     rw (sym d) (first_le byte n 0 (y ∷ xs) e)
 start_le byte n (y ∷ xs) (suc m) s e g = start_le byte (n + length y.bytes) xs m s (rest_count byte n (suc m) y xs e) g
 
-pub no_byte : (byte : ℕ) (xs : List Input) → prefix_len (λ t. nat_le t byte) (starts_of 0 xs) ≡ 0 → slice_get (input_bytes xs) byte ≡ None
+no_byte : (byte : ℕ) (xs : List Input) → prefix_len (λ t. nat_le t byte) (starts_of 0 xs) ≡ 0 → slice_get (input_bytes xs) byte ≡ None
 no_byte byte xs e = elim (none_le byte 0 xs e) [
   | inl h ↦ rw h refl
   | inr h ↦ absurd (omega arith)
 ]
+
+counted_one : (byte count : ℕ) (starts : List ℕ) (xs : List Input) → starts ≡ starts_of 0 xs → count ≡ prefix_len (λ t. nat_le t byte) starts → (count ≡ 0 → ⊥) → prefix_len (λ t. nat_le t byte) (starts_of 0 xs) ≡ suc (count - 1)
+counted_one byte count starts xs s e z =
+    let f : count ≡ prefix_len (λ t. nat_le t byte) (starts_of 0 xs) = rw s at e in
+    let g : count ≡ suc (count - 1) = omega (arith, z) in
+    sym f ∙ g
+
+-- the same by the number of inputs that begin at or below the byte
+pub byte_in_last : (byte count s : ℕ) (starts : List ℕ) (xs : List Input) (bytes : List ℕ) → starts ≡ starts_of 0 xs → count ≡ prefix_len (λ t. nat_le t byte) starts → (count ≡ 0 → ⊥)
+    → slice_get starts (count - 1) ≡ Some s → option_map (λ i. i.bytes) (slice_get xs (count - 1)) ≡ Some bytes → slice_get bytes (byte - s) ≡ slice_get (input_bytes xs) byte
+byte_in_last byte count s starts xs bytes same e z g f =
+    let h : slice_get (starts_of 0 xs) (count - 1) ≡ Some s = rw same at g in
+    let k : byte - 0 ≡ byte = omega arith in
+    sym (byte_found byte 0 xs (count - 1) s bytes (counted_one byte count starts xs same e z) f h) ∙ ap (λ n. slice_get (input_bytes xs) n) k
+
+pub last_start_le : (byte count s : ℕ) (starts : List ℕ) (xs : List Input) → starts ≡ starts_of 0 xs → count ≡ prefix_len (λ t. nat_le t byte) starts → (count ≡ 0 → ⊥) → slice_get starts (count - 1) ≡ Some s → s ≤ byte
+last_start_le byte count s starts xs same e z g =
+    let h : slice_get (starts_of 0 xs) (count - 1) ≡ Some s = rw same at g in
+    start_le byte 0 xs (count - 1) s (counted_one byte count starts xs same e z) h
+
+pub no_byte_in : (byte count : ℕ) (starts : List ℕ) (xs : List Input) → starts ≡ starts_of 0 xs → count ≡ prefix_len (λ t. nat_le t byte) starts → count ≡ 0 → None ≡ slice_get (input_bytes xs) byte
+no_byte_in byte count starts xs same e z =
+    let f : count ≡ prefix_len (λ t. nat_le t byte) (starts_of 0 xs) = rw same at e in
+    sym (no_byte byte xs (sym f ∙ z))
 
 -- what an edit keeps
 
@@ -240,13 +270,13 @@ take_starts n zero xs = refl
 take_starts n (suc i) [] = refl
 take_starts n (suc i) (x ∷ xs) = ap (λ l. n ∷ l) (take_starts (n + length x.bytes) i xs)
 
-starts_append : (n : ℕ) (xs ys : List Input) → starts_of n (xs ++ ys) ≡ starts_of n xs ++ starts_of (n + byte_count xs) ys
+pub starts_append : (n : ℕ) (xs ys : List Input) → starts_of n (xs ++ ys) ≡ starts_of n xs ++ starts_of (n + byte_count xs) ys
 starts_append n [] ys = let e : n ≡ n + 0 = omega arith in ap (λ m. starts_of m ys) e
 starts_append n (x ∷ xs) ys =
     let e : n + length x.bytes + byte_count xs ≡ n + (length x.bytes + byte_count xs) = omega arith in
     ap (λ l. n ∷ l) (starts_append (n + length x.bytes) xs ys ∙ ap (λ m. starts_of (n + length x.bytes) xs ++ starts_of m ys) e)
 
-count_append : (xs ys : List Input) → byte_count xs + byte_count ys ≡ byte_count (xs ++ ys)
+pub count_append : (xs ys : List Input) → byte_count xs + byte_count ys ≡ byte_count (xs ++ ys)
 count_append [] ys = omega arith
 count_append (x ∷ xs) ys = let r = count_append xs ys in omega arith
 

@@ -8,4 +8,5 @@ pub mod WordPlaces
 pub mod Nexts
 pub mod PokeEdits
 pub mod InputPlaces
+pub mod BlockPlaces
 pub mod SoundEvents

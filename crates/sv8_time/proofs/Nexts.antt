@@ -1,5 +1,5 @@
 -- The least step above one with an event of a kind.
-use Rattle.std.proofs.Common.{◌≡◌, ◌∙◌, refl, sym, ap, subst, arith, ℕ, ◌+◌, ◌*◌, ◌/◌, ◌%◌, ◌<◌, ◌≤◌, Bool, true, false, cond, ◌&&◌, ◌||◌, nat_lt, ◌==◌, List, [], ◌∷◌, ◌++◌, length, map, Option, Some, None, is_some, option_map, IfSome}
+use Rattle.std.proofs.Common.{◌≡◌, ◌∙◌, refl, sym, ap, subst, arith, ℕ, ◌+◌, ◌%◌, ◌<◌, ◌≤◌, Bool, true, false, cond, ◌&&◌, ◌||◌, nat_lt, ◌==◌, List, [], ◌∷◌, Option, Some, None, is_some, option_map, IfSome}
 use Rattle.std.specs.List.{filter, find, list_any}
 use Rattle.std.proofs.lemmas.Bool.{both_ways, eqb-false, ne_eqb}
 use Rattle.std.proofs.lemmas.Bool.Decides.{nat_tests}
@@ -7,9 +7,9 @@ use Rattle.std.proofs.lemmas.List.Folds.{list_any-append}
 use Rattle.sv8_time.specs.declared.words.WordPoke.{WordPoke}
 use Rattle.sv8_time.specs.declared.words.ByAddress.{ByAddress}
 use Rattle.sv8_time.specs.declared.requests.Request.{Request}
-use Rattle.sv8_time.specs.Order.{Each, Rising, place_before, comes_before, passes_at, is_at, of_major_behind, behind_major}
-use Rattle.sv8_time.specs.Schedule.{BytePoke, poke_before, is_poke_at, has_poke, poke_after, word_of, request_before, has_request, request_after, IsNext, IsNextPoke, IsNextRequest}
-use Rattle.sv8_time.specs.Words.{poked_from, poked_bytes, bytes_of_words, is_word_at, by_address_before, is_by_address_at, SameWords}
+use Rattle.sv8_time.specs.Order.{Rising, place_before, passes_at, of_major_behind, behind_major}
+use Rattle.sv8_time.specs.Schedule.{BytePoke, poke_before, is_poke_at, has_poke, poke_after, word_of, request_before, request_after, IsNext, IsNextPoke, IsNextRequest}
+use Rattle.sv8_time.specs.Words.{poked_bytes, bytes_of_words, is_word_at, by_address_before, is_by_address_at, SameWords}
 use Rattle.sv8_time.proofs.Parts.{each_map, any_none}
 use Rattle.sv8_time.proofs.Splits.{find_within}
 use Rattle.sv8_time.proofs.BytePlaces.{poked_each, has_in}

@@ -1,14 +1,14 @@
 -- What an edit of the poked bytes makes of both orders of words.
-use Rattle.std.proofs.Common.{◌≡◌, ◌∙◌, refl, sym, ap, subst, arith, ℕ, ◌+◌, ◌%◌, ◌==◌, ◌&&◌, ◌||◌, ◌<◌, ◌≤◌, Bool, true, false, not, cond, List, [], ◌∷◌, length, Option, Some, None, is_some, Result, Ok, Err, OnOk, OnErr}
-use Rattle.std.specs.List.{filter, list_any}
+use Rattle.std.proofs.Common.{◌≡◌, ◌∙◌, refl, sym, ap, arith, ℕ, ◌+◌, ◌==◌, ◌&&◌, ◌||◌, Bool, true, false, cond, List, [], ◌∷◌, length, Result, Ok, Err, OnOk, OnErr}
+use Rattle.std.specs.List.{list_any}
 use Rattle.sv8_time.specs.declared.words.WordPoke.{WordPoke}
 use Rattle.sv8_time.specs.declared.words.ByAddress.{ByAddress}
-use Rattle.sv8_time.specs.Order.{Each, Rising, placed, of_major}
+use Rattle.sv8_time.specs.Order.{Each, placed, of_major}
 use Rattle.sv8_time.specs.Schedule.{BytePoke, has_word, has_poke, word_of, word_count}
-use Rattle.sv8_time.specs.Words.{bytes_of_words, is_poked, word_before, is_word_at, by_address_before, is_by_address_at, SameWords, with_bytes}
+use Rattle.sv8_time.specs.Words.{bytes_of_words, is_poked, word_before, is_word_at, by_address_before, SameWords}
 use Rattle.std.proofs.lemmas.Bool.{eqb-true, eq-eqb}
 use Rattle.sv8_time.proofs.Parts.{each_filter}
-use Rattle.sv8_time.proofs.WordPlaces.{keyed_by_address, store_words, has_words, word_of_aligned, count_words, same_placed, same_cut}
+use Rattle.sv8_time.proofs.WordPlaces.{keyed_by_address, has_words, word_of_aligned, count_words, same_placed}
 
 pub on_ok : {T E P Q : Type 0} (r : Result T E) → (P → Q) → OnOk r P → OnOk r Q
 on_ok (Ok x) f h = f h

@@ -1,15 +1,15 @@
 -- What edits keep of a timeline, and what holds of its events.
-use Rattle.std.proofs.Common.{◌≡◌, ◌∙◌, refl, sym, ap, subst, arith, ℕ, ◌+◌, ◌%◌, ◌<◌, ◌≤◌, Bool, true, false, not, cond, ◌&&◌, ◌||◌, nat_lt, nat_le, ◌==◌, List, [], ◌∷◌, length, Option, Some, None, IfSome}
-use Rattle.std.specs.List.{filter, list_any}
+use Rattle.std.proofs.Common.{◌≡◌, refl, sym, ap, subst, arith, ℕ, ◌+◌, ◌%◌, ◌<◌, ◌≤◌, Bool, true, false, not, cond, ◌&&◌, ◌||◌, nat_lt, nat_le, ◌==◌, List, [], ◌∷◌, length, Option, Some, None}
+use Rattle.std.specs.List.{list_any}
 use Rattle.std.proofs.lemmas.Bool.{false_from_ne_true, both_ways, eqb-true, ltb-false, ltb-true, leb-true}
 use Rattle.std.proofs.lemmas.Bool.Decides.{nat_tests}
 use Rattle.sv8_time.specs.declared.fault.TimeFault.{TimeFault}
 use Rattle.sv8_time.specs.declared.fault.TimeFault.TheVariants.{StepTooLarge, BadAddress, BadLevel, NothingThere, TooManyEvents, InputTooLong}
 use Rattle.sv8_time.specs.declared.requests.Request.{Request}
 use Rattle.sv8_time.specs.declared.words.WordPoke.{WordPoke}
-use Rattle.sv8_time.specs.Order.{Each, Rising, placed}
+use Rattle.sv8_time.specs.Order.{Each, Rising}
 use Rattle.sv8_time.specs.Marks.{is_marked, Covers}
-use Rattle.sv8_time.specs.Schedule.{BytePoke, Input, Schedule, poke_of, input_of, has_poke, has_word, has_input, has_request, word_count, put_poke, put_input, put_request, cut_poke, cut_input, cut_request, poke_before, input_before, request_before, is_poke_at, is_input_at, is_request_at, event_count, is_one_too_many, is_word, is_level, set_poke_fault, set_poke_byte_fault, set_input_fault, set_request_fault, clear_poke_fault, clear_poke_byte_fault, clear_input_fault, clear_request_fault, pokes_of_step, requests_of_step, bytes_of_step, input_bytes, IsPokePlace, IsInputPlace, IsRequestPlace, IsTimeline}
+use Rattle.sv8_time.specs.Schedule.{BytePoke, Input, Schedule, poke_of, input_of, has_poke, has_word, has_input, has_request, word_count, put_poke, put_input, put_request, cut_poke, cut_input, cut_request, poke_before, input_before, request_before, is_poke_at, is_input_at, is_request_at, event_count, is_one_too_many, is_word, is_level, set_poke_fault, set_poke_byte_fault, set_input_fault, set_request_fault, clear_poke_fault, clear_poke_byte_fault, clear_input_fault, clear_request_fault, pokes_of_step, requests_of_step, bytes_of_step, input_bytes, IsPokePlace, IsInputPlace, IsRequestPlace}
 use Rattle.sv8_time.specs.Words.{bytes_of_words, is_poked, IsWordIn}
 use Rattle.sv8_time.specs.Timeline.{Sound}
 use Rattle.sv8_time.proofs.Orders.{key_order, input_order}

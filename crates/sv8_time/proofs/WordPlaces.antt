@@ -1,8 +1,8 @@
 -- Words with poked bytes, and the poked bytes of all of them.
-use Rattle.std.proofs.Common.{◌≡◌, ◌∙◌, refl, sym, ap, subst, arith, ℕ, zero, suc, ◌+◌, ◌*◌, ◌/◌, ◌%◌, ◌<◌, ◌≤◌, Bool, true, false, not, cond, ◌&&◌, ◌||◌, nat_lt, nat_le, ◌==◌, List, [], ◌∷◌, ◌++◌, length, map, slice_get, Option, Some, None, is_some, flat_map}
+use Rattle.std.proofs.Common.{◌≡◌, ◌∙◌, refl, sym, ap, subst, arith, ℕ, zero, suc, ◌+◌, ◌%◌, ◌<◌, Bool, true, false, not, cond, ◌&&◌, ◌||◌, nat_lt, ◌==◌, List, [], ◌∷◌, ◌++◌, length, map, slice_get, Option, Some, None}
 use Rattle.std.specs.List.{filter, list_any}
 use Rattle.std.specs.Option.{option_to_list, unwrap_or}
-use Rattle.std.proofs.lemmas.Bool.{ltb-true, ltb-false, lt-ltb, le-ltb, eqb-true, both_ways, or_parts}
+use Rattle.std.proofs.lemmas.Bool.{ltb-true, ltb-false, lt-ltb, le-ltb}
 use Rattle.std.proofs.lemmas.Bool.Decides.{nat_tests}
 use Rattle.std.proofs.lemmas.Grind.{flat_map-append}
 use Rattle.std.proofs.lemmas.List.{append-nil}
@@ -10,7 +10,7 @@ use Rattle.std.proofs.lemmas.List.Elements.{filter-append}
 use Rattle.std.proofs.lemmas.List.Folds.{list_any-append}
 use Rattle.sv8_time.specs.declared.words.WordPoke.{WordPoke}
 use Rattle.sv8_time.specs.declared.words.ByAddress.{ByAddress}
-use Rattle.sv8_time.specs.Order.{Each, Rising, place_before, placed, is_at, of_major}
+use Rattle.sv8_time.specs.Order.{Each, Rising, place_before, placed, of_major}
 use Rattle.sv8_time.specs.Schedule.{BytePoke, poke_of, has_word, word_of, word_count, is_poke_in, pokes_of_step}
 use Rattle.sv8_time.specs.Words.{poked_from, poked_bytes, bytes_of_words, is_poked, word_before, is_word_at, by_address_before, is_by_address_at, SameWords, IsWordIn, with_bytes}
 use Rattle.sv8_time.proofs.Orders.{key_order}

@@ -1,5 +1,5 @@
 -- Small timelines, for the examples that are computed.
-use Rattle.std.specs.Prelude.{ℕ, List, [], ◌∷◌}
+use Rattle.std.specs.Prelude.{[], ◌∷◌}
 use Rattle.sv8_time.specs.Schedule.{Schedule, with_poke, with_poke_byte, without_poke_byte, with_input, with_request}
 
 -- a RAM of 00100000 bytes and no events

@@ -4,7 +4,7 @@ use Rattle.std.specs.List.{list_any}
 use Rattle.sv8_time.specs.declared.words.WordPoke.{WordPoke}
 use Rattle.sv8_time.specs.declared.words.ByAddress.{ByAddress}
 use Rattle.sv8_time.specs.Order.{Each, Rising, place_before, comes_before, is_at}
-use Rattle.sv8_time.specs.Schedule.{BytePoke, poke_of, is_poke_in, has_word, word_count}
+use Rattle.sv8_time.specs.Schedule.{BytePoke, poke_of}
 
 -- the poked bytes from an address on, of values that may be none
 abbrev pub poked_from : ℕ → ℕ → List (Option ℕ) → List BytePoke

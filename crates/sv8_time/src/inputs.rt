@@ -1,124 +1,121 @@
 //! The input bytes of a timeline.
 
-ghost use Rattle.std.specs.Prelude.{◌≡◌, ℕ, ◌+◌, ◌≤◌, ◌<◌, ◌^◌, List, [], ◌∷◌, ◌++◌, take, drop, length, MatchResult, OnOk, OnErr, nat_lt, nat_le, true, false, slice_get, slice_set, vec_len, if◌then◌else◌, option_map, Some};
-ghost use Rattle.std.specs.List.{prefix_len, insert, remove};
-ghost use Rattle.sv8_time.specs.Order.{Rising, Stands, Misses, passes_at, Each};
-ghost use Rattle.sv8_time.specs.Schedule.{input_of, input_before, is_input_at, has_input, put_input, cut_input, bytes_of_step, input_bytes, bytes_below, byte_count};
-ghost use Rattle.sv8_time.specs.Inputs.{given, givens, starts_of, IsShort};
+ghost use Rattle.std.specs.Prelude.{◌≡◌, ℕ, ◌+◌, ◌/◌, ◌≤◌, ◌<◌, [], ◌∷◌, ◌++◌, length, OnOk, OnErr, true, false, slice_get, slice_index_or, slice_set, if◌then◌else◌};
+ghost use Rattle.sv8_time.specs.Schedule.{input_of, has_input, put_input, cut_input, bytes_of_step, input_bytes, bytes_below};
+ghost use Rattle.sv8_time.specs.Inputs.{joined, Spread};
 
+use crate::block::Block;
+use crate::starts::{Holder, count_started, recount, start_in};
 use std::alloc::{AllocError, Global};
 use std::marker::Model;
 
-/// The bytes that come in at a step.
-#[derive(Drop)]
-struct Entry {
-    step: u32,
-    bytes: Vec<u8>,
+/// How many steps have their inputs in one block.
+const STEPS: usize = 1_024;
+
+impl Holder for Block {
+    ghost use Rattle.sv8_time.specs.Inputs.{whole};
+
+    ghost held = { whole };
+
+    fn byte_total(&self) -> u32 {
+        self.total()
+    }
 }
 
-/// Inputs in rising step, each with the number of bytes before it.
+/// Inputs in rising step: a block for each 1,024 steps, up to the last step that ever had one, and the number of bytes
+/// before each block.
+///
+/// An edit moves and counts the inputs of one block, and counts the blocks behind it.
 #[derive(Drop)]
 pub(crate) struct Inputs {
-    entries: Vec<Entry>,
+    blocks: Vec<Block>,
     starts: Vec<u32>,
     total: u32,
+    count: usize,
 }
 
 impl Model for Inputs {
     ghost use Rattle.std.specs.Prelude.{List};
     ghost use Rattle.sv8_time.specs.Schedule.{Input};
-    ghost use Rattle.sv8_time.specs.Inputs.{givens, Kept};
+    ghost use Rattle.sv8_time.specs.Inputs.{joined, Spread};
 
     ghost Value = { List Input };
 
-    ghost view = { λ i. givens i.entries.items };
+    ghost view = { λ i. joined i.blocks.items };
 
-    ghost invariant = { λ i. Kept (givens i.entries.items) i.starts.items i.total };
+    ghost invariant = { λ i. Spread i.blocks.items i.starts.items i.total i.count };
 }
 
-/// Counts the bytes before each entry from one on, and answers how many there are in all.
-///
-/// `before` is the number of bytes before that entry. What stands before it is not looked at.
-fn recount(entries: &[Entry], starts: &mut Vec<u32>, from: usize, before: u32) -> u32
-    requires same { length starts.old.items ≡ length entries.now }
-    requires fits { byte_count (givens entries.now) < 2 ^ 32 }
-    requires front { take from starts.old.items ++ starts_of before (drop from (givens entries.now)) ≡ starts_of 0 (givens entries.now) }
-    requires sum { before + byte_count (drop from (givens entries.now)) ≡ byte_count (givens entries.now) }
-    ensures starts { starts.new.items ≡ starts_of 0 (givens entries.now) }
-    ensures total { result ≡ byte_count (givens entries.now) }
+/// The number of the block of a step.
+fn block_of(step: u32) -> usize
+    ensures { result ≡ step / 1024 }
 {
-    let mut total = before;
-    for index in from..entries.len() {
-        starts[index] = total;
-        let entry = &entries[index];
-        total += entry.bytes.len() as u32;
-    }
-    total
+    step as usize / STEPS
 }
 
-#[tactic(auto, using(crate::proofs::InputPlaces::map_replace))]
-fn replace_at(entries: &mut Vec<Entry>, index: usize, entry: Entry)
-    requires { index < vec_len entries.old }
-    ensures { givens entries.new.items ≡ slice_set (givens entries.old.items) index (given entry) }
-{
-    entries[index] = entry;
-}
-
-#[tactic(auto, using(crate::proofs::InputPlaces::map_insert))]
-fn insert_at(
-    entries: &mut Vec<Entry>,
+/// Puts an empty block behind the others, which have `total` bytes.
+fn add_block(
+    blocks: &mut Vec<Block>,
     starts: &mut Vec<u32>,
-    index: usize,
-    entry: Entry,
+    total: u32,
+    alloc: Global,
 ) -> Result<(), AllocError>
-    requires { index ≤ vec_len entries.old }
-    ensures ok { OnOk result (givens entries.new.items ≡ insert (givens entries.old.items) index (given entry)) }
-    ensures starts { OnOk result (starts.new.items ≡ starts.old.items ++ 0 ∷ []) }
-    ensures err { OnErr result (entries.new.items ≡ entries.old.items) }
+    ensures ok { OnOk result (blocks.new.items ≡ blocks.old.items ++ [] ∷ []) }
+    ensures starts { OnOk result (starts.new.items ≡ starts.old.items ++ total ∷ []) }
+    ensures err { OnErr result (blocks.new.items ≡ blocks.old.items) }
     ensures starts_kept { OnErr result (starts.new.items ≡ starts.old.items) }
 {
     starts.reserve(1)?;
-    entries.insert(index, entry)?;
-    starts.push(0)?;
+    blocks.push(Block::new(alloc))?;
+    starts.push(total)?;
     Ok(())
 }
 
-#[tactic(auto, using(crate::proofs::InputPlaces::map_remove))]
-fn remove_at(entries: &mut Vec<Entry>, starts: &mut Vec<u32>, index: usize)
-    requires within { index < vec_len entries.old }
-    requires same { length starts.old.items ≡ length entries.old.items }
-    ensures entries { givens entries.new.items ≡ remove (givens entries.old.items) index }
-    ensures starts { starts.new.items ≡ remove starts.old.items index }
+/// Makes empty blocks until there are as many as wanted.
+fn grow(
+    blocks: &mut Vec<Block>,
+    starts: &mut Vec<u32>,
+    total: u32,
+    alloc: Global,
+    wanted: usize,
+) -> Result<(), AllocError>
+    ensures ok { OnOk result (wanted ≤ length blocks.new.items) }
+    ensures same { joined blocks.new.items ≡ joined blocks.old.items }
+    ensures kept { (count : ℕ) → Spread blocks.old.items starts.old.items total count → Spread blocks.new.items starts.new.items total count }
 {
-    entries.remove(index);
-    starts.remove(index);
+    while blocks.len() < wanted {
+        add_block(blocks, starts, total, alloc)?;
+    }
+    Ok(())
 }
 
-fn start_at(starts: &[u32], index: usize) -> Option<u32>
-    ensures { result ≡ slice_get starts.now index }
+/// Puts the bytes of a step into a block.
+fn put_in(
+    blocks: &mut Vec<Block>,
+    index: usize,
+    alloc: Global,
+    step: u32,
+    bytes: &[u8],
+) -> Result<(), AllocError>
+    requires within { index < length blocks.old.items }
+    requires short { length bytes.now ≤ 1024 }
+    requires room { has_input step (slice_index_or blocks.old.items index []) ≡ false → length (slice_index_or blocks.old.items index []) < 65536 }
+    ensures ok { OnOk result (blocks.new.items ≡ slice_set blocks.old.items index (put_input (input_of step bytes.now) (slice_index_or blocks.old.items index []))) }
+    ensures err { OnErr result (blocks.new.items ≡ blocks.old.items) }
 {
-    starts.get(index).copied()
+    let block = &mut blocks[index];
+    block.put(alloc, step, bytes)?;
+    Ok(())
 }
 
-fn start_in(starts: &[u32], index: usize) -> u32
-    requires { index < length starts.now }
-    ensures { slice_get starts.now index ≡ Some result }
+/// Removes the bytes of a step from a block.
+fn cut_in(blocks: &mut Vec<Block>, index: usize, step: u32)
+    requires within { index < length blocks.old.items }
+    requires present { has_input step (slice_index_or blocks.old.items index []) ≡ true }
+    ensures { blocks.new.items ≡ slice_set blocks.old.items index (cut_input step (slice_index_or blocks.old.items index [])) }
 {
-    starts[index]
-}
-
-fn bytes_in(entries: &[Entry], index: usize) -> &[u8]
-    requires { index < length entries.now }
-    ensures { option_map (λ i. i.bytes) (slice_get (givens entries.now) index) ≡ Some result.now }
-{
-    let entry = &entries[index];
-    entry.bytes.as_slice()
-}
-
-fn byte_at(bytes: &[u8], index: u32) -> Option<u8>
-    ensures { result ≡ slice_get bytes.now index }
-{
-    bytes.get(index as usize).copied()
+    let block = &mut blocks[index];
+    block.cut(step);
 }
 
 impl Inputs {
@@ -126,69 +123,27 @@ impl Inputs {
         ensures { result ≡ [] }
     {
         Inputs {
-            entries: Vec::new(alloc),
+            blocks: Vec::new(alloc),
             starts: Vec::new(alloc),
             total: 0,
+            count: 0,
         }
     }
 
     pub(crate) fn count(&self) -> usize
         ensures { result ≡ length self.now }
     {
-        self.entries.len()
-    }
-
-    /// How many inputs come before a step.
-    fn count_below(&self, step: u32) -> usize
-        ensures value { result ≡ prefix_len (λ i. nat_lt i.step step) self.now }
-        ensures bound { result ≤ length self.now }
-    {
-        self.entries
-            .as_slice()
-            .partition_point(|entry| entry.step < step)
-    }
-
-    /// Whether the input at an index is that of this step.
-    fn stands_at(&self, index: usize, step: u32) -> bool
-        ensures { result ≡ passes_at (is_input_at step) self.now index }
-    {
-        match self.entries.get(index) {
-            Some(entry) => entry.step == step,
-            None => false,
-        }
-    }
-
-    /// Where the input of a step stands, or else where it belongs.
-    fn place(&self, step: u32) -> Result<usize, usize>
-        ensures { (bytes : List ℕ) → MatchResult result (Stands input_before (is_input_at step) (input_of step bytes) self.now) (Misses input_before (is_input_at step) (input_of step bytes) self.now) }
-    {
-        let _entries = &self.entries;
-        let index = self.count_below(step);
-        if self.stands_at(index, step) {
-            Ok(index)
-        } else {
-            Err(index)
-        }
+        let _blocks = &self.blocks;
+        self.count
     }
 
     /// Whether there is an input in a step.
     pub(crate) fn has(&self, step: u32) -> bool
         ensures { result ≡ has_input step self.now }
     {
-        match self.place(step) {
-            Ok(_) => true,
-            Err(_) => false,
-        }
-    }
-
-    /// The number of bytes before the entry at an index.
-    fn start(&self, index: usize) -> u32
-        requires { index ≤ length self.now }
-        ensures { result ≡ byte_count (take index self.now) }
-    {
-        match start_at(&self.starts, index) {
-            Some(start) => start,
-            None => self.total,
+        match self.blocks.get(block_of(step)) {
+            Some(block) => block.has(step),
+            None => false,
         }
     }
 
@@ -196,32 +151,25 @@ impl Inputs {
     pub(crate) fn delivered(&self, before: u32) -> u32
         ensures { result ≡ bytes_below before self.now }
     {
-        let _entries = &self.entries;
-        self.start(self.count_below(before))
-    }
-
-    /// How many inputs begin at or below a byte, the bytes of all counted from 0.
-    fn count_started(&self, byte: u32) -> usize
-        ensures value { result ≡ prefix_len (λ s. nat_le s byte) (starts_of 0 self.now) }
-        ensures bound { result ≤ length self.now }
-    {
-        self.starts
-            .as_slice()
-            .partition_point(|start| *start <= byte)
+        let index = block_of(before);
+        match self.blocks.get(index) {
+            Some(block) => start_in(&self.starts, index) + block.delivered(before),
+            None => self.total,
+        }
     }
 
     /// A byte of all inputs in the order of their steps, from 0.
     pub(crate) fn byte(&self, index: u32) -> Option<u8>
         ensures { result ≡ slice_get (input_bytes self.now) index }
     {
-        let _entries = &self.entries;
-        let count = self.count_started(index);
+        let _blocks = &self.blocks;
+        let count = count_started(&self.starts, index);
         if count == 0 {
             return None;
         }
         let start = start_in(&self.starts, count - 1);
-        let bytes = bytes_in(&self.entries, count - 1);
-        byte_at(bytes, index - start)
+        let block = &self.blocks[count - 1];
+        block.byte(index - start)
     }
 
     /// The bytes of a step, none where nothing comes in.
@@ -229,9 +177,21 @@ impl Inputs {
         ensures value { result.now ≡ bytes_of_step step self.now }
         ensures short { length result.now ≤ 1024 }
     {
-        match self.place(step) {
-            Ok(index) => bytes_in(&self.entries, index),
-            Err(_) => &[],
+        match self.blocks.get(block_of(step)) {
+            Some(block) => block.at(step),
+            None => &[],
+        }
+    }
+
+    /// How many inputs there are once a step has one.
+    fn count_with(&self, step: u32) -> usize
+        ensures { result ≡ (if has_input step self.now then length self.now else length self.now + 1) }
+    {
+        let _blocks = &self.blocks;
+        if self.has(step) {
+            self.count
+        } else {
+            self.count + 1
         }
     }
 
@@ -243,24 +203,20 @@ impl Inputs {
         ensures count { OnOk result (length self.new ≡ (if has_input step self.old then length self.old else length self.old + 1)) }
         ensures err { OnErr result (self.new ≡ self.old) }
     {
-        let entry = Entry {
-            step,
-            bytes: Vec::from_slice(alloc, bytes)?,
-        };
-        match self.place(step) {
-            Ok(index) => {
-                let before = self.start(index);
-                replace_at(&mut self.entries, index, entry);
-                self.total = recount(&self.entries, &mut self.starts, index, before);
-                Ok(())
-            }
-            Err(index) => {
-                let before = self.start(index);
-                insert_at(&mut self.entries, &mut self.starts, index, entry)?;
-                self.total = recount(&self.entries, &mut self.starts, index, before);
-                Ok(())
-            }
-        }
+        let index = block_of(step);
+        let count = self.count_with(step);
+        grow(
+            &mut self.blocks,
+            &mut self.starts,
+            self.total,
+            alloc,
+            index + 1,
+        )?;
+        put_in(&mut self.blocks, index, alloc, step, bytes)?;
+        self.count = count;
+        let before = start_in(&self.starts, index);
+        self.total = recount(&self.blocks, &mut self.starts, index, before);
+        Ok(())
     }
 
     /// Removes the bytes of a step.
@@ -269,13 +225,12 @@ impl Inputs {
         ensures value { self.new ≡ cut_input step self.old }
         ensures count { length self.new ≤ length self.old }
     {
-        match self.place(step) {
-            Ok(index) => {
-                let before = self.start(index);
-                remove_at(&mut self.entries, &mut self.starts, index);
-                self.total = recount(&self.entries, &mut self.starts, index, before);
-            }
-            Err(_) => {}
+        let index = block_of(step);
+        if index < self.blocks.len() {
+            cut_in(&mut self.blocks, index, step);
+            self.count -= 1;
+            let before = start_in(&self.starts, index);
+            self.total = recount(&self.blocks, &mut self.starts, index, before);
         }
     }
 }

@@ -1,6 +1,7 @@
 //! The timeline of the outside events of a machine: pokes, input bytes and interrupt requests by step.
 #![tactic(auto)]
 
+mod block;
 mod fault;
 mod inputs;
 mod laws;
@@ -10,6 +11,7 @@ mod ordered;
 mod pokes;
 mod refusal;
 mod requests;
+mod starts;
 #[cfg(test)]
 mod tests;
 mod timeline;

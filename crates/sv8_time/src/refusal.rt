@@ -1,6 +1,6 @@
 //! Why an edit of a timeline would be refused.
 
-ghost use Rattle.std.specs.Prelude.{◌≡◌};
+ghost use Rattle.std.specs.Prelude.{◌≡◌, None, Some, OnOk, IfErr};
 ghost use Rattle.sv8_time.specs.Schedule.{set_poke_fault, clear_poke_fault, set_poke_byte_fault, clear_poke_byte_fault, set_input_fault, clear_input_fault, set_request_fault, clear_request_fault, is_word, is_level};
 
 use crate::fault::TimeFault;
@@ -19,120 +19,128 @@ fn is_level(level: u32) -> bool
 }
 
 impl Timeline {
-    pub(crate) fn set_poke_fault(&self, step: u32, address: u32) -> Option<TimeFault>
-        ensures { result ≡ set_poke_fault step address self.now }
+    pub(crate) fn check_set_poke(&self, step: u32, address: u32) -> Result<(), TimeFault>
+        ensures ok { OnOk result (set_poke_fault step address self.now ≡ None) }
+        ensures err { IfErr result (λ e. set_poke_fault step address self.now ≡ Some e) }
     {
         if step > LAST_STEP {
-            return Some(TimeFault::StepTooLarge);
+            return Err(TimeFault::StepTooLarge);
         }
         if !is_word(address, self.limit()) {
-            return Some(TimeFault::BadAddress);
+            return Err(TimeFault::BadAddress);
         }
         if self.is_full() && !self.has_word(step, address) {
-            return Some(TimeFault::TooManyEvents);
+            return Err(TimeFault::TooManyEvents);
         }
-        None
+        Ok(())
     }
 
-    pub(crate) fn clear_poke_fault(&self, step: u32, address: u32) -> Option<TimeFault>
-        ensures { result ≡ clear_poke_fault step address self.now }
+    pub(crate) fn check_clear_poke(&self, step: u32, address: u32) -> Result<(), TimeFault>
+        ensures ok { OnOk result (clear_poke_fault step address self.now ≡ None) }
+        ensures err { IfErr result (λ e. clear_poke_fault step address self.now ≡ Some e) }
     {
         if step > LAST_STEP {
-            return Some(TimeFault::StepTooLarge);
+            return Err(TimeFault::StepTooLarge);
         }
         if !is_word(address, self.limit()) {
-            return Some(TimeFault::BadAddress);
+            return Err(TimeFault::BadAddress);
         }
         if !self.has_word(step, address) {
-            return Some(TimeFault::NothingThere);
+            return Err(TimeFault::NothingThere);
         }
-        None
+        Ok(())
     }
 
-    pub(crate) fn set_poke_byte_fault(&self, step: u32, address: u32) -> Option<TimeFault>
-        ensures { result ≡ set_poke_byte_fault step address self.now }
+    pub(crate) fn check_set_poke_byte(&self, step: u32, address: u32) -> Result<(), TimeFault>
+        ensures ok { OnOk result (set_poke_byte_fault step address self.now ≡ None) }
+        ensures err { IfErr result (λ e. set_poke_byte_fault step address self.now ≡ Some e) }
     {
         if step > LAST_STEP {
-            return Some(TimeFault::StepTooLarge);
+            return Err(TimeFault::StepTooLarge);
         }
         if address >= self.limit() {
-            return Some(TimeFault::BadAddress);
+            return Err(TimeFault::BadAddress);
         }
         if self.is_full() && !self.has_word(step, address) {
-            return Some(TimeFault::TooManyEvents);
+            return Err(TimeFault::TooManyEvents);
         }
-        None
+        Ok(())
     }
 
-    pub(crate) fn clear_poke_byte_fault(&self, step: u32, address: u32) -> Option<TimeFault>
-        ensures { result ≡ clear_poke_byte_fault step address self.now }
+    pub(crate) fn check_clear_poke_byte(&self, step: u32, address: u32) -> Result<(), TimeFault>
+        ensures ok { OnOk result (clear_poke_byte_fault step address self.now ≡ None) }
+        ensures err { IfErr result (λ e. clear_poke_byte_fault step address self.now ≡ Some e) }
     {
         if step > LAST_STEP {
-            return Some(TimeFault::StepTooLarge);
+            return Err(TimeFault::StepTooLarge);
         }
         if address >= self.limit() {
-            return Some(TimeFault::BadAddress);
+            return Err(TimeFault::BadAddress);
         }
         if !self.has_byte(step, address) {
-            return Some(TimeFault::NothingThere);
+            return Err(TimeFault::NothingThere);
         }
-        None
+        Ok(())
     }
 
-    pub(crate) fn set_input_fault(&self, step: u32, bytes: &[u8]) -> Option<TimeFault>
-        ensures { result ≡ set_input_fault step bytes.now self.now }
+    pub(crate) fn check_set_input(&self, step: u32, bytes: &[u8]) -> Result<(), TimeFault>
+        ensures ok { OnOk result (set_input_fault step bytes.now self.now ≡ None) }
+        ensures err { IfErr result (λ e. set_input_fault step bytes.now self.now ≡ Some e) }
     {
         if step > LAST_STEP {
-            return Some(TimeFault::StepTooLarge);
+            return Err(TimeFault::StepTooLarge);
         }
         if self.is_full() && !self.has_input(step) {
-            return Some(TimeFault::TooManyEvents);
+            return Err(TimeFault::TooManyEvents);
         }
         if bytes.len() > MOST_BYTES {
-            return Some(TimeFault::InputTooLong);
+            return Err(TimeFault::InputTooLong);
         }
-        None
+        Ok(())
     }
 
-    pub(crate) fn clear_input_fault(&self, step: u32) -> Option<TimeFault>
-        ensures { result ≡ clear_input_fault step self.now }
+    pub(crate) fn check_clear_input(&self, step: u32) -> Result<(), TimeFault>
+        ensures ok { OnOk result (clear_input_fault step self.now ≡ None) }
+        ensures err { IfErr result (λ e. clear_input_fault step self.now ≡ Some e) }
     {
         if step > LAST_STEP {
-            return Some(TimeFault::StepTooLarge);
+            return Err(TimeFault::StepTooLarge);
         }
         if !self.has_input(step) {
-            return Some(TimeFault::NothingThere);
+            return Err(TimeFault::NothingThere);
         }
-        None
+        Ok(())
     }
 
-    pub(crate) fn set_request_fault(&self, step: u32, level: u32) -> Option<TimeFault>
-        ensures { result ≡ set_request_fault step level self.now }
+    pub(crate) fn check_set_request(&self, step: u32, level: u32) -> Result<(), TimeFault>
+        ensures ok { OnOk result (set_request_fault step level self.now ≡ None) }
+        ensures err { IfErr result (λ e. set_request_fault step level self.now ≡ Some e) }
     {
         if step > LAST_STEP {
-            return Some(TimeFault::StepTooLarge);
+            return Err(TimeFault::StepTooLarge);
         }
         if !is_level(level) {
-            return Some(TimeFault::BadLevel);
+            return Err(TimeFault::BadLevel);
         }
         if self.is_full() && !self.has_request(step, level) {
-            return Some(TimeFault::TooManyEvents);
+            return Err(TimeFault::TooManyEvents);
         }
-        None
+        Ok(())
     }
 
-    pub(crate) fn clear_request_fault(&self, step: u32, level: u32) -> Option<TimeFault>
-        ensures { result ≡ clear_request_fault step level self.now }
+    pub(crate) fn check_clear_request(&self, step: u32, level: u32) -> Result<(), TimeFault>
+        ensures ok { OnOk result (clear_request_fault step level self.now ≡ None) }
+        ensures err { IfErr result (λ e. clear_request_fault step level self.now ≡ Some e) }
     {
         if step > LAST_STEP {
-            return Some(TimeFault::StepTooLarge);
+            return Err(TimeFault::StepTooLarge);
         }
         if !is_level(level) {
-            return Some(TimeFault::BadLevel);
+            return Err(TimeFault::BadLevel);
         }
         if !self.has_request(step, level) {
-            return Some(TimeFault::NothingThere);
+            return Err(TimeFault::NothingThere);
         }
-        None
+        Ok(())
     }
 }

@@ -130,10 +130,7 @@ impl Timeline {
         ensures err { IfErr result (IsRefused (set_poke_fault step address self.old)) }
         ensures kept { OnErr result (self.new ≡ self.old) }
     {
-        match self.set_poke_fault(step, address) {
-            Some(fault) => return Err(fault),
-            None => {}
-        }
+        self.check_set_poke(step, address)?;
         self.marks.reach(step)?;
         self.pokes.put_word(step, address, value)?;
         self.marks.mark(step);
@@ -151,10 +148,7 @@ impl Timeline {
         ensures err { IfErr result (λ e. clear_poke_fault step address self.old ≡ Some e) }
         ensures kept { OnErr result (self.new ≡ self.old) }
     {
-        match self.clear_poke_fault(step, address) {
-            Some(fault) => return Err(fault),
-            None => {}
-        }
+        self.check_clear_poke(step, address)?;
         self.pokes.cut_word(step, address);
         Ok(())
     }
@@ -176,10 +170,7 @@ impl Timeline {
         ensures err { IfErr result (IsRefused (set_poke_byte_fault step address self.old)) }
         ensures kept { OnErr result (self.new ≡ self.old) }
     {
-        match self.set_poke_byte_fault(step, address) {
-            Some(fault) => return Err(fault),
-            None => {}
-        }
+        self.check_set_poke_byte(step, address)?;
         self.marks.reach(step)?;
         self.pokes.put_byte(step, address, value)?;
         self.marks.mark(step);
@@ -196,10 +187,7 @@ impl Timeline {
         ensures err { IfErr result (λ e. clear_poke_byte_fault step address self.old ≡ Some e) }
         ensures kept { OnErr result (self.new ≡ self.old) }
     {
-        match self.clear_poke_byte_fault(step, address) {
-            Some(fault) => return Err(fault),
-            None => {}
-        }
+        self.check_clear_poke_byte(step, address)?;
         self.pokes.cut_byte(step, address);
         Ok(())
     }
@@ -216,10 +204,7 @@ impl Timeline {
         ensures err { IfErr result (IsRefused (set_input_fault step bytes.now self.old)) }
         ensures kept { OnErr result (self.new ≡ self.old) }
     {
-        match self.set_input_fault(step, bytes) {
-            Some(fault) => return Err(fault),
-            None => {}
-        }
+        self.check_set_input(step, bytes)?;
         self.marks.reach(step)?;
         self.inputs.put(alloc, step, bytes)?;
         self.marks.mark(step);
@@ -236,10 +221,7 @@ impl Timeline {
         ensures err { IfErr result (λ e. clear_input_fault step self.old ≡ Some e) }
         ensures kept { OnErr result (self.new ≡ self.old) }
     {
-        match self.clear_input_fault(step) {
-            Some(fault) => return Err(fault),
-            None => {}
-        }
+        self.check_clear_input(step)?;
         self.inputs.cut(step);
         Ok(())
     }
@@ -255,10 +237,7 @@ impl Timeline {
         ensures err { IfErr result (IsRefused (set_request_fault step level self.old)) }
         ensures kept { OnErr result (self.new ≡ self.old) }
     {
-        match self.set_request_fault(step, level) {
-            Some(fault) => return Err(fault),
-            None => {}
-        }
+        self.check_set_request(step, level)?;
         self.marks.reach(step)?;
         self.requests.put(Request { step, level })?;
         self.marks.mark(step);
@@ -275,10 +254,7 @@ impl Timeline {
         ensures err { IfErr result (λ e. clear_request_fault step level self.old ≡ Some e) }
         ensures kept { OnErr result (self.new ≡ self.old) }
     {
-        match self.clear_request_fault(step, level) {
-            Some(fault) => return Err(fault),
-            None => {}
-        }
+        self.check_clear_request(step, level)?;
         self.requests.cut(Request { step, level });
         Ok(())
     }

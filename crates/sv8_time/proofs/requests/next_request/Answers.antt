@@ -1,4 +1,3 @@
-use Rattle.std.proofs.Common.{◌∙◌, sym, ap}
 use Rattle.sv8_time.proofs.Nexts.{next_request_is, request_found}
 use Rattle.sv8_time.proofs.requests.next_request.Goals as goal
 

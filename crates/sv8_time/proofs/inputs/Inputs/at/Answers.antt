@@ -1,25 +1,19 @@
-use Rattle.std.proofs.Common.{arith, ◌≡◌, ◌∙◌, sym, ap, subst, [], length, option_map, Some}
-use Rattle.std.proofs.lemmas.List.{length-map}
-use Rattle.std.specs.List.{slice_get}
-use Rattle.sv8_time.specs.Schedule.{is_input_at, input_bytes}
-use Rattle.sv8_time.specs.Inputs.{given, givens}
-use Rattle.sv8_time.proofs.InputPlaces.{alone_bytes, short_at}
+use Rattle.std.proofs.Common.{arith, ◌∙◌, sym, ap, subst, []}
+use Rattle.sv8_time.specs.Schedule.{bytes_of_step}
+use Rattle.sv8_time.specs.Inputs.{joined, InBlocks}
+use Rattle.sv8_time.proofs.BlockPlaces.{apart_at, bytes_within, bytes_past, all_below}
 use Rattle.sv8_time.proofs.inputs.Inputs.at.Goals as goal
 
-pub bytes_in-requires : goal.bytes_in-requires
-bytes_in-requires c =
-    let h = c.in-Ok.ensures [] in
-    let w = h.within in
-    omega (arith, ap length c.self.view_is, length-map c.self.inside.entries.items given, ap length c.deref.ensures.value)
+pub returns-in-Some-clause-value : goal.returns-in-Some-clause-value
+returns-in-Some-clause-value c =
+    let blocks = c.deref.result.now in
+    let k = c.block_of.result in
+    let in_blocks : InBlocks 0 blocks = subst (λ l. InBlocks 0 l) (sym c.deref.ensures.value) c.self.invariant.in_blocks in
+    let apart = apart_at c.args.step 0 k blocks in_blocks c.in-Some.ensures.lookup.3.0 (omega (arith, c.block_of.ensures)) in
+    c.at.ensures.value ∙ (ap (bytes_of_step c.args.step) (c.in-Some.ensures.lookup.3.1 []) ∙ (bytes_within c.args.step blocks k apart ∙ ap (bytes_of_step c.args.step) (ap joined c.deref.ensures.value ∙ c.self.view_is)))
 
-pub returns-in-Ok-clause-value : goal.returns-in-Ok-clause-value
-returns-in-Ok-clause-value c =
-    let h = c.in-Ok.ensures [] in
-    alone_bytes (is_input_at c.args.step) c.args.self.now c.in-Ok.index c.bytes_in.result.now h.alone
-    (subst (λ l. option_map (λ i. i.bytes) (slice_get l c.in-Ok.index) ≡ Some c.bytes_in.result.now) (ap givens c.deref.ensures.value ∙ c.self.view_is) c.bytes_in.ensures)
-
-pub returns-in-Err-clause-value : goal.returns-in-Err-clause-value
-returns-in-Err-clause-value c = let h = c.in-Err.ensures [] in ap input_bytes (sym h.none)
-
-pub returns-in-Ok-clause-short : goal.returns-in-Ok-clause-short
-returns-in-Ok-clause-short c = short_at (givens c.self.inside.entries.items) c.in-Ok.index c.bytes_in.result.now c.self.invariant.short (subst (λ l. option_map (λ i. i.bytes) (slice_get (givens l) c.in-Ok.index) ≡ Some c.bytes_in.result.now) c.deref.ensures.value c.bytes_in.ensures)
+pub returns-in-None-clause-value : goal.returns-in-None-clause-value
+returns-in-None-clause-value c =
+    let blocks = c.deref.result.now in
+    let in_blocks : InBlocks 0 blocks = subst (λ l. InBlocks 0 l) (sym c.deref.ensures.value) c.self.invariant.in_blocks in
+    bytes_past c.args.step (joined blocks) (all_below c.args.step 0 blocks in_blocks (omega (arith, c.block_of.ensures, c.in-None.ensures.lookup.3))) ∙ ap (bytes_of_step c.args.step) (ap joined c.deref.ensures.value ∙ c.self.view_is)

@@ -1,8 +1,19 @@
-use Rattle.std.proofs.Common.{sym, []}
+use Rattle.std.proofs.Common.{arith, ◌∙◌, sym, ap, subst, []}
+use Rattle.sv8_time.specs.Schedule.{has_input}
+use Rattle.sv8_time.specs.Inputs.{joined, InBlocks}
+use Rattle.sv8_time.proofs.BlockPlaces.{apart_at, has_within, has_past, all_below}
 use Rattle.sv8_time.proofs.inputs.Inputs.has.Goals as goal
 
-pub returns-in-Ok : goal.returns-in-Ok
-returns-in-Ok c = let h = c.in-Ok.ensures [] in sym h.present
+pub returns-in-Some : goal.returns-in-Some
+returns-in-Some c =
+    let blocks = c.deref.result.now in
+    let k = c.block_of.result in
+    let in_blocks : InBlocks 0 blocks = subst (λ l. InBlocks 0 l) (sym c.deref.ensures.value) c.self.invariant.in_blocks in
+    let apart = apart_at c.args.step 0 k blocks in_blocks c.in-Some.ensures.lookup.3.0 (omega (arith, c.block_of.ensures)) in
+    c.has.ensures ∙ (ap (has_input c.args.step) (c.in-Some.ensures.lookup.3.1 []) ∙ (has_within c.args.step blocks k apart ∙ ap (has_input c.args.step) (ap joined c.deref.ensures.value ∙ c.self.view_is)))
 
-pub returns-in-Err : goal.returns-in-Err
-returns-in-Err c = let h = c.in-Err.ensures [] in sym h.absent
+pub returns-in-None : goal.returns-in-None
+returns-in-None c =
+    let blocks = c.deref.result.now in
+    let in_blocks : InBlocks 0 blocks = subst (λ l. InBlocks 0 l) (sym c.deref.ensures.value) c.self.invariant.in_blocks in
+    has_past c.args.step (joined blocks) (all_below c.args.step 0 blocks in_blocks (omega (arith, c.block_of.ensures, c.in-None.ensures.lookup.3))) ∙ ap (has_input c.args.step) (ap joined c.deref.ensures.value ∙ c.self.view_is)

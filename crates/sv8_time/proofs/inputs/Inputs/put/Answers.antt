@@ -1,104 +1,96 @@
-use Rattle.std.proofs.Common.{arith, ◌∙◌, ◌≤◌, sym, ap, subst, [], ◌∷◌, ◌++◌, length, length-set}
-use Rattle.std.proofs.lemmas.List.{length-map, length-append}
-use Rattle.sv8_time.specs.Order.{Stands, Misses}
-use Rattle.sv8_time.specs.Schedule.{is_input_at, input_of, input_before}
-use Rattle.sv8_time.specs.Inputs.{given, givens}
-use Rattle.std.proofs.lemmas.List.Edits.{length-insert}
-use Rattle.sv8_time.proofs.InputPlaces.{fresh_replaced, fresh_inserted, length_starts, counted_replaced, counted_inserted}
+use Rattle.std.proofs.Common.{arith, ◌≡◌, ◌∙◌, ◌<◌, ◌+◌, sym, ap, subst, [], length, length-set, get_or, cond, slice_get, Some}
+use Rattle.sv8_time.specs.Schedule.{input_of, has_input, put_input, byte_count}
+use Rattle.sv8_time.specs.Inputs.{joined, wholes, starts_of}
+use Rattle.sv8_time.proofs.BlockPlaces.{apart_at, has_within, part_le, put_within, put_length, sorted_put, counted_set, length_wholes}
 use Rattle.sv8_time.proofs.inputs.Inputs.put.Goals as goal
 
-pub replace_at-requires : goal.replace_at-requires
-replace_at-requires c =
-    let h = c.in-Ok.ensures [] in
-    let w = h.within in
-    omega (arith, ap length c.self.view_is, length-map c.self.inside.entries.items given, c.self.inside.entries.ok.0)
+pub put_in-requires-clause-room : goal.put_in-requires-clause-room
+put_in-requires-clause-room c =
+    let blocks = c.grow.new.blocks.items in
+    let k = c.block_of-index.result in
+    let s = c.in_ok-grow.ensures.kept c.self.inside.count c.self.invariant in
+    let within : k < length blocks = omega (arith, c.in_ok-grow.ensures.ok) in
+    let apart = apart_at c.args.step 0 k blocks s.in_blocks within (omega (arith, c.block_of-index.ensures)) in
+    let view = c.in_ok-grow.ensures.same ∙ c.self.view_is in
+    λ absent.
+    let room = c.requires.room (ap (has_input c.args.step) (sym view) ∙ (sym (has_within c.args.step blocks k apart) ∙ absent)) in
+    omega (arith, part_le c.args.step blocks k apart, ap length view)
+
+pub start_in-before-requires : goal.start_in-before-requires
+start_in-before-requires c =
+    let s = c.in_ok-grow.ensures.kept c.self.inside.count c.self.invariant in
+    omega (arith, c.in_ok-grow.ensures.ok, ap length c.deref.ensures.value, length_wholes c.grow.new.blocks.items c.grow.new.starts.items s.starts_are)
 
 pub recount-self-inside-requires-clause-same : goal.recount-self-inside-requires-clause-same
 recount-self-inside-requires-clause-same c =
-    let g = givens c.self.inside.entries.items in
-    omega (
-      arith,
-      ap length c.self.invariant.starts_are,
-      length_starts 0 g,
-      ap length c.replace_at.ensures,
-      length-set g c.in-Ok.index (input_of c.args.step c.in_ok-from_slice.field-0.items),
-      length-map c.replace_at.new.entries.items given,
-      ap length c.deref.ensures.value,
-    )
+    let blocks = c.grow.new.blocks.items in
+    let s = c.in_ok-grow.ensures.kept c.self.inside.count c.self.invariant in
+    length_wholes blocks c.grow.new.starts.items s.starts_are
+    ∙ sym (ap length (c.deref-2.ensures.value ∙ c.in_ok-put_in.ensures.ok) ∙ length-set blocks c.block_of-index.result (put_input (input_of c.args.step c.args.bytes.now) (get_or blocks c.block_of-index.result [])))
 
 pub recount-self-inside-requires-clause-fits : goal.recount-self-inside-requires-clause-fits
 recount-self-inside-requires-clause-fits c =
-    let g = givens c.self.inside.entries.items in
-    let bytes = c.in_ok-from_slice.field-0.items in
-    let b : length bytes ≤ 1024 = omega (arith, ap length c.in_ok-from_slice.ensures.items, c.requires.short) in
-    let h = subst (λ l. Stands input_before (is_input_at c.args.step) (input_of c.args.step bytes) l c.in-Ok.index) (sym c.self.view_is) (c.in-Ok.ensures bytes) in
-    let k = fresh_replaced c.args.step bytes g c.in-Ok.index b c.self.invariant.short c.self.invariant.few h in
-    rw (ap givens c.deref.ensures.value ∙ c.replace_at.ensures) k.fits
-
-pub insert_at-requires : goal.insert_at-requires
-insert_at-requires c =
-    let h = c.in-Err.ensures [] in
-    let w = h.within in
-    omega (arith, ap length c.self.view_is, length-map c.self.inside.entries.items given, c.self.inside.entries.ok.0)
-
-pub recount-self-inside-requires-in-Err-clause-same : goal.recount-self-inside-requires-in-Err-clause-same
-recount-self-inside-requires-in-Err-clause-same c =
-    let g = givens c.self.inside.entries.items in
-    let h = c.in-Err.ensures [] in
-    let w = h.within in
-    omega (
-      arith,
-      ap length c.self.view_is,
-      ap length c.self.invariant.starts_are,
-      length_starts 0 g,
-      ap length c.in_ok-insert_at-in-Err.ensures.ok,
-      length-insert g c.in-Err.index (input_of c.args.step c.in_ok-from_slice.field-0.items) (omega (arith, ap length c.self.view_is)),
-      ap length c.in_ok-insert_at-in-Err.ensures.starts,
-      length-append c.self.inside.starts.items (0 ∷ []),
-      length-map c.insert_at.new.entries.items given,
-      ap length c.deref-in-Err.ensures.value,
-    )
-
-pub recount-self-inside-requires-in-Err-clause-fits : goal.recount-self-inside-requires-in-Err-clause-fits
-recount-self-inside-requires-in-Err-clause-fits c =
-    let g = givens c.self.inside.entries.items in
-    let bytes = c.in_ok-from_slice.field-0.items in
-    let b : length bytes ≤ 1024 = omega (arith, ap length c.in_ok-from_slice.ensures.items, c.requires.short) in
-    let m = c.in-Err.ensures bytes in
-    let h = subst (λ l. Misses input_before (is_input_at c.args.step) (input_of c.args.step bytes) l c.in-Err.index) (sym c.self.view_is) m in
-    let k = fresh_inserted c.args.step bytes g c.in-Err.index b c.self.invariant.short (omega (arith, ap length c.self.view_is, c.requires.room m.absent)) h in
-    rw (ap givens c.deref-in-Err.ensures.value ∙ c.in_ok-insert_at-in-Err.ensures.ok) k.fits
-
-pub start-before-requires : goal.start-before-requires
-start-before-requires c = let h = c.in-Ok.ensures [] in let w = h.within in omega arith
-
-pub start-before-requires-in-Err : goal.start-before-requires-in-Err
-start-before-requires-in-Err c = let h = c.in-Err.ensures [] in h.within
+    let blocks = c.grow.new.blocks.items in
+    let k = c.block_of-index.result in
+    let s = c.in_ok-grow.ensures.kept c.self.inside.count c.self.invariant in
+    let within : k < length blocks = omega (arith, c.in_ok-grow.ensures.ok) in
+    let view = c.in_ok-grow.ensures.same ∙ c.self.view_is in
+    let sorted = sorted_put c.args.step c.args.bytes.now blocks c.grow.new.starts.items c.self.inside.total c.self.inside.count k s within c.block_of-index.ensures c.requires.short (rw view c.requires.room) in
+    rw (c.deref-2.ensures.value, c.in_ok-put_in.ensures.ok) sorted.fits
 
 pub recount-self-inside-requires-clause-front : goal.recount-self-inside-requires-clause-front
 recount-self-inside-requires-clause-front c =
-    let g = givens c.self.inside.entries.items in
-    let k = counted_replaced c.self.inside.starts.items c.start-before.result c.in-Ok.index g (input_of c.args.step c.in_ok-from_slice.field-0.items) c.self.invariant.starts_are (rw c.self.view_is c.start-before.ensures) in
-    rw (ap givens c.deref.ensures.value ∙ c.replace_at.ensures) k.front
+    let blocks = c.grow.new.blocks.items in
+    let k = c.block_of-index.result in
+    let s = c.in_ok-grow.ensures.kept c.self.inside.count c.self.invariant in
+    let g : slice_get c.grow.new.starts.items k ≡ Some c.start_in-before.result = subst (λ l. slice_get l k ≡ Some c.start_in-before.result) c.deref.ensures.value c.start_in-before.ensures in
+    let counted = counted_set blocks c.grow.new.starts.items k c.start_in-before.result (put_input (input_of c.args.step c.args.bytes.now) (get_or blocks k [])) s.starts_are g in
+    rw (c.deref-2.ensures.value, c.in_ok-put_in.ensures.ok) counted.front
 
 pub recount-self-inside-requires-clause-sum : goal.recount-self-inside-requires-clause-sum
 recount-self-inside-requires-clause-sum c =
-    let g = givens c.self.inside.entries.items in
-    let k = counted_replaced c.self.inside.starts.items c.start-before.result c.in-Ok.index g (input_of c.args.step c.in_ok-from_slice.field-0.items) c.self.invariant.starts_are (rw c.self.view_is c.start-before.ensures) in
-    rw (ap givens c.deref.ensures.value ∙ c.replace_at.ensures) k.sum
+    let blocks = c.grow.new.blocks.items in
+    let k = c.block_of-index.result in
+    let s = c.in_ok-grow.ensures.kept c.self.inside.count c.self.invariant in
+    let g : slice_get c.grow.new.starts.items k ≡ Some c.start_in-before.result = subst (λ l. slice_get l k ≡ Some c.start_in-before.result) c.deref.ensures.value c.start_in-before.ensures in
+    let counted = counted_set blocks c.grow.new.starts.items k c.start_in-before.result (put_input (input_of c.args.step c.args.bytes.now) (get_or blocks k [])) s.starts_are g in
+    rw (c.deref-2.ensures.value, c.in_ok-put_in.ensures.ok) counted.sum
 
-pub recount-self-inside-requires-in-Err-clause-front : goal.recount-self-inside-requires-in-Err-clause-front
-recount-self-inside-requires-in-Err-clause-front c =
-    let g = givens c.self.inside.entries.items in
-    let h = c.in-Err.ensures [] in
-    let k = counted_inserted c.insert_at.new.starts.items c.start-before-in-Err.result c.in-Err.index g (input_of c.args.step c.in_ok-from_slice.field-0.items) (rw c.self.view_is h.within)
-    (c.in_ok-insert_at-in-Err.ensures.starts ∙ ap (λ l. l ++ 0 ∷ []) c.self.invariant.starts_are) (rw c.self.view_is c.start-before-in-Err.ensures) in
-    rw (ap givens c.deref-in-Err.ensures.value ∙ c.in_ok-insert_at-in-Err.ensures.ok) k.front
+pub invariant_of-self-2 : goal.invariant_of-self-2
+invariant_of-self-2 c =
+    let blocks = c.grow.new.blocks.items in
+    let k = c.block_of-index.result in
+    let s = c.in_ok-grow.ensures.kept c.self.inside.count c.self.invariant in
+    let within : k < length blocks = omega (arith, c.in_ok-grow.ensures.ok) in
+    let view = c.in_ok-grow.ensures.same ∙ c.self.view_is in
+    let sorted = sorted_put c.args.step c.args.bytes.now blocks c.grow.new.starts.items c.self.inside.total c.self.inside.count k s within c.block_of-index.ensures c.requires.short (rw view c.requires.room) in
+    let apart = apart_at c.args.step 0 k blocks s.in_blocks within (omega (arith, c.block_of-index.ensures)) in
+    let after : joined c.put_in.new.blocks.items ≡ put_input (input_of c.args.step c.args.bytes.now) (joined blocks) = ap joined c.in_ok-put_in.ensures.ok ∙ put_within c.args.step c.args.bytes.now blocks k apart within in
+    let many : length (joined c.put_in.new.blocks.items) ≡ cond (has_input c.args.step c.args.self.now) (length c.args.self.now) (length c.args.self.now + 1) =
+    ap length after ∙ rw (sym view) (put_length c.args.step c.args.bytes.now (joined blocks) s.rising) in
+    record {
+      in_blocks = rw c.in_ok-put_in.ensures.ok sorted.in_blocks;
+      rising = rw c.in_ok-put_in.ensures.ok sorted.rising;
+      short = rw c.in_ok-put_in.ensures.ok sorted.short;
+      few = rw c.in_ok-put_in.ensures.ok sorted.few;
+      count_is = c.count_with-count.ensures ∙ sym many;
+      starts_are = c.recount-self-inside.ensures.starts ∙ ap (λ l. starts_of 0 (wholes l)) c.deref-2.ensures.value;
+      total_is = c.recount-self-inside.ensures.total ∙ ap (λ l. byte_count (wholes l)) c.deref-2.ensures.value;
+    }
 
-pub recount-self-inside-requires-in-Err-clause-sum : goal.recount-self-inside-requires-in-Err-clause-sum
-recount-self-inside-requires-in-Err-clause-sum c =
-    let g = givens c.self.inside.entries.items in
-    let h = c.in-Err.ensures [] in
-    let k = counted_inserted c.insert_at.new.starts.items c.start-before-in-Err.result c.in-Err.index g (input_of c.args.step c.in_ok-from_slice.field-0.items) (rw c.self.view_is h.within)
-    (c.in_ok-insert_at-in-Err.ensures.starts ∙ ap (λ l. l ++ 0 ∷ []) c.self.invariant.starts_are) (rw c.self.view_is c.start-before-in-Err.ensures) in
-    rw (ap givens c.deref-in-Err.ensures.value ∙ c.in_ok-insert_at-in-Err.ensures.ok) k.sum
+pub returns-clause-value : goal.returns-clause-value
+returns-clause-value c =
+    let blocks = c.grow.new.blocks.items in
+    let k = c.block_of-index.result in
+    let s = c.in_ok-grow.ensures.kept c.self.inside.count c.self.invariant in
+    let within : k < length blocks = omega (arith, c.in_ok-grow.ensures.ok) in
+    let view = c.in_ok-grow.ensures.same ∙ c.self.view_is in
+    let apart = apart_at c.args.step 0 k blocks s.in_blocks within (omega (arith, c.block_of-index.ensures)) in
+    ap joined c.in_ok-put_in.ensures.ok ∙ (put_within c.args.step c.args.bytes.now blocks k apart within ∙ ap (put_input (input_of c.args.step c.args.bytes.now)) view)
+
+pub returns-clause-count : goal.returns-clause-count
+returns-clause-count c =
+    let blocks = c.grow.new.blocks.items in
+    let s = c.in_ok-grow.ensures.kept c.self.inside.count c.self.invariant in
+    let view = c.in_ok-grow.ensures.same ∙ c.self.view_is in
+    ap length (returns-clause-value c) ∙ rw (sym view) (put_length c.args.step c.args.bytes.now (joined blocks) s.rising)

@@ -1,4 +1,4 @@
-use Rattle.std.proofs.Common.{◌≡◌, ◌∙◌, subst}
+use Rattle.std.proofs.Common.{◌∙◌, subst}
 use Rattle.std.proofs.lemmas.List.{take_rest}
 use Rattle.sv8_time.specs.Order.{Rising, comes_before}
 use Rattle.sv8_time.proofs.KeyPlaces.{behind_back}

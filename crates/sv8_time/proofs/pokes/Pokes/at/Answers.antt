@@ -1,4 +1,4 @@
-use Rattle.std.proofs.Common.{◌∙◌, sym, ap}
+use Rattle.std.proofs.Common.{◌∙◌, ap}
 use Rattle.sv8_time.specs.Schedule.{pokes_of_step}
 use Rattle.sv8_time.specs.Words.{bytes_of_words}
 use Rattle.sv8_time.proofs.WordPlaces.{bytes_of_step}

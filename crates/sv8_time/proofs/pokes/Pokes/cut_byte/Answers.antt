@@ -1,4 +1,4 @@
-use Rattle.std.proofs.Common.{◌∙◌, sym, arith}
+use Rattle.std.proofs.Common.{sym, arith}
 use Rattle.sv8_time.specs.Schedule.{word_of}
 use Rattle.sv8_time.proofs.BytePlaces.{cut_whole}
 use Rattle.sv8_time.proofs.PokeEdits.{byte_in_word}

@@ -1,7 +1,6 @@
-use Rattle.std.proofs.Common.{◌≡◌, ◌≤◌, ◌∙◌, sym, ap, subst, arith, true, false, length}
-use Rattle.std.specs.List.{list_any}
+use Rattle.std.proofs.Common.{◌∙◌, sym, ap, arith}
 use Rattle.sv8_time.specs.Schedule.{word_count}
-use Rattle.sv8_time.specs.Words.{bytes_of_words, is_word_at, with_bytes, SameWords, is_poked}
+use Rattle.sv8_time.specs.Words.{bytes_of_words, with_bytes, SameWords}
 use Rattle.sv8_time.proofs.WordPlaces.{store_words, cut_words, same_placed, same_cut, stands_by_address}
 use Rattle.sv8_time.proofs.PokeEdits.{word_stands, count_same}
 use Rattle.sv8_time.proofs.pokes.Pokes.leave.Goals as goal

@@ -1,4 +1,4 @@
-use Rattle.std.proofs.Common.{◌≡◌, ◌∙◌, sym, arith, length}
+use Rattle.std.proofs.Common.{sym, arith}
 use Rattle.sv8_time.specs.Schedule.{word_of}
 use Rattle.sv8_time.proofs.BytePlaces.{put_whole, set_is_poked}
 use Rattle.sv8_time.proofs.pokes.Pokes.put_byte.Goals as goal

@@ -1,4 +1,4 @@
-use Rattle.std.proofs.Common.{◌∙◌, sym, ap}
+use Rattle.std.proofs.Common.{◌∙◌, ap}
 use Rattle.sv8_time.specs.Words.{bytes_of_words, with_bytes}
 use Rattle.sv8_time.proofs.WordPlaces.{store_words}
 use Rattle.sv8_time.proofs.PokeEdits.{on_ok, stored_same, stored_count}

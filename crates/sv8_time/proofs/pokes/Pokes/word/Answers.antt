@@ -1,6 +1,5 @@
-use Rattle.std.proofs.Common.{◌≡◌, ◌∙◌, sym, ap, subst, false}
-use Rattle.std.specs.Option.{unwrap_or}
-use Rattle.sv8_time.specs.Words.{is_poked, with_bytes}
+use Rattle.std.proofs.Common.{◌≡◌, ◌∙◌, sym, ap, false}
+use Rattle.sv8_time.specs.Words.{is_poked}
 use Rattle.sv8_time.proofs.WordPlaces.{word_found, word_whole}
 use Rattle.sv8_time.proofs.pokes.Pokes.word.Goals as goal
 

@@ -1,4 +1,3 @@
-use Rattle.std.proofs.Common.{rules}
 use Rattle.sv8_time.specs.Schedule.{Schedule}
 use Rattle.sv8_time.proofs.SoundEvents.{sound_cut_request}
 use Rattle.sv8_time.proofs.timeline.Timeline.clear_request.Goals as goal

@@ -1,6 +1,5 @@
-use Rattle.std.proofs.Common.{◌∙◌, subst, sym, ap}
-use Rattle.sv8_time.specs.Order.{Each}
-use Rattle.sv8_time.specs.Schedule.{Schedule, IsTimeline, pokes_of_step, requests_of_step}
+use Rattle.std.proofs.Common.{◌∙◌, subst, ap}
+use Rattle.sv8_time.specs.Schedule.{IsTimeline, pokes_of_step, requests_of_step}
 use Rattle.sv8_time.proofs.SoundEvents.{words_inside, requests_inside}
 use Rattle.sv8_time.proofs.timeline.Timeline.find_events.Goals as goal
 

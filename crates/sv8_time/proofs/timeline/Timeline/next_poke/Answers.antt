@@ -1,6 +1,5 @@
-use Rattle.std.proofs.Common.{◌∙◌, subst, sym}
-use Rattle.sv8_time.specs.Order.{Each, Rising}
-use Rattle.sv8_time.specs.Schedule.{Schedule, has_poke, poke_before, poke_after, IsNextPoke, IsPokePlace, IsTimeline}
+use Rattle.std.proofs.Common.{subst}
+use Rattle.sv8_time.specs.Schedule.{has_poke, poke_after, IsNextPoke, IsTimeline}
 use Rattle.sv8_time.proofs.Nexts.{next_alone, next_bound, next_poke_is}
 use Rattle.sv8_time.proofs.SoundEvents.{poke_bound}
 use Rattle.sv8_time.proofs.timeline.Timeline.next_poke.Goals as goal

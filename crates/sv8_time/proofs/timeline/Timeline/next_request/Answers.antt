@@ -1,5 +1,5 @@
-use Rattle.std.proofs.Common.{◌∙◌, subst, sym}
-use Rattle.sv8_time.specs.Schedule.{Schedule, has_request, request_after, IsNextRequest, IsTimeline}
+use Rattle.std.proofs.Common.{subst}
+use Rattle.sv8_time.specs.Schedule.{has_request, request_after, IsNextRequest, IsTimeline}
 use Rattle.sv8_time.proofs.Nexts.{next_alone, next_bound, next_request_is}
 use Rattle.sv8_time.proofs.SoundEvents.{request_bound}
 use Rattle.sv8_time.proofs.timeline.Timeline.next_request.Goals as goal

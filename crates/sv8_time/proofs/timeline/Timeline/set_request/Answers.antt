@@ -1,4 +1,4 @@
-use Rattle.std.proofs.Common.{◌≡◌, ◌∙◌, sym, subst, None}
+use Rattle.std.proofs.Common.{◌≡◌, sym, subst, None}
 use Rattle.sv8_time.specs.Schedule.{Schedule, request_of, set_request_fault}
 use Rattle.sv8_time.proofs.SoundEvents.{sound_request}
 use Rattle.sv8_time.proofs.timeline.Timeline.set_request.Goals as goal
@@ -6,5 +6,5 @@ use Rattle.sv8_time.proofs.timeline.Timeline.set_request.Goals as goal
 pub invariant_of-self-2 : goal.invariant_of-self-2
 invariant_of-self-2 c =
     let s : Schedule = record { limit = c.self.inside.limit; pokes = c.self.inside.pokes; inputs = c.self.inside.inputs; requests = c.self.inside.requests } in
-    let f : set_request_fault c.args.step c.args.level s ≡ None = subst (λ t. set_request_fault c.args.step c.args.level t ≡ None) (sym c.self.view_is) (sym c.set_request_fault.ensures ∙ c.in-None.is) in
+    let f : set_request_fault c.args.step c.args.level s ≡ None = subst (λ t. set_request_fault c.args.step c.args.level t ≡ None) (sym c.self.view_is) c.in_ok-check_set_request.ensures.ok in
     sound_request c.self.inside.marks c.mark.new.self s (request_of c.args.step c.args.level) c.put.new.self (λ n e. c.mark.ensures.kept n (c.in_ok-reach.ensures.kept n e)) c.mark.ensures.marked c.self.invariant f c.in_ok-put.ensures.value c.in_ok-put.ensures.count

@@ -1,7 +1,6 @@
-use Rattle.std.proofs.Common.{rules, ◌≡◌, ◌∙◌, subst, sym, ap, Some, None, slice_get}
-use Rattle.sv8_time.specs.Inputs.{starts_of}
+use Rattle.std.proofs.Common.{rules}
 use Rattle.sv8_time.proofs.InputPlaces.{start_is, start_past}
-use Rattle.sv8_time.proofs.inputs.Inputs.start.Goals as goal
+use Rattle.sv8_time.proofs.block.Block.start.Goals as goal
 
 pub returns-in-Some : goal.returns-in-Some
 returns-in-Some c = start_is c.args.self.now c.args.index c.in-Some.start (search rules)

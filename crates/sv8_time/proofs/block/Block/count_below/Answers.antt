@@ -6,7 +6,7 @@ use Rattle.sv8_time.proofs.InputPlaces.{inputs_below, prefix_map, parted_map}
 use Rattle.sv8_time.specs.Order.{Rising}
 use Rattle.sv8_time.specs.Schedule.{input_before}
 use Rattle.sv8_time.specs.Inputs.{given, givens}
-use Rattle.sv8_time.proofs.inputs.Inputs.count_below.Goals as goal
+use Rattle.sv8_time.proofs.block.Block.count_below.Goals as goal
 
 pub returns-clause-value : goal.returns-clause-value
 returns-clause-value c =

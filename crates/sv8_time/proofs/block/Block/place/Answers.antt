@@ -2,7 +2,7 @@ use Rattle.std.proofs.Common.{◌∙◌, sym, subst}
 use Rattle.sv8_time.specs.Order.{Rising}
 use Rattle.sv8_time.specs.Schedule.{input_before}
 use Rattle.sv8_time.proofs.InputPlaces.{input_stands, input_misses}
-use Rattle.sv8_time.proofs.inputs.Inputs.place.Goals as goal
+use Rattle.sv8_time.proofs.block.Block.place.Goals as goal
 
 pub returns-then-stands_at : goal.returns-then-stands_at
 returns-then-stands_at c = λ bytes. input_stands c.args.step bytes c.args.self.now c.count_below-index.result (subst (λ l. Rising input_before l) c.self.view_is c.self.invariant.rising)
