@@ -4,8 +4,9 @@ use Rattle.std.specs.List.{range_with_len}
 use Rattle.sv8_regs.specs.Ring.{Registers, read}
 use Rattle.sv8_regs.specs.Control.{packed_psr}
 use Rattle.sv8_model.specs.Levels.{levels_word}
-use Rattle.sv8_cpu.specs.State.{State}
-use Rattle.sv8_cpu.specs.Step.{state_at}
+use Rattle.sv8_time.specs.Schedule.{Schedule}
+use Rattle.sv8_cpu.specs.State.{State, waiting}
+use Rattle.sv8_cpu.specs.Run.{state_at}
 use Rattle.sv8_bench.specs.Kept.{Kept}
 use Rattle.sv8_bench.specs.declared.shown.Shown.{Shown}
 
@@ -13,9 +14,10 @@ use Rattle.sv8_bench.specs.declared.shown.Shown.{Shown}
 unfoldable pub shown_registers : ℕ → Registers → List ℕ
 shown_registers windows r = map (read windows r) (range_with_len 0 32)
 
-unfoldable pub shown_state : ℕ → State → Shown
-shown_state windows s =
-    let p = s.inner.processor in
+-- of a state at a step; which bytes wait at the console depends on the timeline
+unfoldable pub shown_state : ℕ → Schedule → ℕ → State → Shown
+shown_state windows timeline n s =
+    let p = s.processor in
     record {
       running = p.running;
       pc = p.pc;
@@ -26,12 +28,16 @@ shown_state windows s =
       tbr = p.registers.tbr;
       y = p.registers.y;
       registers = shown_registers windows p.registers;
-      mmu = s.inner.mmu;
-      timer = s.inner.timer;
-      pending = levels_word s.outside.pending;
-      waiting = length s.outside.waiting;
+      mmu = s.mmu;
+      timer = s.memory.timer;
+      pending = levels_word s.memory.pending;
+      waiting = length (waiting timeline n s);
     }
 
--- what is shown of a workbench's machine at a step
+-- the state of a workbench's machine at a step
+abbrev pub machine_state : Kept → ℕ → State
+machine_state k n = state_at k.windows k.pages k.source k.timeline n
+
+-- what is shown of it
 abbrev pub shown_at : Kept → ℕ → Shown
-shown_at k n = shown_state k.windows (state_at k.windows k.pages k.source n)
+shown_at k n = shown_state k.windows k.timeline n (machine_state k n)

@@ -4,17 +4,17 @@ ghost use Rattle.std.specs.Prelude.{◌≡◌, ℕ, ◌+◌, ◌*◌, ◌<◌, �
 ghost use Rattle.sv8_source.specs.Text.{texts};
 ghost use Rattle.sv8_source.specs.Listing.{listing, numbered};
 ghost use Rattle.sv8_source.specs.View.{shown_of};
-ghost use Rattle.sv8_cpu.specs.State.{reset_state};
-ghost use Rattle.sv8_cpu.specs.Step.{steps, state_at};
+ghost use Rattle.sv8_time.specs.Schedule.{bytes_below};
 ghost use Rattle.sv8_bench.specs.Faults.{edit_refusal, step_refusal, IsQueryFault};
 ghost use Rattle.sv8_bench.specs.Kept.{empty, edited};
-ghost use Rattle.sv8_bench.specs.Shown.{shown_at};
+ghost use Rattle.sv8_bench.specs.Shown.{machine_state, shown_at};
 
 use crate::fault::BenchFault;
 use crate::shown::Shown;
 use std::alloc::{AllocError, Global};
 use std::marker::Model;
-use sv8_cpu::Machine;
+use sv8_cpu::{Machine, Work};
+use sv8_phys::NoTouches;
 use sv8_source::{Listed, Source};
 use sv8_time::Timeline;
 
@@ -31,6 +31,7 @@ pub struct Bench<const NW: usize, const PAGES: usize, const K: u32> {
     alloc: Global,
     source: Source,
     timeline: Timeline,
+    work: Work,
 }
 
 impl<const NW: usize, const PAGES: usize, const K: u32> Model for Bench<NW, PAGES, K> {
@@ -65,6 +66,7 @@ impl<const NW: usize, const PAGES: usize, const K: u32> Bench<NW, PAGES, K> {
             alloc,
             source: Source::new(alloc, ram_size),
             timeline: Timeline::new(alloc, ram_size),
+            work: Work::new(),
         })
     }
 
@@ -123,19 +125,20 @@ impl<const NW: usize, const PAGES: usize, const K: u32> Bench<NW, PAGES, K> {
         if LAST_STEP < step {
             return Err(BenchFault::StepTooLarge);
         }
-        let _source = &self.source;
         let machine = self.machine_at(step)?;
-        Ok(Shown::of(&machine))
+        Ok(Shown::of(&machine, step, &self.timeline))
     }
 
-    /// The machine after so many steps from reset.
-    #[tactic(auto, unfolding(sv8_cpu::specs::Step::steps))]
-    fn machine_at(&self, step: u32) -> Result<Machine<NW, PAGES>, AllocError>
-        ensures { IfOk result (λ m. m ≡ state_at NW PAGES self.now.source step) }
+    /// The machine after so many steps from reset, under the timeline.
+    #[tactic(auto, unfolding(sv8_cpu::specs::Run::steps))]
+    fn machine_at(&mut self, step: u32) -> Result<Machine<NW, PAGES>, AllocError>
+        ensures state { IfOk result (λ m. m ≡ machine_state self.old step) }
+        ensures delivered { IfOk result (λ m. m.memory.taken ≤ bytes_below step self.old.timeline.inputs) }
+        ensures unchanged { self.new ≡ self.old }
     {
         let mut machine = Machine::reset(self.alloc, &self.source)?;
-        for _ in 0..step {
-            machine = machine.step()?;
+        for n in 0..step {
+            machine = machine.step(n, &self.timeline, &mut NoTouches, &mut self.work)?;
         }
         Ok(machine)
     }

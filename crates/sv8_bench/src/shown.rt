@@ -2,11 +2,13 @@
 
 ghost use Rattle.std.specs.Prelude.{◌≡◌, ◌<◌, ◌≤◌, ℕ, List};
 ghost use Rattle.sv8_regs.specs.Ring.{read};
+ghost use Rattle.sv8_time.specs.Schedule.{bytes_below};
 ghost use Rattle.sv8_bench.specs.Shown.{shown_registers, shown_state};
 
 use sv8_cpu::{Machine, MmuRegisters};
 use sv8_phys::Timer;
 use sv8_regs::Regs;
+use sv8_time::Timeline;
 
 /// The machine at a step, as a query shows it: each register of chapter 4 as a word, and the devices.
 #[derive(Drop, Clone, Copy)]
@@ -51,11 +53,16 @@ fn window_of<const NW: usize>(registers: &Regs<NW>) -> [u32; 32]
 }
 
 impl Shown {
-    /// What is shown of a machine.
+    /// What is shown of a machine in its state at a step.
     #[tactic(auto, unfolding(crate::specs::Shown::shown_state))]
-    pub(crate) fn of<const NW: usize, const PAGES: usize>(machine: &Machine<NW, PAGES>) -> Shown
-        requires { NW ≤ 32 }
-        ensures { result ≡ shown_state NW machine.now }
+    pub(crate) fn of<const NW: usize, const PAGES: usize>(
+        machine: &Machine<NW, PAGES>,
+        step: u32,
+        timeline: &Timeline,
+    ) -> Shown
+        requires few { NW ≤ 32 }
+        requires delivered { machine.now.memory.taken ≤ bytes_below step timeline.now.inputs }
+        ensures { result ≡ shown_state NW timeline.now step machine.now }
     {
         let registers = machine.registers();
         Shown {
@@ -71,7 +78,7 @@ impl Shown {
             mmu: machine.mmu(),
             timer: machine.timer(),
             pending: machine.pending(),
-            waiting: machine.waiting_count(),
+            waiting: machine.waiting_count(step, timeline),
         }
     }
 }

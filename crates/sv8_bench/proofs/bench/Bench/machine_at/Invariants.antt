@@ -1,7 +1,10 @@
-use Rattle.std.proofs.Common.{◌≡◌}
+use Rattle.std.proofs.Common.{◌≡◌, ◌≤◌}
+use Rattle.sv8_time.specs.Schedule.{bytes_below}
 use Rattle.sv8_cpu.specs.State.{reset_state}
-use Rattle.sv8_cpu.specs.Step.{steps}
+use Rattle.sv8_cpu.specs.Run.{steps}
 use Rattle.sv8_bench.proofs.bench.Bench.machine_at.Given as goal
 
-abbrev pub invariant-loop : goal.invariant-loop
-invariant-loop g l = l.machine ≡ steps g.row.NW g.row.PAGES l.counter (reset_state g.row.NW g.row.PAGES l.self.source)
+abbrev pub invariant-loop-n : goal.invariant-loop-n
+invariant-loop-n g l =
+    (l.machine ≡ steps g.row.NW g.row.PAGES l.self.timeline l.n (reset_state g.row.NW g.row.PAGES l.self.source))
+    × (l.machine.memory.taken ≤ bytes_below l.n l.self.timeline.inputs)
