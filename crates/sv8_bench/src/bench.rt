@@ -5,6 +5,7 @@ ghost use Rattle.sv8_source.specs.Text.{texts};
 ghost use Rattle.sv8_source.specs.Listing.{listing, numbered};
 ghost use Rattle.sv8_source.specs.View.{shown_of};
 ghost use Rattle.sv8_time.specs.Schedule.{bytes_below};
+ghost use Rattle.sv8_cpu.specs.Run.{state_at};
 ghost use Rattle.sv8_bench.specs.Faults.{edit_refusal, step_refusal, IsQueryFault};
 ghost use Rattle.sv8_bench.specs.Kept.{empty, edited};
 ghost use Rattle.sv8_bench.specs.Shown.{machine_state, shown_at};
@@ -44,6 +45,29 @@ impl<const NW: usize, const PAGES: usize, const K: u32> Model for Bench<NW, PAGE
 
     ghost invariant = { λ b. (2 ≤ NW) × (NW ≤ 32) × (1 ≤ PAGES) × (PAGES ≤ 65536) × (1 ≤ K) × (K ≤ 1000000)
         × (b.source.limit ≡ 4096 * PAGES) × (b.timeline.limit ≡ 4096 * PAGES) };
+}
+
+/// The machine of a source after so many steps from reset, under a timeline.
+#[tactic(auto, unfolding(sv8_cpu::specs::Run::steps))]
+fn replayed<const NW: usize, const PAGES: usize>(
+    alloc: Global,
+    source: &Source,
+    timeline: &Timeline,
+    step: u32,
+    work: &mut Work,
+) -> Result<Machine<NW, PAGES>, AllocError>
+    requires some_windows { 2 ≤ NW }
+    requires few_windows { NW ≤ 32 }
+    requires few_pages { PAGES ≤ 65536 }
+    requires limit { timeline.now.limit ≡ 4096 * PAGES }
+    ensures state { IfOk result (λ m. m ≡ state_at NW PAGES source.now timeline.now step) }
+    ensures delivered { IfOk result (λ m. m.memory.taken ≤ bytes_below step timeline.now.inputs) }
+{
+    let mut machine = Machine::reset(alloc, source)?;
+    for n in 0..step {
+        machine = machine.step(n, timeline, &mut NoTouches, work)?;
+    }
+    Ok(machine)
 }
 
 impl<const NW: usize, const PAGES: usize, const K: u32> Bench<NW, PAGES, K> {
@@ -129,17 +153,19 @@ impl<const NW: usize, const PAGES: usize, const K: u32> Bench<NW, PAGES, K> {
         Ok(Shown::of(&machine, step, &self.timeline))
     }
 
-    /// The machine after so many steps from reset, under the timeline.
-    #[tactic(auto, unfolding(sv8_cpu::specs::Run::steps))]
+    /// The machine after so many steps from reset.
     fn machine_at(&mut self, step: u32) -> Result<Machine<NW, PAGES>, AllocError>
         ensures state { IfOk result (λ m. m ≡ machine_state self.old step) }
         ensures delivered { IfOk result (λ m. m.memory.taken ≤ bytes_below step self.old.timeline.inputs) }
         ensures unchanged { self.new ≡ self.old }
     {
-        let mut machine = Machine::reset(self.alloc, &self.source)?;
-        for n in 0..step {
-            machine = machine.step(n, &self.timeline, &mut NoTouches, &mut self.work)?;
-        }
+        let machine = replayed(
+            self.alloc,
+            &self.source,
+            &self.timeline,
+            step,
+            &mut self.work,
+        )?;
         Ok(machine)
     }
 }

@@ -2,9 +2,9 @@ use Rattle.std.proofs.Common.{◌≡◌, ◌≤◌}
 use Rattle.sv8_time.specs.Schedule.{bytes_below}
 use Rattle.sv8_cpu.specs.State.{reset_state}
 use Rattle.sv8_cpu.specs.Run.{steps}
-use Rattle.sv8_bench.proofs.bench.Bench.machine_at.Given as goal
+use Rattle.sv8_bench.proofs.bench.replayed.Given as goal
 
 abbrev pub invariant-loop-n : goal.invariant-loop-n
 invariant-loop-n g l =
-    (l.machine ≡ steps g.row.NW g.row.PAGES l.self.timeline l.n (reset_state g.row.NW g.row.PAGES l.self.source))
-    × (l.machine.memory.taken ≤ bytes_below l.n l.self.timeline.inputs)
+    (l.machine ≡ steps g.row.NW g.row.PAGES l.timeline l.n (reset_state g.row.NW g.row.PAGES l.source))
+    × (l.machine.memory.taken ≤ bytes_below l.n l.timeline.inputs)
