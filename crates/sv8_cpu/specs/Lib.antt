@@ -14,3 +14,4 @@ pub mod Run
 pub mod Loading
 pub mod Work
 pub mod View
+pub mod Examples

@@ -4,6 +4,7 @@
 mod access;
 mod events;
 mod instruction;
+mod laws;
 mod loading;
 mod machine;
 mod memory;
@@ -11,6 +12,7 @@ mod mmu;
 mod readers;
 mod work;
 
+pub use laws::{worked_steps, worked_traps};
 pub use machine::Machine;
 pub use mmu::{Fault, MmuRegisters};
 pub use work::Work;

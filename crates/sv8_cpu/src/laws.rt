@@ -1,0 +1,41 @@
+//! Laws of the definitions, each a function that does nothing and whose contract is the law.
+
+ghost use Rattle.std.specs.Prelude.{◌≡◌, true, false};
+ghost use Rattle.sv8_regs.specs.Control.{packed_psr};
+ghost use Rattle.sv8_regs.specs.Ring.{read};
+ghost use Rattle.sv8_cpu.specs.Examples.{counting, spinning, tagging, returning, run};
+
+/// The steps of small programs, computed from the definition of a step.
+///
+/// - `branch`: after `mov 5, %g1`, `add %g1, 1, %g2` and `ba 0` PC is 12, that of the slot.
+/// - `target`: nPC is then 0.
+/// - `sum`: and register 2 is 6.
+/// - `annulled`: after `ba,a 0` at address 0 the slot at address 4 is annulled.
+/// - `skipped`: the slot is passed over, and PC is 0 again.
+pub fn worked_steps()
+    ensures branch { (run 2 16 counting 3).inner.processor.pc ≡ 12 }
+    ensures target { (run 2 16 counting 3).inner.processor.npc ≡ 0 }
+    ensures sum { read 2 (run 2 16 counting 3).inner.processor.registers 2 ≡ 6 }
+    ensures annulled { (run 2 8 spinning 1).inner.processor.annul ≡ true }
+    ensures skipped { (run 2 8 spinning 2).inner.processor.pc ≡ 0 }
+{}
+
+/// Traps of small programs on eight windows, computed from the definition of a step (the numbers are hexadecimal).
+///
+/// - `tag_handler`: after `wr %g0, 0xa0, %psr`, `mov 2, %g1` and `taddcctv %g1, 4, %g2` the handler of tag_overflow at A0 is next.
+/// - `tag_state`: the PSR is C7: supervisor mode with PS = 1, traps off, window 7.
+/// - `tag_pc` and `tag_npc`: locals 1 and 2 of that window are 8 and C.
+/// - `returned`: after `rett 0x20` just after reset nPC is 20.
+/// - `user_state`: the PSR is 21: user mode, traps on, window 1.
+/// - `trap_handler`: the handler of `ta 0` behind it is at 800.
+/// - `trap_state`: and the PSR is 80 again, in window 0.
+pub fn worked_traps()
+    ensures tag_handler { (run 8 12 tagging 3).inner.processor.pc ≡ 0xa0 }
+    ensures tag_state { packed_psr (run 8 12 tagging 3).inner.processor.registers.psr (run 8 12 tagging 3).inner.processor.registers.cwp ≡ 0xc7 }
+    ensures tag_pc { read 8 (run 8 12 tagging 3).inner.processor.registers 17 ≡ 8 }
+    ensures tag_npc { read 8 (run 8 12 tagging 3).inner.processor.registers 18 ≡ 0xc }
+    ensures returned { (run 8 8 returning 1).inner.processor.npc ≡ 0x20 }
+    ensures user_state { packed_psr (run 8 8 returning 1).inner.processor.registers.psr (run 8 8 returning 1).inner.processor.registers.cwp ≡ 0x21 }
+    ensures trap_handler { (run 8 8 returning 2).inner.processor.pc ≡ 0x800 }
+    ensures trap_state { packed_psr (run 8 8 returning 2).inner.processor.registers.psr (run 8 8 returning 2).inner.processor.registers.cwp ≡ 0x80 }
+{}
