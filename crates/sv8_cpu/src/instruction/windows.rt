@@ -14,8 +14,8 @@ use sv8_trap::{Processor, Trap};
 pub fn save_trap<const NW: usize>(p: &Processor<NW>) -> Option<Trap>
     ensures { result ≡ taken (save_traps NW p.now) }
 {
-    let window = p.registers().window_below();
-    if p.registers().is_invalid(window) {
+    let window_of_save = p.registers().window_below();
+    if p.registers().is_invalid(window_of_save) {
         Some(Trap::WindowOverflow)
     } else {
         None
