@@ -3,3 +3,4 @@ pub mod Gathering
 pub mod Marks
 pub mod Sizes
 pub mod Decodes
+pub mod UsedNames

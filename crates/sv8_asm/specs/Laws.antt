@@ -1,5 +1,5 @@
 -- What is true of every statement, and of a line's text.
-use Rattle.std.specs.Prelude.{◌≡◌, ℕ, ◌≤◌, List, length, flat_map, Result, Ok, Err, IsOk}
+use Rattle.std.specs.Prelude.{◌≡◌, ℕ, ◌≤◌, true, List, length, flat_map, Result, Ok, Err, IsOk}
 use Rattle.std.specs.List.{AllZip}
 use Rattle.std.specs.Result.{result_unwrap_or}
 use Rattle.std.specs.Int.{w32, to_be_bytes}
@@ -8,7 +8,8 @@ use Rattle.sv8_isa.specs.declared.instr.Instr.{Instr}
 use Rattle.sv8_syntax.specs.declared.fault.LineFault.{LineFault}
 use Rattle.sv8_syntax.specs.declared.statement.Stmt.{Stmt}
 use Rattle.sv8_syntax.specs.Reading.{reading}
-use Rattle.sv8_asm.specs.Names.{Names}
+use Rattle.sv8_asm.specs.Names.{Names, get}
+use Rattle.sv8_asm.specs.Uses.{uses, agree}
 use Rattle.sv8_asm.specs.Size.{size}
 use Rattle.sv8_asm.specs.Code.{bytes as line_code, instruction_bytes}
 
@@ -42,3 +43,15 @@ pub record AreWordsOf (is : List Instr) (b : List ℕ) : Type 0 where
 -- what is placed for instructions are words of those instructions
 abbrev pub InstructionsDecode : Type 0
 InstructionsDecode = (is : List Instr) (b : List ℕ) → instruction_bytes is ≡ Ok b → AreWordsOf is b
+
+-- where two tables, each asked in a line, agree on all names that a statement uses, it places the same bytes or has the same fault
+abbrev pub UsedNamesDecide : Type 0
+UsedNamesDecide =
+    (s : Stmt) (at line other : ℕ) (names others : Names) → ((name : List ℕ) → uses s name ≡ true → get names name line ≡ get others name other)
+    → line_code s line at names ≡ line_code s other at others
+
+-- two tables that agree as `agree` finds it do so on all names that the statement uses
+abbrev pub AgreeingNamesDecide : Type 0
+AgreeingNamesDecide =
+    (s : Stmt) (line other : ℕ) (names others : Names) → agree s names line others other ≡ true
+    → ((name : List ℕ) → uses s name ≡ true → get names name line ≡ get others name other) × ((at : ℕ) → line_code s line at names ≡ line_code s other at others)

@@ -14,10 +14,10 @@ mod size;
 mod symbols;
 #[cfg(test)]
 mod tests;
-mod uses;
+mod used;
 mod value;
 
 pub use code::assemble;
 pub use size::{constant, size_of};
 pub use symbols::Symbols;
-pub use uses::{agree, exprs, uses};
+pub use used::{agree, exprs, uses};
