@@ -85,19 +85,20 @@ laid_spaced limit n (text ∷ texts) l done sp h = go (λ next s k. laid_spaced 
 -- ---- both passes
 
 -- what the passes made of a source
-record Made (s : Text) (a : Assembly) : Type 0 where
+pub record Made (s : Text) (a : Assembly) : Type 0 where
   pub spaced : Spaced 0 a.layout.places a.layout.at
   pub texts : place_texts a.layout.places ≡ s.lines
+  pub laid : laid s.limit 1 s.lines start ≡ Ok a.layout
   pub coded : valued a.layout.symbols 1 a.layout.places [] ≡ Ok a.code
 
-made_of : (s : Text) (a : Assembly) → assembled s ≡ Ok a → Made s a
+pub made_of : (s : Text) (a : Assembly) → assembled s ≡ Ok a → Made s a
 unfolding assembled
 made_of s a h = go (laid s.limit 1 s.lines start) refl h where
   coded : (l : Layout) (r : Result (List (List ℕ)) SourceFault) → valued l.symbols 1 l.places [] ≡ r → laid s.limit 1 s.lines start ≡ Ok l → with_layout l r ≡ Ok a → Made s a
   coded l (Err e) f g k = absurd (cc)
   coded l (Ok code) f g k =
       let e : record { layout = l; code = code } ≡ a = cc in
-      rw (← e) (record { spaced = laid_spaced s.limit 1 s.lines start l (omega arith) g; texts = laid-texts s.limit 1 s.lines start l g; coded = f })
+      rw (← e) (record { spaced = laid_spaced s.limit 1 s.lines start l (omega arith) g; texts = laid-texts s.limit 1 s.lines start l g; laid = g; coded = f })
 
   go : (r : Result Layout SourceFault) → laid s.limit 1 s.lines start ≡ r → both_passes r ≡ Ok a → Made s a
   go (Err e) g k = absurd (cc)
@@ -124,3 +125,15 @@ lines_rise s = go (assembled s) refl where
   go : (r : Result Assembly SourceFault) → assembled s ≡ r → Rising 0 (listing_of r)
   go (Err e) f = tt
   go (Ok a) f = let m = made_of s a f in code_rises a.layout.symbols a.layout.places a.code a.layout.at m.coded m.spaced
+
+-- what is made of a source rises, with bytes for each line
+pub sound : (s : Text) (a : Assembly) → assembled s ≡ Ok a → Rising 0 (shown_all a) × (length a.code ≡ length a.layout.places)
+sound s a h =
+    let m = made_of s a h in
+    (code_rises a.layout.symbols a.layout.places a.code a.layout.at m.coded m.spaced, code_length a.layout.symbols a.layout.places a.code a.layout.at m.coded m.spaced)
+
+-- what both passes give is what is made
+pub both_made : (limit : ℕ) (lines : List (List ℕ)) (l : Layout) (code : List (List ℕ)) → laid limit 1 lines start ≡ Ok l → valued l.symbols 1 l.places [] ≡ Ok code
+    → assembled (record { limit = limit; lines = lines }) ≡ Ok (record { layout = l; code = code })
+unfolding assembled
+both_made limit lines l code h g = ap both_passes h ∙ ap (with_layout l) g

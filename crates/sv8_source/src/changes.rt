@@ -5,7 +5,7 @@
 
 ghost use Rattle.std.specs.Prelude.{◌≡◌, ◌-◌, ◌*◌, ◌^◌, ◌≤◌, ◌<◌, ◌++◌, IfOk, OnOk};
 ghost use Rattle.sv8_source.specs.Listing.{shown_all};
-ghost use Rattle.sv8_source.specs.Image.{changed, words};
+ghost use Rattle.sv8_source.specs.Image.{changed};
 
 use crate::assembled::Assembled;
 use crate::image::Change;
@@ -47,21 +47,23 @@ fn push_changed(
     Ok(())
 }
 
-/// The words that differ in an image of this size, in rising address.
+/// The words that differ of those from number `first` up to `end`, in rising address.
 #[tactic(auto, using(crate::proofs::Changed::changed_more, crate::proofs::Changed::changed_all))]
 pub fn changes_between(
     alloc: Global,
     old: &Assembled,
     new: &Assembled,
-    limit: u32,
+    first: u64,
+    end: u64,
 ) -> Result<Vec<Change>, AllocError>
-    ensures { IfOk result (λ v. v.items ≡ changed (shown_all old.now) (shown_all new.now) 0 (words limit)) }
+    requires up { first ≤ end }
+    requires small { end ≤ 2 ^ 30 }
+    ensures { IfOk result (λ v. v.items ≡ changed (shown_all old.now) (shown_all new.now) first (end - first)) }
 {
-    let count = (u64::from(limit) + 3) / 4;
     let mut changes = Vec::new(alloc);
-    let mut word = 0;
-    while word < count {
-        let next = next_word(old, new, word, count);
+    let mut word = first;
+    while word < end {
+        let next = next_word(old, new, word, end);
         if word < next {
             word = next;
         } else {

@@ -1,10 +1,11 @@
 //! Lines with their places and their code, by number from 0 on and by address.
 
 ghost use Rattle.std.specs.Prelude.{◌≡◌, ◌-◌, ◌≤◌, ◌<◌, length, Some, None, option_map, slice_get, slice_index};
-ghost use Rattle.sv8_source.specs.Text.{texts};
+ghost use Rattle.sv8_source.specs.Kept.{code_bytes};
 ghost use Rattle.sv8_source.specs.Layout.{Place};
 
 use crate::laid::Placed;
+use std::rc::Rc;
 
 pub fn place_in(places: &[Placed], index: usize) -> &Placed
     requires { index < length places.now }
@@ -13,9 +14,9 @@ pub fn place_in(places: &[Placed], index: usize) -> &Placed
     &places[index]
 }
 
-pub fn bytes_in(code: &[Vec<u8>], index: usize) -> &[u8]
+pub fn bytes_in(code: &[Rc<Vec<u8>>], index: usize) -> &[u8]
     requires { index < length code.now }
-    ensures { slice_get (texts code.now) index ≡ Some result.now }
+    ensures { slice_get (code_bytes code.now) index ≡ Some result.now }
 {
     let bytes = &code[index];
     bytes.as_slice()
@@ -30,8 +31,8 @@ pub fn place_at(places: &[Placed], index: usize) -> Option<&Placed>
     }
 }
 
-pub fn bytes_at(code: &[Vec<u8>], index: usize) -> Option<&[u8]>
-    ensures { option_map (λ b. b.now) result ≡ slice_get (texts code.now) index }
+pub fn bytes_at(code: &[Rc<Vec<u8>>], index: usize) -> Option<&[u8]>
+    ensures { option_map (λ b. b.now) result ≡ slice_get (code_bytes code.now) index }
 {
     match code.get(index) {
         Some(bytes) => Some(bytes.as_slice()),
