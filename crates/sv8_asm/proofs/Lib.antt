@@ -1,6 +1,6 @@
 pub mod Keys
 pub mod Gathering
-pub mod Marks
 pub mod Sizes
 pub mod Decodes
 pub mod UsedNames
+pub mod InOrder

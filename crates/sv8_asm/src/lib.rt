@@ -9,6 +9,7 @@
 mod code;
 mod instruction;
 pub mod laws;
+mod marks;
 mod operand;
 mod size;
 mod symbols;

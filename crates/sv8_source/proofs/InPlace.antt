@@ -143,17 +143,17 @@ one_of limit (p0 ∷ ps) (suc i) p q e h s = (itself limit p0 h.0, one_of limit 
 
 -- ---- the value pass
 
-abbrev Coded : Names → ℕ → List Place → List (List ℕ) → Type 0
+abbrev pub Coded : Names → ℕ → List Place → List (List ℕ) → Type 0
 Coded names n [] [] = Unit {0}
 Coded names n (p ∷ ps) (c ∷ cs) = (bytes p.stmt n p.at names ≡ Ok c) × Coded names (n + 1) ps cs
 Coded names n _ _ = ⊥
 
-record Code (names : Names) (n : ℕ) (ps : List Place) (done code : List (List ℕ)) : Type 0 where
-  rest : List (List ℕ)
-  joined : code ≡ done ++ rest
-  coded : Coded names n ps rest
+pub record Code (names : Names) (n : ℕ) (ps : List Place) (done code : List (List ℕ)) : Type 0 where
+  pub rest : List (List ℕ)
+  pub joined : code ≡ done ++ rest
+  pub coded : Coded names n ps rest
 
-coded_of : (names : Names) (n : ℕ) (ps : List Place) (done code : List (List ℕ)) → valued names n ps done ≡ Ok code → Code names n ps done code
+pub coded_of : (names : Names) (n : ℕ) (ps : List Place) (done code : List (List ℕ)) → valued names n ps done ≡ Ok code → Code names n ps done code
 coded_of names n [] done code h = let e : done ≡ code = cc in record { rest = []; joined = sym e ∙ sym (append-nil done); coded = tt }
 coded_of names n (p ∷ ps) done code h = go (λ b. coded_of names (n + 1) ps (done ++ b ∷ []) code) (bytes p.stmt n p.at names) refl h
   where

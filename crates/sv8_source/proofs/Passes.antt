@@ -60,3 +60,6 @@ pub few : {A : Type 0} (first last limit : ℕ) (lines : List (Vec ℕ A)) (ps :
 few first last limit lines ps a h r room =
     let t = made_texts (record { limit = limit; lines = replaced_lines first last (texts lines) (place_texts ps) }) a h in
     omega (arith, room, replaced_count first last (texts lines) ps a.layout.places t r, length-map lines vec_items)
+
+pub made_code : (limit : ℕ) (lines : List (List ℕ)) (a : Assembly) → assembled (record { limit = limit; lines = lines }) ≡ Ok a → valued a.layout.symbols 1 a.layout.places [] ≡ Ok a.code
+made_code limit lines a h = (made_of (record { limit = limit; lines = lines }) a h).coded

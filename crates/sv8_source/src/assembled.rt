@@ -10,9 +10,10 @@ ghost use Rattle.sv8_source.specs.View.{shown_of};
 ghost use Rattle.sv8_source.specs.Image.{byte_at, word_at};
 
 use crate::contents::contents;
-use crate::laid::{Placed, push_bytes};
+use crate::laid::Placed;
 use crate::places::{byte_in, bytes_at, bytes_in, lines_up_to, place_at, place_in, start_of};
 use crate::source::Listed;
+use crate::valued::push_bytes;
 use std::alloc::{AllocError, Global};
 use std::marker::Model;
 use std::rc::Rc;

@@ -16,6 +16,7 @@ use crate::fault::SourceFault;
 use crate::laid::{Laid, Placed, moved};
 use crate::places::{bytes_in, place_in};
 use crate::reading::ReadLine;
+use crate::valued::Behind;
 use std::alloc::{AllocError, Global};
 use std::rc::Rc;
 use sv8_asm::{Symbols, assemble, size_of};
@@ -240,19 +241,27 @@ fn relaid(
 }
 
 /// The value pass over lines that were laid.
-fn coded(alloc: Global, laid: Laid) -> Result<Assembled, SourceFault>
-    requires { length laid.places ≤ 65536 }
+fn coded(
+    alloc: Global,
+    laid: Laid,
+    old: &Assembled,
+    behind: Behind,
+) -> Result<Assembled, SourceFault>
+    requires many { length laid.places ≤ 65536 }
+    requires few { length old.now.layout.places ≤ 65536 }
+    requires old { valued old.now.layout.symbols 1 old.now.layout.places [] ≡ Ok old.now.code }
     ensures layout { IfOk result (λ a. a.layout ≡ laid) }
     ensures code { MatchResult result (λ a. valued laid.symbols 1 laid.places [] ≡ Ok a.code)
         (λ e. (e ≡ SourceFault.OutOfMemory) ⊎ (valued laid.symbols 1 laid.places [] ≡ Err e)) }
 {
-    let code = laid.code(alloc)?;
+    let code = laid.code(alloc, old, behind)?;
     let (places, symbols, at) = laid.into_parts();
     let symbols = Rc::new(alloc, symbols).map_err(AllocError::from)?;
     Ok(Assembled::from_parts(places, symbols, at, code))
 }
 
-/// What the two passes make of such lines.
+/// What the two passes make of such lines. Bytes of the lines of `old`, whose first and last lines `front` and `back` are, are
+/// kept where they are the same.
 #[tactic(auto, using(crate::proofs::Passes::passed, crate::proofs::Passes::laid_count))]
 fn reassembled(
     alloc: Global,
@@ -260,8 +269,11 @@ fn reassembled(
     front: &[Placed],
     lines: &[Vec<u8>],
     back: &[Placed],
+    old: &Assembled,
 ) -> Result<Assembled, SourceFault>
-    requires { length front.now + length lines.now + length back.now ≤ 65536 }
+    requires few { length old.now.layout.places ≤ 65536 }
+    requires old { valued old.now.layout.symbols 1 old.now.layout.places [] ≡ Ok old.now.code }
+    requires room { length front.now + length lines.now + length back.now ≤ 65536 }
     ensures { MatchResult result (λ a. assembled (record { limit = limit; lines = place_texts front.now ++ texts lines.now ++ place_texts back.now }) ≡ Ok a)
         (λ e. (e ≡ SourceFault.OutOfMemory) ⊎ (assembled (record { limit = limit; lines = place_texts front.now ++ texts lines.now ++ place_texts back.now }) ≡ Err e)) }
 {
@@ -269,14 +281,19 @@ fn reassembled(
         Ok(laid) => laid,
         Err(fault) => return Err(fault),
     };
-    match coded(alloc, laid) {
+    let behind = Behind {
+        index: front.len() + lines.len(),
+        was: old.places().len().saturating_sub(back.len()),
+    };
+    match coded(alloc, laid, old, behind) {
         Ok(parts) => Ok(parts),
         Err(fault) => Err(fault),
     }
 }
 
-/// Any edit: all lines are laid again.
-#[tactic(auto, using(crate::proofs::Kept::replaced_places, crate::proofs::EditedWords::all_within))]
+/// Any edit: all lines are laid again, as they were read, and those are assembled again whose location changed or which use a
+/// name whose value changed.
+#[tactic(auto, using(crate::proofs::Kept::replaced_places, crate::proofs::Passes::made_code, crate::proofs::EditedWords::all_within))]
 fn again(
     old: &Assembled,
     alloc: Global,
@@ -285,6 +302,8 @@ fn again(
     last: u32,
     lines: &[Vec<u8>],
 ) -> Result<Edited, SourceFault>
+    requires made { assembled (record { limit = limit; lines = place_texts old.now.layout.places }) ≡ Ok old.now }
+    requires many { length old.now.layout.places ≤ 65536 }
     requires range { is_range first last (length old.now.layout.places) ≡ true }
     requires room { (first - 1) + length lines.now + (length old.now.layout.places - last) ≤ 65536 }
     ensures made { MatchResult result (λ e. assembled (record { limit = limit; lines = replaced_lines first last (texts lines.now) (place_texts old.now.layout.places) }) ≡ Ok e.parts)
@@ -293,7 +312,7 @@ fn again(
 {
     let (front, _) = old.places().split_at(first as usize - 1);
     let (_, back) = old.places().split_at(last as usize);
-    let parts = reassembled(alloc, limit, front, lines, back)?;
+    let parts = reassembled(alloc, limit, front, lines, back, old)?;
     Ok(Edited {
         parts,
         first: 0,

@@ -3,23 +3,24 @@
 //! The layout pass reads each line, gives its names their values and finds the location of each line. The value pass
 //! then assembles each line, now that all names are known, so that a line may use a name that a later one defines.
 
-ghost use Rattle.std.specs.Prelude.{◌≡◌, ℕ, ℤ, ◌+◌, ◌-◌, ◌^◌, ◌<◌, ◌⊎◌, List, [], ◌++◌, ◌∷◌, IsOk, IfSome, IfOk, OnOk, MatchResult, Ok, Err, vec_items, length, pos, map, All};
+ghost use Rattle.std.specs.Prelude.{◌≡◌, ℕ, ℤ, ◌+◌, ◌-◌, ◌^◌, ◌<◌, ◌≤◌, ◌⊎◌, List, [], ◌++◌, ◌∷◌, IsOk, IfSome, IfOk, OnOk, MatchResult, Ok, Err, vec_items, length, pos, map, All};
 ghost use Rattle.sv8_syntax.specs.Names.{IsLabel, Defines};
 ghost use Rattle.sv8_syntax.specs.Reading.{reading};
 ghost use Rattle.sv8_asm.specs.Size.{size};
-ghost use Rattle.sv8_asm.specs.Code.{bytes};
 ghost use Rattle.sv8_source.specs.Layout.{define, define_label, define_equ, moved, admitted, with_stmt, with_line, laid, valued, start, HasSize};
 ghost use Rattle.sv8_source.specs.Edits.{Sound};
 ghost use Rattle.sv8_source.specs.Kept.{code_bytes};
 ghost use Rattle.sv8_source.specs.Spaced.{Spaced, next_at};
 ghost use Rattle.sv8_source.specs.Text.{texts, place_texts};
 
+use crate::assembled::Assembled;
 use crate::fault::{SourceFault, in_line};
 use crate::reading::ReadLine;
+use crate::valued::{Behind, code_of};
 use std::alloc::{AllocError, Global};
 use std::marker::Model;
 use std::rc::Rc;
-use sv8_asm::{Symbols, assemble, constant, size_of};
+use sv8_asm::{Symbols, constant, size_of};
 use sv8_syntax::{Label, LineFault, Name, Statement, Stmt};
 
 /// A line as it was read, and the location before its statement. The line is shared by all sources that have it.
@@ -189,42 +190,6 @@ fn admit(
     Ok(next)
 }
 
-/// Puts a line's bytes behind those of others.
-pub(crate) fn push_bytes(
-    alloc: Global,
-    code: &mut Vec<Rc<Vec<u8>>>,
-    bytes: Vec<u8>,
-) -> Result<(), AllocError>
-    ensures { OnOk result (code_bytes code.new.items ≡ code_bytes code.old.items ++ bytes.items ∷ []) }
-{
-    let bytes = Rc::new(alloc, bytes)?;
-    code.push(bytes)?;
-    Ok(())
-}
-
-/// The value pass over these lines.
-fn code_of(
-    alloc: Global,
-    places: &[Placed],
-    symbols: &Symbols,
-) -> Result<Vec<Rc<Vec<u8>>>, SourceFault>
-    requires many { length places.now < 2 ^ 32 - 1 }
-    requires sized { All HasSize places.now }
-    ensures { MatchResult result (λ code. valued symbols.now 1 places.now [] ≡ Ok (code_bytes code.items))
-        (λ e. (e ≡ SourceFault.OutOfMemory) ⊎ (valued symbols.now 1 places.now [] ≡ Err e)) }
-{
-    let mut code = Vec::new(alloc);
-    let mut number = 1;
-    for place in places {
-        match assemble(alloc, place.stmt(), number, place.at, symbols) {
-            Ok(bytes) => push_bytes(alloc, &mut code, bytes)?,
-            Err(fault) => return Err(in_line(number, fault)),
-        }
-        number += 1;
-    }
-    Ok(code)
-}
-
 impl Laid {
     pub fn new(alloc: Global) -> Laid
         ensures { result ≡ start }
@@ -344,15 +309,22 @@ impl Laid {
         Ok(())
     }
 
-    /// The value pass: the bytes of each line.
+    /// The value pass: the bytes of each line. Those of `old` are kept where they are the same.
     #[tactic(auto, using(crate::proofs::RisingCode::code_rises, crate::proofs::RisingCode::code_length))]
-    pub fn code(&self, alloc: Global) -> Result<Vec<Rc<Vec<u8>>>, SourceFault>
-        requires { length self.now.places < 2 ^ 32 - 1 }
+    pub fn code(
+        &self,
+        alloc: Global,
+        old: &Assembled,
+        behind: Behind,
+    ) -> Result<Vec<Rc<Vec<u8>>>, SourceFault>
+        requires many { length self.now.places < 2 ^ 32 - 1 }
+        requires few { length old.now.layout.places ≤ 65536 }
+        requires old { valued old.now.layout.symbols 1 old.now.layout.places [] ≡ Ok old.now.code }
         ensures sound { IfOk result (λ code. Sound (record { layout = self.now; code = code_bytes code.items })) }
         ensures value { MatchResult result (λ code. valued self.now.symbols 1 self.now.places [] ≡ Ok (code_bytes code.items))
             (λ e. (e ≡ SourceFault.OutOfMemory) ⊎ (valued self.now.symbols 1 self.now.places [] ≡ Err e)) }
     {
-        let code = code_of(alloc, &self.places, &self.symbols)?;
+        let code = code_of(alloc, &self.places, &self.symbols, old, behind)?;
         Ok(code)
     }
 

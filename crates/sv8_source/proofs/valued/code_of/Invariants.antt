@@ -1,7 +1,7 @@
 use Rattle.std.proofs.Common.{◌≡◌, ◌+◌, drop, []}
 use Rattle.sv8_source.specs.Layout.{valued}
 use Rattle.sv8_source.specs.Kept.{code_bytes}
-use Rattle.sv8_source.proofs.laid.code_of.Given as goal
+use Rattle.sv8_source.proofs.valued.code_of.Given as goal
 
 abbrev pub invariant-loop-place : goal.invariant-loop-place
 invariant-loop-place l = record {

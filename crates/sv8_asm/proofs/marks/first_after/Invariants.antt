@@ -1,7 +1,7 @@
 use Rattle.std.proofs.Common.{◌≡◌, length, map, None}
 use Rattle.sv8_asm.specs.Names.{first_behind}
 use Rattle.sv8_asm.specs.Index.{mark_of}
-use Rattle.sv8_asm.proofs.symbols.first_behind.Given as goal
+use Rattle.sv8_asm.proofs.marks.first_after.Given as goal
 
 abbrev pub invariant-loop-rest : goal.invariant-loop-rest
 invariant-loop-rest l = first_behind l.line (map mark_of l.rest) ≡ first_behind l.line (map mark_of l.labels)

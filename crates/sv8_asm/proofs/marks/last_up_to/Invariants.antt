@@ -1,7 +1,7 @@
 use Rattle.std.proofs.Common.{◌≡◌, length, map, None}
 use Rattle.sv8_asm.specs.Names.{last_of}
 use Rattle.sv8_asm.specs.Index.{mark_of}
-use Rattle.sv8_asm.proofs.symbols.last_up_to.Given as goal
+use Rattle.sv8_asm.proofs.marks.last_up_to.Given as goal
 
 abbrev pub invariant-loop-rest : goal.invariant-loop-rest
 invariant-loop-rest l = last_of l.found l.line (map mark_of l.rest) ≡ last_of None l.line (map mark_of l.labels)
