@@ -4,3 +4,4 @@ pub mod Sizes
 pub mod Decodes
 pub mod UsedNames
 pub mod InOrder
+pub mod Encodes

@@ -1,17 +1,20 @@
 -- What is true of every statement, and of a line's text.
 use Rattle.std.specs.Prelude.{◌≡◌, ℕ, ◌≤◌, true, List, length, flat_map, Result, Ok, Err, IsOk}
-use Rattle.std.specs.List.{AllZip}
+use Rattle.std.specs.List.{AllZip, list_all}
+use Rattle.std.specs.Option.{is_some}
 use Rattle.std.specs.Result.{result_unwrap_or}
 use Rattle.std.specs.Int.{w32, to_be_bytes}
+use Rattle.sv8_isa.specs.Encoding.{encoding}
 use Rattle.sv8_isa.specs.Table.{meaning}
 use Rattle.sv8_isa.specs.declared.instr.Instr.{Instr}
 use Rattle.sv8_syntax.specs.declared.fault.LineFault.{LineFault}
+use Rattle.sv8_syntax.specs.declared.statement.Statement.{Statement}
 use Rattle.sv8_syntax.specs.declared.statement.Stmt.{Stmt}
 use Rattle.sv8_syntax.specs.Reading.{reading}
 use Rattle.sv8_asm.specs.Names.{Names, get}
 use Rattle.sv8_asm.specs.Uses.{uses, agree}
 use Rattle.sv8_asm.specs.Size.{size}
-use Rattle.sv8_asm.specs.Code.{bytes as line_code, instruction_bytes}
+use Rattle.sv8_asm.specs.Code.{bytes as line_code, instruction_bytes, instructions_of, statement_bytes}
 
 -- what a statement places does not reach beyond the location behind it
 abbrev pub BytesFitSize : Type 0
@@ -55,3 +58,9 @@ abbrev pub AgreeingNamesDecide : Type 0
 AgreeingNamesDecide =
     (s : Stmt) (line other : ℕ) (names others : Names) → agree s names line others other ≡ true
     → ((name : List ℕ) → uses s name ≡ true → get names name line ≡ get others name other) × ((at : ℕ) → line_code s line at names ≡ line_code s other at others)
+
+-- each instruction that a statement without a fault stands for has a word
+abbrev pub InstructionsEncode : Type 0
+InstructionsEncode =
+    (s : Statement) (line at : ℕ) (names : Names) (b : List ℕ) (is : List Instr) → statement_bytes s line at names ≡ Ok b → instructions_of names line at s ≡ Ok is
+    → list_all (λ i. is_some (encoding i)) is ≡ true

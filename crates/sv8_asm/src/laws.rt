@@ -2,7 +2,7 @@
 
 ghost use Rattle.std.specs.Prelude.{◌≡◌, Ok, Err, codes, pos, [], ◌∷◌};
 ghost use Rattle.sv8_syntax.specs.declared.fault.LineFault.TheVariants.{UnknownName, OutOfRange, BadAlignment, OrgBackwards};
-ghost use Rattle.sv8_asm.specs.Laws.{BytesFitSize, InstructionsDecode, UsedNamesDecide, AgreeingNamesDecide, line_bytes, line_size};
+ghost use Rattle.sv8_asm.specs.Laws.{BytesFitSize, InstructionsDecode, InstructionsEncode, UsedNamesDecide, AgreeingNamesDecide, line_bytes, line_size};
 ghost use Rattle.sv8_asm.specs.Names.{no_names, with_name, with_mark};
 
 /// What a statement places does not reach beyond the location behind it.
@@ -13,6 +13,12 @@ pub fn bytes_fit_size()
 /// The words that are placed for instructions stand for those instructions.
 pub fn instructions_decode()
     ensures { InstructionsDecode }
+{}
+
+/// What the assembler makes of a statement encodes: where a statement has no fault in the value pass, each instruction that it
+/// stands for has a word.
+pub fn instructions_encode()
+    ensures { InstructionsEncode }
 {}
 
 /// What a statement places at a location rests on the names that it uses: where two tables, each asked in a line of its own, give
