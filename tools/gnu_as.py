@@ -24,10 +24,10 @@ CONDITIONS = "a n ne nz e z g le ge l gu leu cc geu cs lu pos neg vc vs".split()
 ADDRESSES = ["%g1", "%g1+%o2", "%fp-8", "%sp+96", "%l3-4096", "%i4+4095", "16", "%r17+%lo(0x12345678)"]
 SPECIAL = "%y %psr %wim %tbr".split()
 
-# What the program encodes otherwise on purpose: it writes `tst a` as `orcc %g0, a, %g0`, and `set` of a plain number is one
-# instruction where 13 bits hold the number or its low 10 bits are 0.
+# What the program encodes otherwise on purpose: `tst a` is `orcc %g0, a, %g0`, and `btst c, a` is `andcc a, c, %g0`.
 ON_PURPOSE = {
     "tst %l5": "80900015",
+    "btst %o2, %g1": "8088400a",
 }
 
 

@@ -11,7 +11,7 @@ ghost use Rattle.sv8_source.specs.Image.{byte_at, word_at};
 
 use crate::contents::contents;
 use crate::laid::Placed;
-use crate::places::{byte_in, bytes_at, bytes_in, lines_up_to, place_at, place_in, start_of};
+use crate::places::{byte_in, bytes_at, bytes_in, lines_near, place_at, place_in, start_of};
 use crate::source::Listed;
 use crate::valued::push_bytes;
 use std::alloc::{AllocError, Global};
@@ -241,14 +241,20 @@ impl Assembled {
         }
     }
 
+    /// How many lines begin at or below an address. Where that is `near`, or one more, it is found at once; it is a hint for the
+    /// calls below, which answer the same whatever they are given.
+    pub fn lines_near(&self, near: usize, address: u64) -> usize {
+        lines_near(&self.places, near, address)
+    }
+
     /// The image's byte at an address.
     #[tactic(auto, using(crate::proofs::ReadImage::no_line, crate::proofs::ReadImage::last_line))]
-    fn byte(&self, address: u64) -> u8
+    fn byte(&self, near: usize, address: u64) -> u8
         ensures { result ≡ byte_at (shown self.now.layout.places self.now.code) address }
     {
         let places = self.places();
         let _code = &self.code;
-        let count = lines_up_to(places, address);
+        let count = lines_near(places, near, address);
         if count == 0 {
             return 0;
         }
@@ -259,28 +265,28 @@ impl Assembled {
 
     /// The image's word at an address.
     #[tactic(auto, unfolding(crate::specs::Image::word_at))]
-    pub fn word(&self, address: u64) -> u32
+    pub fn word(&self, near: usize, address: u64) -> u32
         requires { address + 3 < 2 ^ 64 }
         ensures { result ≡ word_at (shown self.now.layout.places self.now.code) address }
     {
         let bytes = [
-            self.byte(address),
-            self.byte(address + 1),
-            self.byte(address + 2),
-            self.byte(address + 3),
+            self.byte(near, address),
+            self.byte(near, address + 1),
+            self.byte(near, address + 2),
+            self.byte(near, address + 3),
         ];
         u32::from_be_bytes(bytes)
     }
 
     /// An address up to which, from this one on, no byte is placed: this one itself, or where the next line begins.
     #[tactic(auto, using(crate::proofs::ReadImage::none_before, crate::proofs::ReadImage::none_between))]
-    pub fn next_byte(&self, address: u64) -> u64
+    pub fn next_byte(&self, near: usize, address: u64) -> u64
         ensures up { address ≤ result }
         ensures none { (a : ℕ) → address ≤ a → a < result → byte_at (shown self.now.layout.places self.now.code) a ≡ 0 }
     {
         let places = self.places();
         let _code = &self.code;
-        let count = lines_up_to(places, address);
+        let count = lines_near(places, near, address);
         if count == 0 {
             let first = start_of(places, 0);
             return first;

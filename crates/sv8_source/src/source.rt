@@ -243,6 +243,8 @@ impl Source {
     pub fn image_word(&self, address: u32) -> u32
         ensures { result ≡ image_word self.now address }
     {
-        self.parts.word(u64::from(address))
+        let address = u64::from(address);
+        let near = self.parts.lines_near(0, address);
+        self.parts.word(near, address)
     }
 }

@@ -17,11 +17,11 @@ returns-then-count-eq0-clause-none c =
 pub returns-clause-none : goal.returns-clause-none
 returns-clause-none c =
     let k : c.places-places.result.now ≡ c.self.inside.places.items = c.places-places.ensures.value ∙ ap (λ (a : Assembly). a.layout.places) (sym c.self.view_is) in
-    rw (← c.self.view_is) (none_between c.self.inside.places.items (code_bytes c.self.inside.code.items) c.lines_up_to-count.result c.start_of-next.result c.place_in-place.result.now c.bytes_in-bytes.result.now c.self.invariant.0
+    rw (← c.self.view_is) (none_between c.self.inside.places.items (code_bytes c.self.inside.code.items) c.lines_near-count.result c.start_of-next.result c.place_in-place.result.now c.bytes_in-bytes.result.now c.self.invariant.0
     c.if-count-eq0.false
     (rw (← k) c.place_in-place.ensures)
     (rw (← c.deref.ensures.value) c.bytes_in-bytes.ensures)
     (λ q e. c.start_of-next.ensures.some q (rw k e))
     c.args.address
-    (c.lines_up_to-count.ensures.below c.place_in-place.result.now (search rules) c.place_in-place.ensures)
+    (c.lines_near-count.ensures.below c.place_in-place.result.now (search rules) c.place_in-place.ensures)
     (search rules))
