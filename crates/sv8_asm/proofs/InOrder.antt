@@ -1,9 +1,9 @@
 -- Lines in order, searched by halves.
-use Rattle.std.proofs.Common.{◌≡◌, ◌∙◌, ℕ, ℤ, pos, zero, suc, ◌-◌, ◌+◌, ◌≤◌, ◌<◌, List, [], ◌∷◌, ◌++◌, length, map, Option, Some, None, Bool, true, false, cond, nat_le, nat_lt, refl, subst, sub-one, arith}
+use Rattle.std.proofs.Common.{◌≡◌, ℕ, ℤ, pos, zero, suc, ◌-◌, ◌≤◌, ◌<◌, List, [], ◌∷◌, ◌++◌, length, map, Option, Some, None, true, false, cond, nat_le, nat_lt, refl, subst, sub-one, arith}
 use Rattle.std.specs.List.{slice_get}
 use Rattle.std.proofs.lemmas.List.{length-map, map-append}
 use Rattle.std.proofs.lemmas.Bool.Decides.{nat_tests}
-use Rattle.sv8_asm.specs.Names.{Mark, mark, last_of, first_behind}
+use Rattle.sv8_asm.specs.Names.{Mark, last_of, first_behind}
 use Rattle.sv8_asm.specs.Index.{Ordered, mark_of, location_of}
 use Rattle.sv8_asm.specs.declared.marks.LocalLabel.{LocalLabel}
 

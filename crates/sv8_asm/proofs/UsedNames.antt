@@ -1,7 +1,6 @@
 -- A statement's bytes rest on the names that it uses.
-use Rattle.std.proofs.Common.{◌≡◌, ◌∙◌, ℕ, ℤ, pos, neg_ℤ, ◌-◌, ◌^◌, ◌/◌, List, [], ◌∷◌, Option, Some, None, Result, Ok, Err, Bool, true, false, ◌||◌, ◌&&◌, refl, sym, ap}
+use Rattle.std.proofs.Common.{◌≡◌, ◌∙◌, ℕ, ℤ, pos, neg_ℤ, ◌-◌, ◌^◌, ◌/◌, List, [], ◌∷◌, Option, Some, None, Result, Bool, true, false, ◌||◌, ◌&&◌, refl, ap}
 use Rattle.std.specs.List.{list_any, list_all}
-use Rattle.std.specs.Ordering.{int_eq}
 use Rattle.std.specs.Str.{bytes_eq}
 use Rattle.std.proofs.lemmas.Bool.Decides.{Decides-int_eq}
 use Rattle.std.proofs.lemmas.Slice.Eq.{bytes_eq-Decides}
@@ -11,12 +10,10 @@ use Rattle.sv8_syntax.specs.declared.value.Expr.TheVariants as expr
 use Rattle.sv8_syntax.specs.declared.value.Imm.TheVariants as imm
 use Rattle.sv8_syntax.specs.declared.value.RegOrImm.TheVariants as operand
 use Rattle.sv8_syntax.specs.declared.value.Upper.TheVariants as upper
-use Rattle.sv8_syntax.specs.declared.statement.Instruction.{Instruction}
 use Rattle.sv8_syntax.specs.declared.statement.Instruction.TheVariants as instruction
 use Rattle.sv8_syntax.specs.declared.statement.Width.{Width}
 use Rattle.sv8_syntax.specs.declared.statement.Statement.{Statement}
 use Rattle.sv8_syntax.specs.declared.statement.Statement.TheVariants as statement
-use Rattle.sv8_syntax.specs.declared.statement.Stmt.{Stmt}
 use Rattle.sv8_syntax.specs.Registers.{number_of_register}
 use Rattle.sv8_isa.specs.declared.instr.Instr.TheVariants as instr
 use Rattle.sv8_isa.specs.declared.instr.Operand.TheVariants as source

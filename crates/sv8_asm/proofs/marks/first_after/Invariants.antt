@@ -1,4 +1,4 @@
-use Rattle.std.proofs.Common.{◌≡◌, length, map, None}
+use Rattle.std.proofs.Common.{◌≡◌, length, map}
 use Rattle.sv8_asm.specs.Names.{first_behind}
 use Rattle.sv8_asm.specs.Index.{mark_of}
 use Rattle.sv8_asm.proofs.marks.first_after.Given as goal

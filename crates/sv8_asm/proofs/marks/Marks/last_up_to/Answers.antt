@@ -1,7 +1,4 @@
-use Rattle.std.proofs.Common.{rules, ◌≡◌, ◌∙◌, ◌-◌, true, None, sym, ap}
-use Rattle.std.specs.List.{slice_get}
-use Rattle.sv8_asm.specs.Names.{last_of}
-use Rattle.sv8_asm.specs.Index.{mark_of}
+use Rattle.std.proofs.Common.{rules, ◌≡◌, ◌∙◌, true, sym}
 use Rattle.sv8_asm.proofs.InOrder.{none_in, last_in}
 use Rattle.sv8_asm.proofs.marks.Marks.last_up_to.Goals as goal
 

@@ -1,4 +1,3 @@
-use Rattle.std.proofs.Common.{rules}
 use Rattle.sv8_asm.proofs.InOrder.{pushed_in}
 use Rattle.sv8_asm.proofs.marks.Marks.push.Goals as goal
 
