@@ -1,5 +1,5 @@
 -- The layout pass over lines in parts.
-use Rattle.std.proofs.Common.{◌≡◌, ◌∙◌, ℕ, zero, suc, ◌+◌, ◌⊎◌, inl, inr, List, [], ◌∷◌, ◌++◌, length, length-append, vec_items, Vec, Result, Ok, Err, refl, sym, ap, add-zero, arith}
+use Rattle.std.proofs.Common.{◌≡◌, ◌∙◌, ℕ, suc, ◌+◌, ◌⊎◌, inl, inr, List, [], ◌∷◌, ◌++◌, length, length-append, vec_items, Vec, Result, Ok, Err, refl, sym, ap, add-zero, arith}
 use Rattle.std.proofs.lemmas.List.{length-map}
 use Rattle.sv8_syntax.specs.declared.fault.LineFault.{LineFault}
 use Rattle.sv8_source.specs.declared.fault.SourceFault.{SourceFault}

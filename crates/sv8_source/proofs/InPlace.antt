@@ -1,10 +1,9 @@
 -- Lines in the place of others that change no name and move nothing.
-use Rattle.std.proofs.Common.{◌≡◌, ◌∙◌, ℕ, zero, suc, ◌+◌, ◌-◌, ◌<◌, ◌≤◌, List, [], ◌∷◌, ◌++◌, length, take, drop, map, Option, Some, None, Result, Ok, Err, Bool, true, false, cond, refl, sym, ap, subst, add-one, sub-one, append_assoc, append-nil, arith}
+use Rattle.std.proofs.Common.{◌≡◌, ◌∙◌, ℕ, zero, suc, ◌+◌, ◌-◌, ◌≤◌, List, [], ◌∷◌, ◌++◌, length, take, drop, Option, Some, None, Result, Ok, Err, false, refl, sym, ap, subst, add-one, append_assoc, append-nil, arith}
 use Rattle.std.specs.List.{slice_get}
 use Rattle.std.proofs.Math.ListN.{drop_of_length-le}
 use Rattle.std.proofs.lemmas.List.{map-append, take-map, drop-map, take_all}
 use Rattle.sv8_syntax.specs.declared.fault.LineFault.{LineFault}
-use Rattle.sv8_syntax.specs.declared.statement.Label.{Label}
 use Rattle.sv8_syntax.specs.declared.statement.Statement.{Statement}
 use Rattle.sv8_syntax.specs.declared.statement.Statement.TheVariants as statement
 use Rattle.sv8_syntax.specs.declared.statement.Stmt.{Stmt}
@@ -12,14 +11,13 @@ use Rattle.sv8_syntax.specs.Reading.{reading}
 use Rattle.sv8_asm.specs.Code.{bytes}
 use Rattle.sv8_asm.specs.Names.{Names}
 use Rattle.sv8_asm.specs.Size.{size}
-use Rattle.sv8_source.specs.declared.fault.SourceFault.{SourceFault}
 use Rattle.sv8_source.specs.Edits.{with_line_between, Replaces, Continues}
 use Rattle.sv8_source.specs.Fault.{after_line}
 use Rattle.sv8_source.specs.Kept.{is_equ, Alike}
 use Rattle.sv8_source.specs.Layout.{Layout, Place, start, on_ok, define_label, define_equ, moved, admitted, with_stmt, with_line, laid, valued}
 use Rattle.sv8_source.specs.Text.{Assembly, assembled, place_texts, replaced_lines}
 use Rattle.sv8_source.proofs.Again.{laid_append, then_laid}
-use Rattle.sv8_source.proofs.SourceLaws.{Made, made_of, both_made}
+use Rattle.sv8_source.proofs.SourceLaws.{made_of, both_made}
 
 -- ---- one line
 

@@ -1,7 +1,6 @@
 -- A line's bytes, kept.
-use Rattle.std.proofs.Common.{◌≡◌, ◌∙◌, ℕ, zero, suc, ◌+◌, List, [], ◌∷◌, Some, Ok, true, refl, sym, ap, subst, arith}
+use Rattle.std.proofs.Common.{◌≡◌, ◌∙◌, ℕ, zero, suc, ◌+◌, List, [], ◌∷◌, Some, Ok, true, subst, arith}
 use Rattle.std.specs.List.{slice_get}
-use Rattle.sv8_syntax.specs.declared.statement.Stmt.{Stmt}
 use Rattle.sv8_syntax.specs.Reading.{reading}
 use Rattle.sv8_asm.specs.Code.{bytes}
 use Rattle.sv8_asm.specs.Names.{Names}
@@ -9,7 +8,7 @@ use Rattle.sv8_asm.specs.Uses.{agree}
 use Rattle.sv8_asm.proofs.UsedNames.{agreeing_names_decide}
 use Rattle.sv8_source.specs.Layout.{Place, valued}
 use Rattle.sv8_source.specs.Text.{Assembly}
-use Rattle.sv8_source.proofs.InPlace.{Coded, Code, coded_of}
+use Rattle.sv8_source.proofs.InPlace.{Coded, coded_of}
 
 coded_at : (names : Names) (n : ℕ) (ps : List Place) (cs : List (List ℕ)) (i : ℕ) (p : Place) (b : List ℕ) → Coded names n ps cs → slice_get ps i ≡ Some p → slice_get cs i ≡ Some b → bytes p.stmt (n + i) p.at names ≡ Ok b
 coded_at names n [] cs i p b c e f = absurd (cc)

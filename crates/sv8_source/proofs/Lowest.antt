@@ -1,5 +1,5 @@
 -- Which fault is named.
-use Rattle.std.proofs.Common.{◌≡◌, ◌∙◌, ℕ, ℤ, pos, neg_ℤ, IfSome, suc, ◌-◌, ◌+◌, ◌*◌, ◌%◌, ◌^◌, ◌==◌, ◌≤◌, ◌⊎◌, inl, inr, List, [], ◌∷◌, ◌++◌, length, Option, Some, None, Result, Ok, Err, Bool, true, false, cond, nat_lt, is_some, refl, sym, ap, arith, append_assoc}
+use Rattle.std.proofs.Common.{◌≡◌, ◌∙◌, ℕ, ℤ, pos, neg_ℤ, IfSome, suc, ◌-◌, ◌+◌, ◌*◌, ◌%◌, ◌^◌, ◌==◌, ◌≤◌, ◌⊎◌, inl, inr, List, [], ◌∷◌, ◌++◌, length, Option, Some, None, Result, Ok, Err, Bool, true, false, cond, nat_lt, is_some, refl, sym, ap, arith}
 use Rattle.sv8_syntax.specs.declared.fault.LineFault.{LineFault}
 use Rattle.sv8_syntax.specs.declared.fault.LineFault.TheVariants.{DuplicateLabel, OutOfRange, BadAlignment, OrgBackwards, ImageTooLarge}
 use Rattle.sv8_syntax.specs.declared.statement.Label.{Label}
@@ -8,7 +8,6 @@ use Rattle.sv8_syntax.specs.declared.statement.Motion.TheVariants as motion
 use Rattle.sv8_syntax.specs.declared.statement.Statement.{Statement}
 use Rattle.sv8_syntax.specs.declared.statement.Statement.TheVariants as statement
 use Rattle.sv8_syntax.specs.declared.statement.Stmt.{Stmt}
-use Rattle.sv8_syntax.specs.declared.value.Expr.{Expr}
 use Rattle.sv8_syntax.specs.declared.value.Expr.TheVariants as expr
 use Rattle.sv8_syntax.specs.Faults.{rank}
 use Rattle.sv8_syntax.specs.Names.{Defines, IsDefinition}
@@ -18,9 +17,8 @@ use Rattle.sv8_asm.specs.Size.{plain, set_count, bytes_of_width, size, size_of_s
 use Rattle.sv8_source.specs.declared.fault.SourceFault.{SourceFault}
 use Rattle.sv8_source.specs.Fault.{in_line, after_line}
 use Rattle.sv8_source.specs.Layout.{Layout, Place, start, on_ok, define, define_label, define_equ, moved, admitted, with_line, laid, valued}
-use Rattle.sv8_source.specs.Text.{Text, Assembly, with_layout, both_passes, assembled, err_of, fault}
+use Rattle.sv8_source.specs.Text.{with_layout, both_passes, assembled, err_of}
 use Rattle.sv8_source.specs.Laws.{FirstOfLayout, FirstOfValues, LowestLineIsNamed, HasFault, of_label, of_number, of_size, of_limit, LeastFaultIsNamed}
-use Rattle.sv8_source.proofs.Again.{laid_append, then_laid}
 
 -- ---- the lowest line
 

@@ -1,6 +1,5 @@
 -- What the two passes make of the lines of a source that assembles.
-use Rattle.std.proofs.Common.{◌≡◌, ◌∙◌, ℕ, ◌+◌, ◌≤◌, Bool, true, false, cond, nat_lt, List, [], ◌∷◌, ◌++◌, length, map, Option, Some, None, Result, Ok, Err, IsOk, refl, sym, ap, arith}
-use Rattle.std.specs.Result.{result_unwrap_or}
+use Rattle.std.proofs.Common.{◌≡◌, ◌∙◌, ℕ, ◌+◌, ◌≤◌, Bool, true, false, cond, nat_lt, List, [], ◌∷◌, ◌++◌, length, map, None, Result, Ok, Err, IsOk, refl, sym, ap, arith}
 use Rattle.sv8_syntax.specs.declared.fault.LineFault.{LineFault}
 use Rattle.sv8_syntax.specs.declared.fault.LineFault.TheVariants.{ImageTooLarge}
 use Rattle.sv8_syntax.specs.declared.statement.Stmt.{Stmt}
@@ -13,7 +12,7 @@ use Rattle.sv8_source.specs.Layout.{Layout, Place, start, on_ok, define_label, d
 use Rattle.sv8_source.specs.Spaced.{Spaced, next_at}
 use Rattle.sv8_source.specs.Image.{Rising}
 use Rattle.sv8_source.specs.Listing.{shown, shown_all, listing_of, listing}
-use Rattle.sv8_source.specs.Text.{Text, Assembly, with_layout, both_passes, assembled, err_of, fault, place_texts}
+use Rattle.sv8_source.specs.Text.{Text, Assembly, with_layout, both_passes, assembled, err_of, place_texts}
 use Rattle.sv8_source.specs.Laws.{TextsAreLines, LinesRise}
 use Rattle.sv8_source.proofs.Kept.{laid-texts}
 use Rattle.sv8_source.proofs.SpacedPlaces.{Spaced_push}

@@ -8,7 +8,7 @@ use Rattle.sv8_source.specs.Image.{Rising, changed, words}
 use Rattle.sv8_source.specs.Kept.{is_equ, Alike}
 use Rattle.sv8_source.specs.Layout.{Place, moved}
 use Rattle.sv8_source.specs.Listing.{shown_all}
-use Rattle.sv8_source.specs.Text.{Text, Assembly, assembled}
+use Rattle.sv8_source.specs.Text.{Assembly}
 
 -- one line between the first ones, so many, and those from a number on, counted from 0; and the location behind all
 abbrev pub with_line_between : ℕ → ℕ → Place → List ℕ → ℕ → Assembly → Assembly

@@ -1,5 +1,5 @@
 -- What is kept of each line beside the listing, and shared by sources.
-use Rattle.std.specs.Prelude.{◌≡◌, ℕ, List, map, Vec, vec_items, Bool, true, false, Option, Some, None, IsOk}
+use Rattle.std.specs.Prelude.{◌≡◌, ℕ, List, map, Vec, Bool, true, false, Option, Some, None, IsOk}
 use Rattle.std.specs.declared.rc.Rc.{Rc}
 use Rattle.std.specs.declared.alloc.Global.{Global}
 use Rattle.sv8_syntax.specs.declared.statement.Statement.{Statement}

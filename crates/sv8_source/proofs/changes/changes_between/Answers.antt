@@ -1,4 +1,4 @@
-use Rattle.std.proofs.Common.{rules, ◌∙◌, ◌+◌, ◌/◌, refl, arith}
+use Rattle.std.proofs.Common.{rules, arith}
 use Rattle.sv8_source.specs.Listing.{shown_all}
 use Rattle.sv8_source.proofs.Changed.{changed_more, changed_all}
 use Rattle.sv8_source.proofs.changes.changes_between.Goals as goal

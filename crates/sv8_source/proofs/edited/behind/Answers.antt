@@ -1,7 +1,6 @@
-use Rattle.std.proofs.Common.{rules, ◌≡◌, ◌∙◌, ◌+◌, [], ◌∷◌, ◌++◌, length, sym, ap, subst, arith}
-use Rattle.sv8_asm.specs.Names.{Names}
-use Rattle.sv8_source.specs.Edits.{Sound, Continues, with_line_between}
-use Rattle.sv8_source.specs.Text.{Assembly, place_texts}
+use Rattle.std.proofs.Common.{rules, ◌≡◌, ◌+◌, [], ◌∷◌, ◌++◌, length, arith}
+use Rattle.sv8_source.specs.Edits.{Continues}
+use Rattle.sv8_source.specs.Text.{place_texts}
 use Rattle.sv8_source.proofs.InPlace.{behind_made}
 use Rattle.sv8_source.proofs.EditedWords.{behind_within}
 use Rattle.sv8_source.proofs.SourceLaws.{sound}

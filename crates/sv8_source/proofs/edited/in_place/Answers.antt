@@ -1,9 +1,8 @@
-use Rattle.std.proofs.Common.{◌≡◌, rules, ℕ, subst, arith, ◌+◌, ◌-◌, Some, refl, sym, ◌∙◌, ap, [], ◌∷◌}
+use Rattle.std.proofs.Common.{◌≡◌, rules, ℕ, subst, arith, ◌+◌, ◌-◌, Some, sym, [], ◌∷◌}
 use Rattle.std.specs.List.{slice_get}
 use Rattle.sv8_asm.specs.Names.{Names}
-use Rattle.sv8_source.specs.Edits.{Sound, Replaces, Within, with_line_between}
-use Rattle.sv8_source.specs.Layout.{Place}
-use Rattle.sv8_source.specs.Text.{Assembly, assembled, place_texts, replaced_lines}
+use Rattle.sv8_source.specs.Edits.{Sound, Replaces, with_line_between}
+use Rattle.sv8_source.specs.Text.{place_texts, replaced_lines}
 use Rattle.sv8_source.proofs.InPlace.{in_place_made}
 use Rattle.sv8_source.proofs.EditedWords.{in_place_within}
 use Rattle.sv8_source.proofs.SourceLaws.{sound}

@@ -1,6 +1,5 @@
-use Rattle.std.proofs.Common.{rules, ◌≡◌, ◌+◌, Some, true, refl, sym, subst}
+use Rattle.std.proofs.Common.{rules, ◌≡◌, ◌+◌, Some, true, refl}
 use Rattle.std.specs.List.{slice_get}
-use Rattle.sv8_asm.specs.Names.{Names}
 use Rattle.sv8_asm.specs.Uses.{agree}
 use Rattle.sv8_source.proofs.KeptBytes.{kept_bytes}
 use Rattle.sv8_source.proofs.valued.kept.Goals as goal

@@ -1,7 +1,6 @@
-use Rattle.std.proofs.Common.{rules, ◌≡◌, ◌∙◌, Some, List, refl, sym, ap, arith}
+use Rattle.std.proofs.Common.{rules, ◌≡◌, ◌∙◌, Some, refl, sym, ap, arith}
 use Rattle.std.specs.List.{slice_get}
 use Rattle.sv8_source.specs.Kept.{code_bytes}
-use Rattle.sv8_source.specs.Layout.{Place}
 use Rattle.sv8_source.specs.Text.{Assembly}
 use Rattle.sv8_source.proofs.ReadImage.{no_line, none_between}
 use Rattle.sv8_source.proofs.assembled.Assembled.next_byte.Goals as goal
