@@ -5,3 +5,5 @@ pub mod Decodes
 pub mod UsedNames
 pub mod InOrder
 pub mod Encodes
+pub mod Ranges
+pub mod Fields

@@ -1,5 +1,5 @@
 -- What is true of every statement, and of a line's text.
-use Rattle.std.specs.Prelude.{◌≡◌, ℕ, ◌≤◌, true, List, length, flat_map, Result, Ok, Err, IsOk}
+use Rattle.std.specs.Prelude.{◌≡◌, ℕ, ◌≤◌, Bool, true, false, ◌&&◌, List, length, flat_map, Result, Ok, Err, IsOk}
 use Rattle.std.specs.List.{AllZip, list_all}
 use Rattle.std.specs.Option.{is_some}
 use Rattle.std.specs.Result.{result_unwrap_or}
@@ -8,6 +8,13 @@ use Rattle.sv8_isa.specs.Encoding.{encoding}
 use Rattle.sv8_isa.specs.Table.{meaning}
 use Rattle.sv8_isa.specs.declared.instr.Instr.{Instr}
 use Rattle.sv8_syntax.specs.declared.fault.LineFault.{LineFault}
+use Rattle.sv8_syntax.specs.declared.value.Imm.TheVariants as imm
+use Rattle.sv8_syntax.specs.declared.value.RegOrImm.{RegOrImm}
+use Rattle.sv8_syntax.specs.declared.value.RegOrImm.TheVariants as operand
+use Rattle.sv8_syntax.specs.declared.statement.Operation.{Operation}
+use Rattle.sv8_syntax.specs.declared.statement.Operation.TheVariants as operation
+use Rattle.sv8_syntax.specs.declared.statement.Instruction.TheVariants as instruction
+use Rattle.sv8_syntax.specs.declared.statement.Statement.TheVariants as statement
 use Rattle.sv8_syntax.specs.declared.statement.Statement.{Statement}
 use Rattle.sv8_syntax.specs.declared.statement.Stmt.{Stmt}
 use Rattle.sv8_syntax.specs.Reading.{reading}
@@ -63,4 +70,28 @@ AgreeingNamesDecide =
 abbrev pub InstructionsEncode : Type 0
 InstructionsEncode =
     (s : Statement) (line at : ℕ) (names : Names) (b : List ℕ) (is : List Instr) → statement_bytes s line at names ≡ Ok b → instructions_of names line at s ≡ Ok is
+    → list_all (λ i. is_some (encoding i)) is ≡ true
+
+-- ---- values that are in their ranges
+
+-- a number in the place of the second source is a shift's count or a trap's number
+abbrev pub is_count : Operation → Bool
+is_count (operation.Shift o) = true
+is_count (operation.Trap c) = true
+is_count o = false
+
+-- the second source is %lo
+abbrev pub is_low : RegOrImm → Bool
+is_low (operand.Immediate (imm.Low e)) = true
+is_low s = false
+
+-- a shift's count or a trap's number is %lo, whose 10 bits may be more than it takes
+abbrev pub has_low_count : Statement → Bool
+has_low_count (statement.Instruction (instruction.Format3 o rd rs1 s)) = is_count o && is_low s
+has_low_count s = false
+
+-- of any other statement, each instruction that it stands for has a word: the ranges of values are those of the fields
+abbrev pub ValuesFitFields : Type 0
+ValuesFitFields =
+    (s : Statement) (line at : ℕ) (names : Names) (is : List Instr) → has_low_count s ≡ false → instructions_of names line at s ≡ Ok is
     → list_all (λ i. is_some (encoding i)) is ≡ true

@@ -2,7 +2,7 @@
 
 ghost use Rattle.std.specs.Prelude.{◌≡◌, Ok, Err, codes, pos, [], ◌∷◌};
 ghost use Rattle.sv8_syntax.specs.declared.fault.LineFault.TheVariants.{UnknownName, OutOfRange, BadAlignment, OrgBackwards};
-ghost use Rattle.sv8_asm.specs.Laws.{BytesFitSize, InstructionsDecode, InstructionsEncode, UsedNamesDecide, AgreeingNamesDecide, line_bytes, line_size};
+ghost use Rattle.sv8_asm.specs.Laws.{BytesFitSize, InstructionsDecode, InstructionsEncode, ValuesFitFields, UsedNamesDecide, AgreeingNamesDecide, line_bytes, line_size};
 ghost use Rattle.sv8_asm.specs.Names.{no_names, with_name, with_mark};
 
 /// What a statement places does not reach beyond the location behind it.
@@ -19,6 +19,12 @@ pub fn instructions_decode()
 /// stands for has a word.
 pub fn instructions_encode()
     ensures { InstructionsEncode }
+{}
+
+/// The ranges in which values are asked for are those of the fields: each instruction that a statement stands for has a word, but
+/// where a shift's count or a trap's number is `%lo`, whose 10 bits may be more than it takes.
+pub fn values_fit_fields()
+    ensures { ValuesFitFields }
 {}
 
 /// What a statement places at a location rests on the names that it uses: where two tables, each asked in a line of its own, give
