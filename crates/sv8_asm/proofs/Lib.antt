@@ -1,5 +1,9 @@
 pub mod Keys
 pub mod Gathering
-pub mod Marks
 pub mod Sizes
 pub mod Decodes
+pub mod UsedNames
+pub mod InOrder
+pub mod Encodes
+pub mod Ranges
+pub mod Fields

@@ -1,6 +1,6 @@
 -- The bytes of a statement fit its size.
-use Rattle.std.proofs.Common.{◌≡◌, ◌∙◌, ℕ, ℤ, ◌+◌, ◌*◌, ◌%◌, ◌^◌, ◌<◌, ◌≤◌, ◌==◌, List, [], ◌∷◌, ◌++◌, length, length-append, Option, Some, None, Result, Ok, Err, IsOk, Bool, true, false, cond, nat_lt, arith, ap, sym, refl, inl, inr}
-use Rattle.std.specs.Int.{w8, w16, w32, to_be_bytes}
+use Rattle.std.proofs.Common.{◌≡◌, ◌∙◌, ℕ, ℤ, ◌+◌, ◌*◌, ◌%◌, ◌^◌, ◌≤◌, ◌==◌, List, [], ◌∷◌, ◌++◌, length, length-append, Option, Some, None, Result, Ok, Err, IsOk, Bool, true, false, cond, nat_lt, arith, ap, refl}
+use Rattle.std.specs.Int.{w32, to_be_bytes}
 use Rattle.std.specs.Result.{result_unwrap_or}
 use Rattle.sv8_isa.specs.Encoding.{encoding}
 use Rattle.sv8_isa.specs.declared.instr.Instr.{Instr}

@@ -1,5 +1,5 @@
 -- The bytes of a statement, with the encodings of Appendix B.
-use Rattle.std.specs.Prelude.{ℕ, ℤ, pos, ◌%◌, ◌/◌, ◌^◌, ◌-◌, neg_ℤ, Bool, true, false, List, [], ◌∷◌, ◌++◌, nat_lt, Option, Some, None, Result, Ok, Err, if◌then◌else◌}
+use Rattle.std.specs.Prelude.{ℕ, ℤ, pos, ◌%◌, ◌/◌, ◌^◌, ◌-◌, neg_ℤ, Bool, false, List, [], ◌∷◌, ◌++◌, nat_lt, Option, Some, None, Result, Ok, Err, if◌then◌else◌}
 use Rattle.std.specs.Int.{w8, w16, w32, to_be_bytes}
 use Rattle.sv8_isa.specs.Encoding.{encoding}
 use Rattle.sv8_isa.specs.declared.instr.ArithOp.TheVariants as arith
@@ -12,7 +12,6 @@ use Rattle.sv8_syntax.specs.Faults.{least}
 use Rattle.sv8_syntax.specs.Registers.{number_of_register}
 use Rattle.sv8_syntax.specs.declared.fault.LineFault.{LineFault}
 use Rattle.sv8_syntax.specs.declared.fault.LineFault.TheVariants.{OutOfRange}
-use Rattle.sv8_syntax.specs.declared.register.Register.{Register}
 use Rattle.sv8_syntax.specs.declared.value.Expr.{Expr}
 use Rattle.sv8_syntax.specs.declared.value.Imm.{Imm}
 use Rattle.sv8_syntax.specs.declared.value.Imm.TheVariants as imm

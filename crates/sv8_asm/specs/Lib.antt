@@ -5,4 +5,5 @@ pub mod Size
 pub mod Code
 pub mod Coded
 pub mod Gathering
+pub mod Uses
 pub mod Laws

@@ -1,6 +1,7 @@
 -- The names of a source and its local labels, with what they stand for.
-use Rattle.std.specs.Prelude.{ℕ, ℤ, pos, ◌-◌, ◌==◌, ◌&&◌, List, [], ◌∷◌, ◌++◌, nat_le, nat_lt, Option, Some, None, slice_index_or, slice_set, replicate, if◌then◌else◌}
+use Rattle.std.specs.Prelude.{ℕ, ℤ, pos, ◌-◌, ◌==◌, List, [], ◌∷◌, ◌++◌, nat_le, nat_lt, Option, Some, None, slice_index_or, slice_set, replicate, if◌then◌else◌}
 use Rattle.std.specs.Str.{bytes_eq}
+use Rattle.sv8_syntax.specs.Spelling.{is_reference}
 
 -- a line that has a local label, and its location
 pub record Mark : Type 0 where
@@ -58,12 +59,12 @@ pub data Reference : Type 0 where
   backward : ℕ → Reference
   forward : ℕ → Reference
 
-abbrev pub reference_to : ℕ → ℕ → Option Reference
-reference_to d side = if side == 98 then Some (backward d) else (if side == 102 then Some (forward d) else None)
+abbrev pub reference_to : ℕ → ℕ → Reference
+reference_to d side = if side == 98 then backward d else forward d
 
--- the reference to a local label that a text is; no name is one, since none begins with a digit
+-- the reference to a local label that a text is, as lines spell it; no name is one, since none begins with a digit
 abbrev pub reference_of : List ℕ → Option Reference
-reference_of (d ∷ side ∷ []) = if nat_le 48 d && nat_le d 57 then reference_to (d - 48) side else None
+reference_of (d ∷ side ∷ []) = if is_reference (d ∷ side ∷ []) then Some (reference_to (d - 48) side) else None
 reference_of text = None
 
 abbrev pub get_reference : Option Reference → Names → List ℕ → ℕ → Option ℤ

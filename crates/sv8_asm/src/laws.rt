@@ -2,7 +2,7 @@
 
 ghost use Rattle.std.specs.Prelude.{◌≡◌, Ok, Err, codes, pos, [], ◌∷◌};
 ghost use Rattle.sv8_syntax.specs.declared.fault.LineFault.TheVariants.{UnknownName, OutOfRange, BadAlignment, OrgBackwards};
-ghost use Rattle.sv8_asm.specs.Laws.{BytesFitSize, InstructionsDecode, line_bytes, line_size};
+ghost use Rattle.sv8_asm.specs.Laws.{BytesFitSize, InstructionsDecode, InstructionsEncode, ValuesFitFields, UsedNamesDecide, AgreeingNamesDecide, line_bytes, line_size};
 ghost use Rattle.sv8_asm.specs.Names.{no_names, with_name, with_mark};
 
 /// What a statement places does not reach beyond the location behind it.
@@ -13,6 +13,30 @@ pub fn bytes_fit_size()
 /// The words that are placed for instructions stand for those instructions.
 pub fn instructions_decode()
     ensures { InstructionsDecode }
+{}
+
+/// What the assembler makes of a statement encodes: where a statement has no fault in the value pass, each instruction that it
+/// stands for has a word.
+pub fn instructions_encode()
+    ensures { InstructionsEncode }
+{}
+
+/// The ranges in which values are asked for are those of the fields: each instruction that a statement stands for has a word, but
+/// where a shift's count or a trap's number is `%lo`, whose 10 bits may be more than it takes.
+pub fn values_fit_fields()
+    ensures { ValuesFitFields }
+{}
+
+/// What a statement places at a location rests on the names that it uses: where two tables, each asked in a line of its own, give
+/// each of them the same value or both none, the statement has the same bytes, or the same fault.
+pub fn used_names_decide()
+    ensures { UsedNamesDecide }
+{}
+
+/// Where `agree` finds that two tables agree, they do so on each name that the statement uses, and so the statement has the same
+/// bytes at any location, or the same fault.
+pub fn agreeing_names_decide()
+    ensures { AgreeingNamesDecide }
 {}
 
 /// Instructions in line 2, with their words as another assembler gives them.

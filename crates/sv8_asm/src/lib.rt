@@ -9,13 +9,16 @@
 mod code;
 mod instruction;
 pub mod laws;
+mod marks;
 mod operand;
 mod size;
 mod symbols;
 #[cfg(test)]
 mod tests;
+mod used;
 mod value;
 
 pub use code::assemble;
 pub use size::{constant, size_of};
 pub use symbols::Symbols;
+pub use used::{agree, exprs, uses};

@@ -2,8 +2,9 @@
 
 ghost use Rattle.std.specs.Prelude.{◌≡◌, ℕ, ℤ, ◌<◌, List, [], ◌∷◌, ◌++◌, map, IsSome, OnOk, OnErr, IfOk, MatchBool, None, Some, option_map};
 ghost use Rattle.sv8_asm.specs.Names.{Names, Reference, no_names, defined, with_name, with_mark, marks_of, last_of, first_behind, reference_of, reference_to, get};
-ghost use Rattle.sv8_asm.specs.Index.{Answers, pair_of, mark_of};
+ghost use Rattle.sv8_asm.specs.Index.{Answers, pair_of};
 
+use crate::marks::Marks;
 use std::alloc::{AllocError, Global};
 use std::collections::BTreeMap;
 use std::marker::Model;
@@ -15,13 +16,6 @@ pub struct Symbol {
     value: i64,
 }
 
-/// A line that has a local label, and its location.
-#[derive(Drop, Clone, Copy)]
-pub struct LocalLabel {
-    line: u32,
-    location: u32,
-}
-
 /// The names of a source, each with one value, in the order of their definitions, and for each digit the lines whose label it is. Case
 /// counts.
 ///
@@ -30,17 +24,17 @@ pub struct LocalLabel {
 pub struct Symbols {
     entries: Vec<Symbol>,
     index: BTreeMap<Vec<u8>, i64>,
-    labels: [Vec<LocalLabel>; 10],
+    labels: [Marks; 10],
 }
 
 impl Model for Symbols {
     ghost use Rattle.std.specs.Prelude.{List, map};
     ghost use Rattle.sv8_asm.specs.Names.{Names};
-    ghost use Rattle.sv8_asm.specs.Index.{pair_of, marks_in, Answers};
+    ghost use Rattle.sv8_asm.specs.Index.{pair_of, Answers};
 
     ghost Value = { Names };
 
-    ghost view = { λ s. record { named = map pair_of s.entries.items; marks = marks_in s.labels } };
+    ghost view = { λ s. record { named = map pair_of s.entries.items; marks = s.labels } };
 
     ghost invariant = { λ s. Answers s.index (map pair_of s.entries.items) };
 }
@@ -55,37 +49,6 @@ fn insert(index: &mut BTreeMap<Vec<u8>, i64>, name: Vec<u8>, value: i64) -> Resu
     Ok(())
 }
 
-/// The location of the last of these lines up to and with a line.
-#[tactic(auto, unfolding(crate::specs::Names::last_of))]
-fn last_up_to(line: u32, labels: &[LocalLabel]) -> Option<i64>
-    ensures { result ≡ last_of None line (map mark_of labels.now) }
-{
-    let mut found = None;
-    let mut rest = labels;
-    while let [first, after @ ..] = rest {
-        if first.line <= line {
-            found = Some(i64::from(first.location));
-        }
-        rest = after;
-    }
-    found
-}
-
-/// The location of the first of these lines behind a line.
-#[tactic(auto, unfolding(crate::specs::Names::first_behind))]
-fn first_behind(line: u32, labels: &[LocalLabel]) -> Option<i64>
-    ensures { result ≡ first_behind line (map mark_of labels.now) }
-{
-    let mut rest = labels;
-    while let [first, after @ ..] = rest {
-        if line < first.line {
-            return Some(i64::from(first.location));
-        }
-        rest = after;
-    }
-    None
-}
-
 impl Symbols {
     /// No names.
     pub fn new(alloc: Global) -> Self
@@ -95,16 +58,16 @@ impl Symbols {
             entries: Vec::new(alloc),
             index: BTreeMap::new(alloc),
             labels: [
-                Vec::new(alloc),
-                Vec::new(alloc),
-                Vec::new(alloc),
-                Vec::new(alloc),
-                Vec::new(alloc),
-                Vec::new(alloc),
-                Vec::new(alloc),
-                Vec::new(alloc),
-                Vec::new(alloc),
-                Vec::new(alloc),
+                Marks::new(alloc),
+                Marks::new(alloc),
+                Marks::new(alloc),
+                Marks::new(alloc),
+                Marks::new(alloc),
+                Marks::new(alloc),
+                Marks::new(alloc),
+                Marks::new(alloc),
+                Marks::new(alloc),
+                Marks::new(alloc),
             ],
         }
     }
@@ -123,14 +86,12 @@ impl Symbols {
         ensures { result ≡ get self.now text.now line }
     {
         match text {
-            [digit @ b'0'..=b'9', b'b'] => last_up_to(
-                line,
-                &self.labels[usize::from(*digit - b'0')],
-            ),
-            [digit @ b'0'..=b'9', b'f'] => first_behind(
-                line,
-                &self.labels[usize::from(*digit - b'0')],
-            ),
+            [digit @ b'0'..=b'9', b'b'] => {
+                self.labels[usize::from(*digit - b'0')].last_up_to(line)
+            }
+            [digit @ b'0'..=b'9', b'f'] => {
+                self.labels[usize::from(*digit - b'0')].first_behind(line)
+            }
             _ => self.defined(text),
         }
     }
@@ -169,7 +130,7 @@ impl Symbols {
         ensures err { OnErr result (self.new ≡ self.old) }
     {
         let labels = &mut self.labels[usize::from(digit)];
-        labels.push(LocalLabel { line, location })?;
+        labels.push(line, location)?;
         Ok(())
     }
 }

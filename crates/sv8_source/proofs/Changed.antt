@@ -34,7 +34,7 @@ pub unchanged : (old new : List ListedLine) (k n : ℕ) → word_at old (4 * k) 
 unfolding changed
 unchanged old new k n h = rw (eq-eqb (word_at old (4 * k)) (word_at new (4 * k)) h) refl
 
-changed_skip : (old new : List ListedLine) (k m n : ℕ) → ((b : ℕ) → 4 * k ≤ b → b < 4 * (k + m) → byte_at old b ≡ byte_at new b) → changed old new k (m + n) ≡ changed old new (k + m) n
+pub changed_skip : (old new : List ListedLine) (k m n : ℕ) → ((b : ℕ) → 4 * k ≤ b → b < 4 * (k + m) → byte_at old b ≡ byte_at new b) → changed old new k (m + n) ≡ changed old new (k + m) n
 changed_skip old new k zero n h = rw (zero-add, add-zero) refl
 changed_skip old new k (suc m) n h =
     let e : suc m + n ≡ suc (m + n) = omega arith in

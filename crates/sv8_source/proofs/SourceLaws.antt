@@ -1,6 +1,5 @@
 -- What the two passes make of the lines of a source that assembles.
-use Rattle.std.proofs.Common.{◌≡◌, ◌∙◌, ℕ, ◌+◌, ◌≤◌, Bool, true, false, cond, nat_lt, List, [], ◌∷◌, ◌++◌, length, map, Option, Some, None, Result, Ok, Err, IsOk, refl, sym, ap, arith}
-use Rattle.std.specs.Result.{result_unwrap_or}
+use Rattle.std.proofs.Common.{◌≡◌, ◌∙◌, ℕ, ◌+◌, ◌≤◌, Bool, true, false, cond, nat_lt, List, [], ◌∷◌, ◌++◌, length, map, None, Result, Ok, Err, IsOk, refl, sym, ap, arith}
 use Rattle.sv8_syntax.specs.declared.fault.LineFault.{LineFault}
 use Rattle.sv8_syntax.specs.declared.fault.LineFault.TheVariants.{ImageTooLarge}
 use Rattle.sv8_syntax.specs.declared.statement.Stmt.{Stmt}
@@ -13,7 +12,7 @@ use Rattle.sv8_source.specs.Layout.{Layout, Place, start, on_ok, define_label, d
 use Rattle.sv8_source.specs.Spaced.{Spaced, next_at}
 use Rattle.sv8_source.specs.Image.{Rising}
 use Rattle.sv8_source.specs.Listing.{shown, shown_all, listing_of, listing}
-use Rattle.sv8_source.specs.Text.{Text, Assembly, with_layout, both_passes, assembled, err_of, fault, place_texts}
+use Rattle.sv8_source.specs.Text.{Text, Assembly, with_layout, both_passes, assembled, err_of, place_texts}
 use Rattle.sv8_source.specs.Laws.{TextsAreLines, LinesRise}
 use Rattle.sv8_source.proofs.Kept.{laid-texts}
 use Rattle.sv8_source.proofs.SpacedPlaces.{Spaced_push}
@@ -85,19 +84,20 @@ laid_spaced limit n (text ∷ texts) l done sp h = go (λ next s k. laid_spaced 
 -- ---- both passes
 
 -- what the passes made of a source
-record Made (s : Text) (a : Assembly) : Type 0 where
+pub record Made (s : Text) (a : Assembly) : Type 0 where
   pub spaced : Spaced 0 a.layout.places a.layout.at
   pub texts : place_texts a.layout.places ≡ s.lines
+  pub laid : laid s.limit 1 s.lines start ≡ Ok a.layout
   pub coded : valued a.layout.symbols 1 a.layout.places [] ≡ Ok a.code
 
-made_of : (s : Text) (a : Assembly) → assembled s ≡ Ok a → Made s a
+pub made_of : (s : Text) (a : Assembly) → assembled s ≡ Ok a → Made s a
 unfolding assembled
 made_of s a h = go (laid s.limit 1 s.lines start) refl h where
   coded : (l : Layout) (r : Result (List (List ℕ)) SourceFault) → valued l.symbols 1 l.places [] ≡ r → laid s.limit 1 s.lines start ≡ Ok l → with_layout l r ≡ Ok a → Made s a
   coded l (Err e) f g k = absurd (cc)
   coded l (Ok code) f g k =
       let e : record { layout = l; code = code } ≡ a = cc in
-      rw (← e) (record { spaced = laid_spaced s.limit 1 s.lines start l (omega arith) g; texts = laid-texts s.limit 1 s.lines start l g; coded = f })
+      rw (← e) (record { spaced = laid_spaced s.limit 1 s.lines start l (omega arith) g; texts = laid-texts s.limit 1 s.lines start l g; laid = g; coded = f })
 
   go : (r : Result Layout SourceFault) → laid s.limit 1 s.lines start ≡ r → both_passes r ≡ Ok a → Made s a
   go (Err e) g k = absurd (cc)
@@ -124,3 +124,15 @@ lines_rise s = go (assembled s) refl where
   go : (r : Result Assembly SourceFault) → assembled s ≡ r → Rising 0 (listing_of r)
   go (Err e) f = tt
   go (Ok a) f = let m = made_of s a f in code_rises a.layout.symbols a.layout.places a.code a.layout.at m.coded m.spaced
+
+-- what is made of a source rises, with bytes for each line
+pub sound : (s : Text) (a : Assembly) → assembled s ≡ Ok a → Rising 0 (shown_all a) × (length a.code ≡ length a.layout.places)
+sound s a h =
+    let m = made_of s a h in
+    (code_rises a.layout.symbols a.layout.places a.code a.layout.at m.coded m.spaced, code_length a.layout.symbols a.layout.places a.code a.layout.at m.coded m.spaced)
+
+-- what both passes give is what is made
+pub both_made : (limit : ℕ) (lines : List (List ℕ)) (l : Layout) (code : List (List ℕ)) → laid limit 1 lines start ≡ Ok l → valued l.symbols 1 l.places [] ≡ Ok code
+    → assembled (record { limit = limit; lines = lines }) ≡ Ok (record { layout = l; code = code })
+unfolding assembled
+both_made limit lines l code h g = ap both_passes h ∙ ap (with_layout l) g

@@ -2,13 +2,14 @@
 
 ghost use Rattle.std.specs.Prelude.{◌≡◌, ℕ, ◌≤◌, length, max, map, IfOk, OnOk, slice_index};
 ghost use Rattle.std.specs.List.{range_with_len};
-ghost use Rattle.sv8_source.specs.Text.{texts};
+ghost use Rattle.sv8_source.specs.Kept.{code_bytes};
 ghost use Rattle.sv8_source.specs.Listing.{shown};
 ghost use Rattle.sv8_source.specs.Image.{byte_at, Rising};
 
 use crate::laid::Placed;
 use crate::places::{bytes_in, lines_up_to, place_in};
 use std::alloc::{AllocError, Global};
+use std::rc::Rc;
 
 /// Puts zeros behind the bytes until there are so many.
 #[tactic(auto, using(crate::proofs::Zeros::same_index))]
@@ -28,12 +29,12 @@ fn pad(bytes: &mut Vec<u8>, count: usize) -> Result<(), AllocError>
 pub fn contents(
     alloc: Global,
     places: &[Placed],
-    code: &[Vec<u8>],
+    code: &[Rc<Vec<u8>>],
     size: usize,
 ) -> Result<Vec<u8>, AllocError>
-    requires rising { Rising 0 (shown places.now (texts code.now)) }
-    requires many { length (texts code.now) ≡ length places.now }
-    ensures { IfOk result (λ v. v.items ≡ map (byte_at (shown places.now (texts code.now))) (range_with_len 0 size)) }
+    requires rising { Rising 0 (shown places.now (code_bytes code.now)) }
+    requires many { length (code_bytes code.now) ≡ length places.now }
+    ensures { IfOk result (λ v. v.items ≡ map (byte_at (shown places.now (code_bytes code.now))) (range_with_len 0 size)) }
 {
     let count = lines_up_to(places, size as u64);
     let mut bytes = Vec::with_capacity(alloc, size)?;

@@ -3,27 +3,30 @@
 //! The layout pass reads each line, gives its names their values and finds the location of each line. The value pass
 //! then assembles each line, now that all names are known, so that a line may use a name that a later one defines.
 
-ghost use Rattle.std.specs.Prelude.{◌≡◌, ℕ, ℤ, ◌+◌, ◌-◌, ◌^◌, ◌<◌, ◌⊎◌, List, [], ◌++◌, ◌∷◌, IsOk, IfSome, IfOk, OnOk, MatchResult, Ok, Err, vec_items, length, pos, map, All};
+ghost use Rattle.std.specs.Prelude.{◌≡◌, ℕ, ℤ, ◌+◌, ◌-◌, ◌^◌, ◌<◌, ◌≤◌, ◌⊎◌, List, [], ◌++◌, ◌∷◌, IsOk, IfSome, IfOk, OnOk, MatchResult, Ok, Err, vec_items, length, pos, map, All};
 ghost use Rattle.sv8_syntax.specs.Names.{IsLabel, Defines};
+ghost use Rattle.sv8_syntax.specs.Reading.{reading};
 ghost use Rattle.sv8_asm.specs.Size.{size};
-ghost use Rattle.sv8_asm.specs.Code.{bytes};
 ghost use Rattle.sv8_source.specs.Layout.{define, define_label, define_equ, moved, admitted, with_stmt, with_line, laid, valued, start, HasSize};
+ghost use Rattle.sv8_source.specs.Edits.{Sound};
+ghost use Rattle.sv8_source.specs.Kept.{code_bytes};
 ghost use Rattle.sv8_source.specs.Spaced.{Spaced, next_at};
-ghost use Rattle.sv8_source.specs.Listing.{shown};
-ghost use Rattle.sv8_source.specs.Image.{Rising};
 ghost use Rattle.sv8_source.specs.Text.{texts, place_texts};
 
+use crate::assembled::Assembled;
 use crate::fault::{SourceFault, in_line};
+use crate::reading::ReadLine;
+use crate::valued::{Behind, code_of};
 use std::alloc::{AllocError, Global};
 use std::marker::Model;
-use sv8_asm::{Symbols, assemble, constant, size_of};
-use sv8_syntax::{Label, LineFault, Name, Statement, Stmt, parse_line};
+use std::rc::Rc;
+use sv8_asm::{Symbols, constant, size_of};
+use sv8_syntax::{Label, LineFault, Name, Statement, Stmt};
 
-/// A line with what it was read as, and the location before its statement.
+/// A line as it was read, and the location before its statement. The line is shared by all sources that have it.
 #[derive(Drop)]
 pub struct Placed {
-    text: Vec<u8>,
-    stmt: Stmt,
+    line: Rc<ReadLine>,
     at: u32,
 }
 
@@ -32,14 +35,37 @@ impl Model for Placed {
 
     ghost Value = { Place };
 
-    ghost view = { λ p. record { text = p.text.items; stmt = p.stmt; at = p.at } };
+    ghost view = { λ p. record { text = p.line.value.text; stmt = p.line.value.stmt; at = p.at } };
 }
 
 impl Placed {
+    pub fn new(line: Rc<ReadLine>, at: u32) -> Placed
+        ensures { result ≡ record { text = line.value.text; stmt = line.value.stmt; at = at } }
+    {
+        Placed { line, at }
+    }
+
+    /// The same place, with the same line.
+    pub fn share(&self) -> Result<Placed, AllocError>
+        ensures { IfOk result (λ p. p ≡ self.now) }
+    {
+        let line = self.line.clone()?;
+        Ok(Placed { line, at: self.at })
+    }
+
     pub fn text(&self) -> &[u8]
         ensures { result.now ≡ self.now.text }
     {
-        &self.text
+        self.line.text()
+    }
+
+    /// The statement, as the text reads.
+    pub fn stmt(&self) -> &Stmt
+        ensures value { result.now ≡ self.now.stmt }
+        ensures reading { reading self.now.text ≡ Ok self.now.stmt }
+        ensures defines { Defines self.now.stmt }
+    {
+        self.line.stmt()
     }
 
     pub fn at(&self) -> u32
@@ -127,7 +153,7 @@ fn define_equ(
 }
 
 /// The location behind so many bytes.
-fn moved(limit: u32, at: u32, size: u32) -> Result<u32, LineFault>
+pub(crate) fn moved(limit: u32, at: u32, size: u32) -> Result<u32, LineFault>
     ensures { result ≡ moved limit at size }
 {
     match at.checked_add(size) {
@@ -164,25 +190,6 @@ fn admit(
     Ok(next)
 }
 
-/// The value pass over these lines.
-fn code_of(alloc: Global, places: &[Placed], symbols: &Symbols) -> Result<Vec<Vec<u8>>, SourceFault>
-    requires many { length places.now < 2 ^ 32 - 1 }
-    requires sized { All HasSize places.now }
-    ensures { MatchResult result (λ code. valued symbols.now 1 places.now [] ≡ Ok (texts code.items))
-        (λ e. (e ≡ SourceFault.OutOfMemory) ⊎ (valued symbols.now 1 places.now [] ≡ Err e)) }
-{
-    let mut code = Vec::new(alloc);
-    let mut number = 1;
-    for place in places {
-        match assemble(alloc, &place.stmt, number, place.at, symbols) {
-            Ok(bytes) => code.push(bytes).map_err(AllocError::from)?,
-            Err(fault) => return Err(in_line(number, fault)),
-        }
-        number += 1;
-    }
-    Ok(code)
-}
-
 impl Laid {
     pub fn new(alloc: Global) -> Laid
         ensures { result ≡ start }
@@ -194,47 +201,88 @@ impl Laid {
         }
     }
 
-    /// One more line, of a statement.
+    /// One more line, that was read.
     #[tactic(auto, using(crate::proofs::SpacedPlaces::Spaced_push), unfolding(crate::specs::Layout::with_stmt))]
-    fn add_stmt(
+    fn add_read(
         &mut self,
         alloc: Global,
         limit: u32,
-        line: u32,
-        text: &[u8],
-        stmt: Stmt,
+        number: u32,
+        line: Rc<ReadLine>,
     ) -> Result<(), LineFault>
-        requires { Defines stmt }
-        ensures { MatchResult result (λ _. with_stmt limit line text.now stmt self.old ≡ Ok self.new)
-            (λ e. (e ≡ LineFault.OutOfMemory) ⊎ (with_stmt limit line text.now stmt self.old ≡ Err e)) }
+        ensures { MatchResult result (λ _. with_stmt limit number line.value.text line.value.stmt self.old ≡ Ok self.new)
+            (λ e. (e ≡ LineFault.OutOfMemory) ⊎ (with_stmt limit number line.value.text line.value.stmt self.old ≡ Err e)) }
     {
-        let next = admit(alloc, limit, line, self.at, &stmt, &mut self.symbols)?;
-        let text = Vec::from_slice(alloc, text)?;
+        let next = admit(
+            alloc,
+            limit,
+            number,
+            self.at,
+            line.stmt(),
+            &mut self.symbols,
+        )?;
         self.places
-            .push(Placed {
-                text,
-                stmt,
-                at: self.at,
-            })
+            .push(Placed { line, at: self.at })
             .map_err(AllocError::from)?;
         self.at = next;
         Ok(())
     }
 
-    /// One more line.
+    /// One more line, of text.
     #[tactic(auto, unfolding(crate::specs::Layout::with_line))]
     fn add_line(
         &mut self,
         alloc: Global,
         limit: u32,
-        line: u32,
+        number: u32,
         text: &[u8],
     ) -> Result<(), LineFault>
-        ensures { MatchResult result (λ _. with_line limit line text.now self.old ≡ Ok self.new)
-            (λ e. (e ≡ LineFault.OutOfMemory) ⊎ (with_line limit line text.now self.old ≡ Err e)) }
+        ensures { MatchResult result (λ _. with_line limit number text.now self.old ≡ Ok self.new)
+            (λ e. (e ≡ LineFault.OutOfMemory) ⊎ (with_line limit number text.now self.old ≡ Err e)) }
     {
-        let stmt = parse_line(alloc, text)?;
-        self.add_stmt(alloc, limit, line, text, stmt)?;
+        let line = ReadLine::new(alloc, text)?;
+        self.add_read(alloc, limit, number, line)?;
+        Ok(())
+    }
+
+    /// One more line, that a source has.
+    #[tactic(auto, unfolding(crate::specs::Layout::with_line))]
+    fn add_place(
+        &mut self,
+        alloc: Global,
+        limit: u32,
+        number: u32,
+        place: &Placed,
+    ) -> Result<(), LineFault>
+        ensures { MatchResult result (λ _. with_line limit number place.now.text self.old ≡ Ok self.new)
+            (λ e. (e ≡ LineFault.OutOfMemory) ⊎ (with_line limit number place.now.text self.old ≡ Err e)) }
+    {
+        let _stmt = place.stmt();
+        let line = place.line.clone()?;
+        self.add_read(alloc, limit, number, line)?;
+        Ok(())
+    }
+
+    /// The layout pass over lines that a source has, the first of which has this number.
+    pub fn add_places(
+        &mut self,
+        alloc: Global,
+        limit: u32,
+        first: u32,
+        places: &[Placed],
+    ) -> Result<(), SourceFault>
+        requires { first + length places.now < 2 ^ 32 }
+        ensures { MatchResult result (λ _. laid limit first (place_texts places.now) self.old ≡ Ok self.new)
+            (λ e. (e ≡ SourceFault.OutOfMemory) ⊎ (laid limit first (place_texts places.now) self.old ≡ Err e)) }
+    {
+        let mut number = first;
+        for place in places {
+            match self.add_place(alloc, limit, number, place) {
+                Ok(()) => {}
+                Err(fault) => return Err(in_line(number, fault)),
+            }
+            number += 1;
+        }
         Ok(())
     }
 
@@ -247,9 +295,8 @@ impl Laid {
         lines: &[Vec<u8>],
     ) -> Result<(), SourceFault>
         requires { first + length lines.now < 2 ^ 32 }
-        ensures value { MatchResult result (λ _. laid limit first (texts lines.now) self.old ≡ Ok self.new)
+        ensures { MatchResult result (λ _. laid limit first (texts lines.now) self.old ≡ Ok self.new)
             (λ e. (e ≡ SourceFault.OutOfMemory) ⊎ (laid limit first (texts lines.now) self.old ≡ Err e)) }
-        ensures kept { OnOk result (place_texts self.new.places ≡ place_texts self.old.places ++ texts lines.now) }
     {
         let mut number = first;
         for line in lines {
@@ -262,22 +309,29 @@ impl Laid {
         Ok(())
     }
 
-    /// The value pass: the bytes of each line.
+    /// The value pass: the bytes of each line. Those of `old` are kept where they are the same.
     #[tactic(auto, using(crate::proofs::RisingCode::code_rises, crate::proofs::RisingCode::code_length))]
-    pub fn code(&self, alloc: Global) -> Result<Vec<Vec<u8>>, SourceFault>
-        requires { length self.now.places < 2 ^ 32 - 1 }
-        ensures rising { IfOk result (λ code. Rising 0 (shown self.now.places (texts code.items))) }
-        ensures many { IfOk result (λ code. length (texts code.items) ≡ length self.now.places) }
-        ensures value { MatchResult result (λ code. valued self.now.symbols 1 self.now.places [] ≡ Ok (texts code.items))
+    pub fn code(
+        &self,
+        alloc: Global,
+        old: &Assembled,
+        behind: Behind,
+    ) -> Result<Vec<Rc<Vec<u8>>>, SourceFault>
+        requires many { length self.now.places < 2 ^ 32 - 1 }
+        requires few { length old.now.layout.places ≤ 65536 }
+        requires old { valued old.now.layout.symbols 1 old.now.layout.places [] ≡ Ok old.now.code }
+        ensures sound { IfOk result (λ code. Sound (record { layout = self.now; code = code_bytes code.items })) }
+        ensures value { MatchResult result (λ code. valued self.now.symbols 1 self.now.places [] ≡ Ok (code_bytes code.items))
             (λ e. (e ≡ SourceFault.OutOfMemory) ⊎ (valued self.now.symbols 1 self.now.places [] ≡ Err e)) }
     {
-        let code = code_of(alloc, &self.places, &self.symbols)?;
+        let code = code_of(alloc, &self.places, &self.symbols, old, behind)?;
         Ok(code)
     }
 
-    pub fn places(&self) -> &[Placed]
-        ensures { result.now ≡ self.now.places }
+    /// The lines with their places, the names, and the location behind the lines.
+    pub fn into_parts(self) -> (Vec<Placed>, Symbols, u32)
+        ensures { record { places = result.0.items; symbols = result.1; at = result.2 } ≡ self }
     {
-        &self.places
+        (self.places, self.symbols, self.at)
     }
 }

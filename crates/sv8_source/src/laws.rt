@@ -4,7 +4,7 @@ ghost use Rattle.std.specs.Prelude.{◌≡◌, Some, codes, map, [], ◌∷◌};
 ghost use Rattle.sv8_source.specs.declared.fault.SourceFault.TheVariants.{Syntax, UnknownName, DuplicateLabel, OutOfRange, BadAlignment, OrgBackwards, ImageTooLarge};
 ghost use Rattle.sv8_source.specs.Listing.{listing};
 ghost use Rattle.sv8_source.specs.Text.{fault};
-ghost use Rattle.sv8_source.specs.Laws.{TextsAreLines, LinesRise};
+ghost use Rattle.sv8_source.specs.Laws.{TextsAreLines, LinesRise, LowestLineIsNamed, LeastFaultIsNamed};
 
 /// The listing of a source that assembles has its lines, in order.
 pub fn texts_are_lines()
@@ -14,6 +14,17 @@ pub fn texts_are_lines()
 /// Each line of a listing begins behind the bytes of those before it, so no two lines place the same byte.
 pub fn lines_rise()
     ensures { LinesRise }
+{}
+
+/// The fault of a source is that of the lowest faulty line: the lines before it have none in the same pass, and one of the value pass
+/// comes only where the layout pass has none.
+pub fn lowest_line_is_named()
+    ensures { LowestLineIsNamed }
+{}
+
+/// Of several faults that a line has in the layout pass, the one of the lowest number is named.
+pub fn least_fault_is_named()
+    ensures { LeastFaultIsNamed }
 {}
 
 /// Sources that are refused, with the line at fault.

@@ -1,10 +1,11 @@
 //! Lines with their places and their code, by number from 0 on and by address.
 
-ghost use Rattle.std.specs.Prelude.{◌≡◌, ◌-◌, ◌≤◌, ◌<◌, length, Some, None, option_map, slice_get, slice_index};
-ghost use Rattle.sv8_source.specs.Text.{texts};
+ghost use Rattle.std.specs.Prelude.{◌≡◌, ◌-◌, ◌≤◌, ◌<◌, length, true, Some, None, option_map, slice_get, slice_index};
+ghost use Rattle.sv8_source.specs.Kept.{code_bytes};
 ghost use Rattle.sv8_source.specs.Layout.{Place};
 
 use crate::laid::Placed;
+use std::rc::Rc;
 
 pub fn place_in(places: &[Placed], index: usize) -> &Placed
     requires { index < length places.now }
@@ -13,9 +14,9 @@ pub fn place_in(places: &[Placed], index: usize) -> &Placed
     &places[index]
 }
 
-pub fn bytes_in(code: &[Vec<u8>], index: usize) -> &[u8]
+pub fn bytes_in(code: &[Rc<Vec<u8>>], index: usize) -> &[u8]
     requires { index < length code.now }
-    ensures { slice_get (texts code.now) index ≡ Some result.now }
+    ensures { slice_get (code_bytes code.now) index ≡ Some result.now }
 {
     let bytes = &code[index];
     bytes.as_slice()
@@ -30,8 +31,8 @@ pub fn place_at(places: &[Placed], index: usize) -> Option<&Placed>
     }
 }
 
-pub fn bytes_at(code: &[Vec<u8>], index: usize) -> Option<&[u8]>
-    ensures { option_map (λ b. b.now) result ≡ slice_get (texts code.now) index }
+pub fn bytes_at(code: &[Rc<Vec<u8>>], index: usize) -> Option<&[u8]>
+    ensures { option_map (λ b. b.now) result ≡ slice_get (code_bytes code.now) index }
 {
     match code.get(index) {
         Some(bytes) => Some(bytes.as_slice()),
@@ -78,4 +79,31 @@ pub fn lines_up_to(places: &[Placed], address: u64) -> usize
         }
     }
     low
+}
+
+/// Whether so many lines are those up to an address, by the last of them and the next one.
+fn is_count(places: &[Placed], count: usize, address: u64) -> bool
+    requires { count ≤ length places.now }
+    ensures below { result ≡ true → (p : Place) → 0 < count → slice_get places.now (count - 1) ≡ Some p → p.at ≤ address }
+    ensures above { result ≡ true → (p : Place) → slice_get places.now count ≡ Some p → address < p.at }
+{
+    (count == 0 || u64::from(places[count - 1].at()) <= address)
+        && (count == places.len() || address < u64::from(places[count].at()))
+}
+
+/// The same as `lines_up_to`, which is found at once where it is `near`, or one more. Which number `near` is does not matter.
+pub fn lines_near(places: &[Placed], near: usize, address: u64) -> usize
+    ensures most { result ≤ length places.now }
+    ensures below { (p : Place) → 0 < result → slice_get places.now (result - 1) ≡ Some p → p.at ≤ address }
+    ensures above { (p : Place) → slice_get places.now result ≡ Some p → address < p.at }
+{
+    if near < places.len() {
+        if is_count(places, near, address) {
+            return near;
+        }
+        if is_count(places, near + 1, address) {
+            return near + 1;
+        }
+    }
+    lines_up_to(places, address)
 }

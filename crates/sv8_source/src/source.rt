@@ -1,17 +1,16 @@
 //! A source: its lines, its edits, its listing and its image.
 
-ghost use Rattle.std.specs.Prelude.{◌≡◌, ◌+◌, ◌≤◌, ◌⊎◌, [], length, None, IfOk, IfErr, OnErr, OnOk, MatchResult, option_map, nat_lt, true};
-ghost use Rattle.sv8_source.specs.Text.{texts, place_texts, replaced, replaced_lines, is_range, edit_fault, fault};
+ghost use Rattle.std.specs.Prelude.{◌≡◌, ◌+◌, ◌≤◌, ◌⊎◌, [], length, ◌-◌, None, Some, IfOk, IfErr, OnErr, OnOk, MatchResult, option_map, nat_lt, true};
+ghost use Rattle.sv8_source.specs.Text.{texts, replaced, is_range, edit_fault, fault};
 ghost use Rattle.sv8_source.specs.Listing.{listing, numbered};
 ghost use Rattle.sv8_source.specs.View.{shown_of};
 ghost use Rattle.sv8_source.specs.Image.{image_word, image_bytes, changes};
 
 use crate::assembled::Assembled;
 use crate::changes::changes_between;
+use crate::edited::edit;
 use crate::fault::SourceFault;
 use crate::image::Change;
-use crate::laid::Placed;
-use crate::lines::joined;
 use std::alloc::{AllocError, Global};
 use std::marker::Model;
 
@@ -93,24 +92,6 @@ fn is_too_many(kept: usize, new: usize) -> bool
     MOST_LINES < new || MOST_LINES - new < kept
 }
 
-/// The lines after an edit.
-#[tactic(auto, using(crate::proofs::Kept::replaced_places))]
-fn edited(
-    alloc: Global,
-    places: &[Placed],
-    first: usize,
-    last: usize,
-    lines: &[Vec<u8>],
-) -> Result<Vec<Vec<u8>>, AllocError>
-    requires { is_range first last (length places.now) ≡ true }
-    ensures { IfOk result (λ v. texts v.items ≡ replaced_lines first last (texts lines.now) (place_texts places.now)) }
-{
-    let (front, _) = places.split_at(first - 1);
-    let (_, back) = places.split_at(last);
-    let all = joined(alloc, front, lines, back)?;
-    Ok(all)
-}
-
 impl Source {
     /// A source of no lines, for an image of at most `limit` bytes.
     #[tactic(auto, unfolding(crate::specs::Text::assembled))]
@@ -123,24 +104,31 @@ impl Source {
         }
     }
 
-    /// The source of these lines, where they assemble.
-    fn of_lines(alloc: Global, limit: u32, lines: &[Vec<u8>]) -> Result<Source, SourceFault>
-        requires { length lines.now ≤ 65536 }
-        ensures ok { IfOk result (λ s. s ≡ record { limit = limit; lines = texts lines.now }) }
-        ensures value { MatchResult result (λ s. fault (record { limit = limit; lines = texts lines.now }) ≡ None)
-            (λ e. (e ≡ SourceFault.OutOfMemory) ⊎ (fault (record { limit = limit; lines = texts lines.now }) ≡ Some e)) }
-    {
-        let parts = Assembled::new(alloc, limit, lines)?;
-        Ok(Source { limit, parts })
-    }
-
-    /// The words in which the next source's image differs.
+    /// The plan of an edit of lines that are there, which leads to no more lines than a source may have.
     #[tactic(auto, unfolding(crate::specs::Image::changes, crate::specs::Listing::listing))]
-    fn changes_to(&self, alloc: Global, next: &Source) -> Result<Vec<Change>, AllocError>
-        ensures { IfOk result (λ v. v.items ≡ changes self.now next.now) }
+    fn planned(
+        &self,
+        alloc: Global,
+        first: u32,
+        last: u32,
+        lines: &[Vec<u8>],
+    ) -> Result<Plan, SourceFault>
+        requires range { is_range first last (length self.now.lines) ≡ true }
+        requires room { (first - 1) + length lines.now + (length self.now.lines - last) ≤ 65536 }
+        ensures to { IfOk result (λ plan. plan.to ≡ replaced first last (texts lines.now) self.now) }
+        ensures changed { IfOk result (λ plan. plan.changes ≡ changes self.now plan.to) }
+        ensures value { MatchResult result (λ plan. fault (replaced first last (texts lines.now) self.now) ≡ None)
+            (λ e. (e ≡ SourceFault.OutOfMemory) ⊎ (fault (replaced first last (texts lines.now) self.now) ≡ Some e)) }
     {
-        let words = changes_between(alloc, &self.parts, &next.parts, self.limit)?;
-        Ok(words)
+        let next = edit(&self.parts, alloc, self.limit, first, last, lines)?;
+        let words = changes_between(alloc, &self.parts, &next.parts, next.first, next.end)?;
+        Ok(Plan {
+            source: Source {
+                limit: self.limit,
+                parts: next.parts,
+            },
+            words,
+        })
     }
 
     /// Makes an edit ready, by which the lines numbered from `first` to `last` become `lines`. The source stays as it is.
@@ -166,18 +154,14 @@ impl Source {
         ensures err { IfErr result (λ e. (e ≡ SourceFault.OutOfMemory)
             ⊎ (edit_fault first last (texts lines.now) self.now ≡ Some e)) }
     {
-        let (first, last) = (first as usize, last as usize);
-        let places = self.parts.places();
-        if !is_range(first, last, places.len()) {
+        let count = self.parts.places().len();
+        if !is_range(first as usize, last as usize, count) {
             return Err(SourceFault::NoSuchLine);
         }
-        if is_too_many(places.len() - (last + 1 - first), lines.len()) {
+        if is_too_many(count - (last as usize + 1 - first as usize), lines.len()) {
             return Err(SourceFault::TooManyLines);
         }
-        let edited = edited(alloc, places, first, last, lines)?;
-        let source = Source::of_lines(alloc, self.limit, &edited)?;
-        let words = self.changes_to(alloc, &source)?;
-        Ok(Plan { source, words })
+        self.planned(alloc, first, last, lines)
     }
 
     /// Makes the edit of a plan. What stands afterwards is what the plan holds, whichever source it was made from.
@@ -259,6 +243,8 @@ impl Source {
     pub fn image_word(&self, address: u32) -> u32
         ensures { result ≡ image_word self.now address }
     {
-        self.parts.word(u64::from(address))
+        let address = u64::from(address);
+        let near = self.parts.lines_near(0, address);
+        self.parts.word(near, address)
     }
 }

@@ -5,9 +5,10 @@ use Rattle.sv8_source.proofs.changes.changes_between.Given as goal
 
 abbrev pub invariant-loop-word : goal.invariant-loop-word
 invariant-loop-word l = record {
-  within : l.word ≤ l.count;
-  rest : l.changes.items ++ changed (shown_all l.old) (shown_all l.new) l.word (l.count - l.word) ≡ changed (shown_all l.old) (shown_all l.new) 0 l.count;
+  low : l.first ≤ l.word;
+  within : l.word ≤ l.end;
+  rest : l.changes.items ++ changed (shown_all l.old) (shown_all l.new) l.word (l.end - l.word) ≡ changed (shown_all l.old) (shown_all l.new) l.first (l.end - l.first);
 }
 
 abbrev pub decreases-loop-word : goal.decreases-loop-word
-decreases-loop-word l = l.count - l.word
+decreases-loop-word l = l.end - l.word
