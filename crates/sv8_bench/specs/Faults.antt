@@ -3,8 +3,10 @@ use Rattle.std.specs.Prelude.{◌≡◌, ℕ, ◌⊎◌, List, Option, Some, Non
 use Rattle.sv8_source.specs.declared.fault.SourceFault.{SourceFault}
 use Rattle.sv8_source.specs.declared.fault.SourceFault.TheVariants as source
 use Rattle.sv8_source.specs.Text.{edit_fault}
+use Rattle.sv8_time.specs.declared.fault.TimeFault.{TimeFault}
+use Rattle.sv8_time.specs.declared.fault.TimeFault.TheVariants as time
 use Rattle.sv8_bench.specs.declared.fault.BenchFault.{BenchFault}
-use Rattle.sv8_bench.specs.declared.fault.BenchFault.TheVariants.{OutOfMemory, NoSuchLine, TooManyLines, LineTooLong, NotAscii, Syntax, UnknownName, DuplicateLabel, OutOfRange, BadAlignment, OrgBackwards, ImageTooLarge, StepTooLarge}
+use Rattle.sv8_bench.specs.declared.fault.BenchFault.TheVariants.{OutOfMemory, NoSuchLine, TooManyLines, LineTooLong, NotAscii, Syntax, UnknownName, DuplicateLabel, OutOfRange, BadAlignment, OrgBackwards, ImageTooLarge, StepTooLarge, BadAddress, BadLevel, NothingThere, TooManyEvents, InputTooLong}
 use Rattle.sv8_bench.specs.Kept.{Kept}
 
 -- the refusal of the source, as the workbench's own
@@ -22,6 +24,16 @@ of_source (source.BadAlignment line) = BadAlignment line
 of_source (source.OrgBackwards line) = OrgBackwards line
 of_source (source.ImageTooLarge line) = ImageTooLarge line
 
+-- the refusal of the timeline, as the workbench's own
+abbrev pub of_time : TimeFault → BenchFault
+of_time time.OutOfMemory = OutOfMemory
+of_time time.StepTooLarge = StepTooLarge
+of_time time.BadAddress = BadAddress
+of_time time.BadLevel = BadLevel
+of_time time.NothingThere = NothingThere
+of_time time.TooManyEvents = TooManyEvents
+of_time time.InputTooLong = InputTooLong
+
 -- why the lines first to last cannot be replaced by these, or none
 abbrev pub edit_refusal : ℕ → ℕ → List (List ℕ) → Kept → Option BenchFault
 edit_refusal first last lines k = option_map of_source (edit_fault first last lines k.source)
@@ -37,3 +49,11 @@ step_refusal step = if nat_le step last_step then None else Some StepTooLarge
 -- the fault of a query: its refusal, or want of memory where it has none
 abbrev pub IsQueryFault : Option BenchFault → BenchFault → Type 0
 IsQueryFault refusal fault = (refusal ≡ Some fault) ⊎ ((refusal ≡ None) × (fault ≡ OutOfMemory))
+
+-- the fault of an edit of the timeline, told as the workbench's own
+abbrev pub IsTimelineFault : Option TimeFault → BenchFault → Type 0
+IsTimelineFault refusal fault = IsQueryFault (option_map of_time refusal) fault
+
+-- the same where no memory is taken
+abbrev pub IsTimelineRefusal : Option TimeFault → BenchFault → Type 0
+IsTimelineRefusal refusal fault = option_map of_time refusal ≡ Some fault

@@ -23,3 +23,7 @@ empty windows pages = record {
 -- lines first to last are replaced by these
 abbrev pub edited : ℕ → ℕ → List (List ℕ) → Kept → Kept
 edited first last lines k = record k { source = replaced first last lines k.source }
+
+-- the outside events are these
+abbrev pub with_timeline : Schedule → Kept → Kept
+with_timeline timeline k = record k { timeline = timeline }

@@ -4,10 +4,10 @@ ghost use Rattle.std.specs.Prelude.{◌≡◌, ℕ, ◌+◌, ◌*◌, ◌<◌, �
 ghost use Rattle.sv8_source.specs.Text.{texts};
 ghost use Rattle.sv8_source.specs.Listing.{listing, numbered};
 ghost use Rattle.sv8_source.specs.View.{shown_of};
-ghost use Rattle.sv8_time.specs.Schedule.{bytes_below};
+ghost use Rattle.sv8_time.specs.Schedule.{bytes_below, with_poke, without_poke, with_poke_byte, without_poke_byte, with_input, without_input, with_request, without_request, set_poke_fault, clear_poke_fault, set_poke_byte_fault, clear_poke_byte_fault, set_input_fault, clear_input_fault, set_request_fault, clear_request_fault};
 ghost use Rattle.sv8_cpu.specs.Run.{state_at};
-ghost use Rattle.sv8_bench.specs.Faults.{edit_refusal, step_refusal, IsQueryFault};
-ghost use Rattle.sv8_bench.specs.Kept.{empty, edited};
+ghost use Rattle.sv8_bench.specs.Faults.{edit_refusal, step_refusal, IsQueryFault, IsTimelineFault, IsTimelineRefusal};
+ghost use Rattle.sv8_bench.specs.Kept.{empty, edited, with_timeline};
 ghost use Rattle.sv8_bench.specs.Shown.{machine_state, shown_at};
 
 use crate::fault::BenchFault;
@@ -26,7 +26,7 @@ pub const LAST_STEP: u32 = 1_000_000;
 /// (1 to 65,536), and a checkpoint every `K` steps (1 to 1,000,000).
 ///
 /// It keeps the source and the timeline of outside events alone, and each query replays the machine from reset.
-/// No edit puts an event into the timeline yet.
+/// The machine does not meet the events of the timeline yet.
 #[derive(Drop)]
 pub struct Bench<const NW: usize, const PAGES: usize, const K: u32> {
     alloc: Global,
@@ -167,5 +167,137 @@ impl<const NW: usize, const PAGES: usize, const K: u32> Bench<NW, PAGES, K> {
             &mut self.work,
         )?;
         Ok(machine)
+    }
+}
+
+impl<const NW: usize, const PAGES: usize, const K: u32> Bench<NW, PAGES, K> {
+    /// Pokes a word of RAM: the values of its four bytes at a step, over those that stand there.
+    ///
+    /// # Errors
+    ///
+    /// The first that holds: `StepTooLarge` above step 1,000,000; `BadAddress` where the address is no multiple of 4 or the word is
+    /// outside RAM; `TooManyEvents` where 65,536 events stand and none is a poke of this word at this step; else `OutOfMemory`.
+    /// The workbench is then as it was.
+    pub fn set_poke(&mut self, step: u32, address: u32, value: u32) -> Result<(), BenchFault>
+        ensures accepted { OnOk result (set_poke_fault step address self.old.timeline ≡ None) }
+        ensures edited { OnOk result (self.new ≡ with_timeline (with_poke step address value self.old.timeline) self.old) }
+        ensures refused { IfErr result (IsTimelineFault (set_poke_fault step address self.old.timeline)) }
+        ensures unchanged { OnErr result (self.new ≡ self.old) }
+    {
+        self.timeline.set_poke(self.alloc, step, address, value)?;
+        Ok(())
+    }
+
+    /// Clears the pokes of a word's bytes at a step.
+    ///
+    /// # Errors
+    ///
+    /// The first that holds: `StepTooLarge`, `BadAddress`, and `NothingThere` where no byte of the word is poked at this step. The
+    /// workbench is then as it was.
+    pub fn clear_poke(&mut self, step: u32, address: u32) -> Result<(), BenchFault>
+        ensures accepted { OnOk result (clear_poke_fault step address self.old.timeline ≡ None) }
+        ensures edited { OnOk result (self.new ≡ with_timeline (without_poke step address self.old.timeline) self.old) }
+        ensures refused { IfErr result (IsTimelineRefusal (clear_poke_fault step address self.old.timeline)) }
+        ensures unchanged { OnErr result (self.new ≡ self.old) }
+    {
+        self.timeline.clear_poke(step, address)?;
+        Ok(())
+    }
+
+    /// Pokes a byte of RAM: its value at a step, over the one that stands there.
+    ///
+    /// # Errors
+    ///
+    /// The first that holds: `StepTooLarge`; `BadAddress` where the byte is outside RAM; `TooManyEvents` where 65,536 events stand and
+    /// none is a poke of its word at this step; else `OutOfMemory`. The workbench is then as it was.
+    pub fn set_poke_byte(&mut self, step: u32, address: u32, value: u8) -> Result<(), BenchFault>
+        ensures accepted { OnOk result (set_poke_byte_fault step address self.old.timeline ≡ None) }
+        ensures edited { OnOk result (self.new ≡ with_timeline (with_poke_byte step address value self.old.timeline) self.old) }
+        ensures refused { IfErr result (IsTimelineFault (set_poke_byte_fault step address self.old.timeline)) }
+        ensures unchanged { OnErr result (self.new ≡ self.old) }
+    {
+        self.timeline
+            .set_poke_byte(self.alloc, step, address, value)?;
+        Ok(())
+    }
+
+    /// Clears the poke of a byte at a step, and of no other byte of its word.
+    ///
+    /// # Errors
+    ///
+    /// The first that holds: `StepTooLarge`, `BadAddress`, and `NothingThere` where this byte is not poked. The workbench is then
+    /// as it was.
+    pub fn clear_poke_byte(&mut self, step: u32, address: u32) -> Result<(), BenchFault>
+        ensures accepted { OnOk result (clear_poke_byte_fault step address self.old.timeline ≡ None) }
+        ensures edited { OnOk result (self.new ≡ with_timeline (without_poke_byte step address self.old.timeline) self.old) }
+        ensures refused { IfErr result (IsTimelineRefusal (clear_poke_byte_fault step address self.old.timeline)) }
+        ensures unchanged { OnErr result (self.new ≡ self.old) }
+    {
+        self.timeline.clear_poke_byte(step, address)?;
+        Ok(())
+    }
+
+    /// Sets the bytes that come in at the console at a step, at least one, over those that stand there.
+    ///
+    /// # Errors
+    ///
+    /// The first that holds: `StepTooLarge`; `TooManyEvents` where 65,536 events stand and nothing comes in at this step;
+    /// `InputTooLong` above 1,024 bytes; else `OutOfMemory`. The workbench is then as it was.
+    pub fn set_input(&mut self, step: u32, bytes: &[u8]) -> Result<(), BenchFault>
+        requires { 0 < length bytes.now }
+        ensures accepted { OnOk result (set_input_fault step bytes.now self.old.timeline ≡ None) }
+        ensures edited { OnOk result (self.new ≡ with_timeline (with_input step bytes.now self.old.timeline) self.old) }
+        ensures refused { IfErr result (IsTimelineFault (set_input_fault step bytes.now self.old.timeline)) }
+        ensures unchanged { OnErr result (self.new ≡ self.old) }
+    {
+        self.timeline.set_input(self.alloc, step, bytes)?;
+        Ok(())
+    }
+
+    /// Clears the bytes that come in at a step.
+    ///
+    /// # Errors
+    ///
+    /// `StepTooLarge`, or `NothingThere` where nothing comes in. The workbench is then as it was.
+    pub fn clear_input(&mut self, step: u32) -> Result<(), BenchFault>
+        ensures accepted { OnOk result (clear_input_fault step self.old.timeline ≡ None) }
+        ensures edited { OnOk result (self.new ≡ with_timeline (without_input step self.old.timeline) self.old) }
+        ensures refused { IfErr result (IsTimelineRefusal (clear_input_fault step self.old.timeline)) }
+        ensures unchanged { OnErr result (self.new ≡ self.old) }
+    {
+        self.timeline.clear_input(step)?;
+        Ok(())
+    }
+
+    /// Requests an interrupt of a level, 1 to 15, at a step (section 7.3).
+    ///
+    /// # Errors
+    ///
+    /// The first that holds: `StepTooLarge`; `BadLevel`; `TooManyEvents` where 65,536 events stand and this level is not requested at
+    /// this step; else `OutOfMemory`. The workbench is then as it was.
+    pub fn set_request(&mut self, step: u32, level: u32) -> Result<(), BenchFault>
+        ensures accepted { OnOk result (set_request_fault step level self.old.timeline ≡ None) }
+        ensures edited { OnOk result (self.new ≡ with_timeline (with_request step level self.old.timeline) self.old) }
+        ensures refused { IfErr result (IsTimelineFault (set_request_fault step level self.old.timeline)) }
+        ensures unchanged { OnErr result (self.new ≡ self.old) }
+    {
+        self.timeline.set_request(self.alloc, step, level)?;
+        Ok(())
+    }
+
+    /// Clears the request of a level at a step.
+    ///
+    /// # Errors
+    ///
+    /// The first that holds: `StepTooLarge`, `BadLevel`, and `NothingThere` where the level is not requested. The workbench is then
+    /// as it was.
+    pub fn clear_request(&mut self, step: u32, level: u32) -> Result<(), BenchFault>
+        ensures accepted { OnOk result (clear_request_fault step level self.old.timeline ≡ None) }
+        ensures edited { OnOk result (self.new ≡ with_timeline (without_request step level self.old.timeline) self.old) }
+        ensures refused { IfErr result (IsTimelineRefusal (clear_request_fault step level self.old.timeline)) }
+        ensures unchanged { OnErr result (self.new ≡ self.old) }
+    {
+        self.timeline.clear_request(step, level)?;
+        Ok(())
     }
 }

@@ -1,10 +1,11 @@
 //! Why an edit or a query is refused.
 
 ghost use Rattle.std.specs.Prelude.{◌≡◌};
-ghost use Rattle.sv8_bench.specs.Faults.{of_source};
+ghost use Rattle.sv8_bench.specs.Faults.{of_source, of_time};
 
 use std::alloc::AllocError;
 use sv8_source::SourceFault;
+use sv8_time::TimeFault;
 use thiserror::Error;
 
 /// Why an edit or a query is refused. A case with a number is a fault of the edited source, at the line of
@@ -98,6 +99,25 @@ impl From<SourceFault> for BenchFault {
             SourceFault::BadAlignment(line) => BenchFault::BadAlignment(line),
             SourceFault::OrgBackwards(line) => BenchFault::OrgBackwards(line),
             SourceFault::ImageTooLarge(line) => BenchFault::ImageTooLarge(line),
+        }
+    }
+}
+
+impl From<TimeFault> for BenchFault {
+    ghost use Rattle.std.specs.Prelude.{◌≡◌};
+    ghost use Rattle.sv8_bench.specs.Faults.{of_time};
+
+    ghost from_gives = { λ e f. f ≡ of_time e };
+
+    fn from(fault: TimeFault) -> BenchFault {
+        match fault {
+            TimeFault::OutOfMemory => BenchFault::OutOfMemory,
+            TimeFault::StepTooLarge => BenchFault::StepTooLarge,
+            TimeFault::BadAddress => BenchFault::BadAddress,
+            TimeFault::BadLevel => BenchFault::BadLevel,
+            TimeFault::NothingThere => BenchFault::NothingThere,
+            TimeFault::TooManyEvents => BenchFault::TooManyEvents,
+            TimeFault::InputTooLong => BenchFault::InputTooLong,
         }
     }
 }

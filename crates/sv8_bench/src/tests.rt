@@ -31,6 +31,8 @@ enum Question {
     Refuses(u32, u32, &'static [u8], BenchFault),
     /// Whether the machine of `LOOP` follows its lines as they are edited.
     FollowsEdits,
+    /// Whether each edit of `EDITS` has its answer.
+    EditsEvents,
 }
 
 /// The lines of these texts.
@@ -203,6 +205,7 @@ fn answers<const NW: usize, const K: u32>(
             refuses(bench, first, last, &lines, fault)
         }
         Question::FollowsEdits => follows_edits(bench, alloc),
+        Question::EditsEvents => Ok(edits_events(bench)),
     }
 }
 
@@ -257,5 +260,103 @@ fn a_refused_edit_changes_nothing(rt: HostRuntime) -> Result<(), Fail> {
             )?
         );
     }
+    Ok(())
+}
+
+/// An edit of the timeline.
+#[derive(Drop, Clone, Copy)]
+enum Edit {
+    Poke(u32, u32, u32),
+    ClearPoke(u32, u32),
+    PokeByte(u32, u32, u8),
+    ClearPokeByte(u32, u32),
+    Input(u32, &'static [u8]),
+    ClearInput(u32),
+    Request(u32, u32),
+    ClearRequest(u32, u32),
+}
+
+/// Edits of a timeline over 4,096 bytes of RAM, each with its answer: each kind is done, done again over what stands,
+/// cleared, and then found cleared; and each refusal but that of the 65,537th event comes in its order.
+const EDITS: &[(Edit, Result<(), BenchFault>)] = &[
+    (Edit::Poke(5, 0xffc, 0x1122_3344), Ok(())),
+    (Edit::PokeByte(5, 0xffd, 0xaa), Ok(())),
+    (Edit::ClearPokeByte(5, 0xffd), Ok(())),
+    (Edit::ClearPokeByte(5, 0xffd), Err(BenchFault::NothingThere)),
+    (Edit::ClearPoke(5, 0xffc), Ok(())),
+    (Edit::ClearPoke(5, 0xffc), Err(BenchFault::NothingThere)),
+    (Edit::PokeByte(1_000_000, 0xfff, 1), Ok(())),
+    (Edit::ClearPoke(1_000_000, 0xffc), Ok(())),
+    (Edit::Input(10, b"AB"), Ok(())),
+    (Edit::Input(10, &[0; 1_024]), Ok(())),
+    (Edit::ClearInput(10), Ok(())),
+    (Edit::ClearInput(10), Err(BenchFault::NothingThere)),
+    (Edit::Request(2, 15), Ok(())),
+    (Edit::Request(2, 15), Ok(())),
+    (Edit::ClearRequest(2, 15), Ok(())),
+    (Edit::ClearRequest(2, 15), Err(BenchFault::NothingThere)),
+    (Edit::Poke(1_000_001, 2, 0), Err(BenchFault::StepTooLarge)),
+    (Edit::Poke(0, 2, 0), Err(BenchFault::BadAddress)),
+    (Edit::Poke(0, 0x1000, 0), Err(BenchFault::BadAddress)),
+    (Edit::ClearPoke(0, 0xffe), Err(BenchFault::BadAddress)),
+    (Edit::PokeByte(0, 0x1000, 0), Err(BenchFault::BadAddress)),
+    (Edit::ClearPokeByte(0, 0x1000), Err(BenchFault::BadAddress)),
+    (
+        Edit::Input(1_000_001, &[0; 1_025]),
+        Err(BenchFault::StepTooLarge),
+    ),
+    (Edit::Input(0, &[0; 1_025]), Err(BenchFault::InputTooLong)),
+    (Edit::Request(0, 0), Err(BenchFault::BadLevel)),
+    (Edit::Request(0, 16), Err(BenchFault::BadLevel)),
+    (
+        Edit::ClearRequest(1_000_001, 16),
+        Err(BenchFault::StepTooLarge),
+    ),
+    (Edit::ClearRequest(0, 16), Err(BenchFault::BadLevel)),
+];
+
+fn carry_out<const NW: usize, const K: u32>(
+    bench: &mut Bench<NW, 1, K>,
+    edit: Edit,
+) -> Result<(), BenchFault> {
+    match edit {
+        Edit::Poke(step, address, value) => bench.set_poke(step, address, value),
+        Edit::ClearPoke(step, address) => bench.clear_poke(step, address),
+        Edit::PokeByte(step, address, value) => bench.set_poke_byte(step, address, value),
+        Edit::ClearPokeByte(step, address) => bench.clear_poke_byte(step, address),
+        Edit::Input(_, []) => Ok(()),
+        Edit::Input(step, bytes) => bench.set_input(step, bytes),
+        Edit::ClearInput(step) => bench.clear_input(step),
+        Edit::Request(step, level) => bench.set_request(step, level),
+        Edit::ClearRequest(step, level) => bench.clear_request(step, level),
+    }
+}
+
+/// Whether an edit has this answer. Where memory for one that is accepted was refused, it has it when tried again.
+fn has_answer<const NW: usize, const K: u32>(
+    bench: &mut Bench<NW, 1, K>,
+    edit: Edit,
+    answer: Result<(), BenchFault>,
+) -> bool {
+    let mut given = carry_out(bench, edit);
+    if answer.is_ok() && given == Err(BenchFault::OutOfMemory) {
+        given = carry_out(bench, edit);
+    }
+    given == answer
+}
+
+/// Whether each edit has its answer.
+fn edits_events<const NW: usize, const K: u32>(bench: &mut Bench<NW, 1, K>) -> bool {
+    for (edit, answer) in EDITS {
+        if !has_answer(bench, *edit, *answer) {
+            return false;
+        }
+    }
+    true
+}
+
+#[test]
+fn events_are_set_and_cleared(rt: HostRuntime) -> Result<(), Fail> {
+    assert!(rt; holds::<8, 256>(rt.alloc(), &[], Question::EditsEvents)?);
     Ok(())
 }

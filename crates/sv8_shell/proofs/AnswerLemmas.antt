@@ -1,20 +1,23 @@
 -- Lemmas on answers.
-use Rattle.std.proofs.Common.{◌≡◌, ℕ, ◌-◌, ◌<◌, ◌≤◌, ◌⊎◌, Bool, true, false, List, ◌++◌, length, take, drop, Option, Some, None, Result, refl, sym, ap, ◌∙◌, subst, arith, tests, leb, ltb, cond, inl, inr, length-take, length-append, option_map}
+use Rattle.std.proofs.Common.{◌≡◌, ℕ, ◌-◌, ◌<◌, ◌≤◌, ◌⊎◌, Bool, true, false, List, ◌++◌, length, take, drop, Option, Some, None, Result, refl, sym, ap, ◌∙◌, subst, arith, tests, leb, ltb, cond, inl, inr, length-take, length-append, option_map, OnOk, OnErr, IfErr, Ok, Err}
 use Rattle.std.proofs.lemmas.List.{take_all}
 use Rattle.sv8_bench.specs.declared.fault.BenchFault.{BenchFault}
 use Rattle.sv8_bench.specs.declared.fault.BenchFault.TheVariants.{OutOfMemory}
-use Rattle.sv8_bench.specs.Kept.{edited}
-use Rattle.sv8_bench.specs.Faults.{edit_refusal, of_source, IsQueryFault}
+use Rattle.sv8_bench.specs.Kept.{edited, with_timeline}
+use Rattle.sv8_bench.specs.Faults.{edit_refusal, of_source, of_time, IsQueryFault, IsTimelineFault, IsTimelineRefusal}
+use Rattle.sv8_time.specs.declared.fault.TimeFault.{TimeFault}
+use Rattle.sv8_time.specs.declared.fault.TimeFault.TheVariants as time
+use Rattle.sv8_time.specs.Schedule.{Schedule, with_input, set_input_fault, has_input, is_one_too_many}
 use Rattle.sv8_source.specs.declared.fault.SourceFault.{SourceFault}
 use Rattle.sv8_source.specs.declared.fault.SourceFault.TheVariants as source
 use Rattle.sv8_source.specs.Text.{Text, replaced, is_range, text_fault, edit_fault}
 use Rattle.sv8_shell.specs.Refusal.{refusal_of, bad_command}
 use Rattle.sv8_shell.specs.Text.{ok_line, refusal_line}
 use Rattle.sv8_shell.specs.Outcome.{Outcome, changed, refused, unless_refused, may_lack_memory, answer_to, Answers, due, lacking}
-use Rattle.sv8_shell.specs.Commands.{edit_outcome}
+use Rattle.sv8_shell.specs.Commands.{edit_outcome, timeline_outcome}
 use Rattle.sv8_shell.specs.Script.{edit, bad}
 use Rattle.sv8_shell.specs.Session.{State, outcome}
-use Rattle.sv8_shell.specs.Put.{Puts, Replies}
+use Rattle.sv8_shell.specs.Put.{Puts, Replies, edit_text}
 
 -- the answer that is due, under other names
 answers-due : (s : State) (o : Outcome) (t : List ℕ) (l : State) → (answer_to s o).text ≡ t → (answer_to s o).next ≡ l → Answers s o t l
@@ -133,3 +136,73 @@ reply-not-edited r a b s l first last lines kept f e h n put =
     let same = edit_refusal-cases first last s lines kept (kept_cases lines kept e (leb (length kept) 65537) refl) in
     let why : (f ≡ OutOfMemory) ⊎ (edit_refusal first last kept s ≡ Some f) = elim h [ inl m ↦ inl m | inr g ↦ inr (sym same ∙ g) ] in
     subst (λ (v : State). Replies r a b s (edit_outcome first last kept s) v) (sym n) (record { text = refusal_line (refusal_of f); answers = not_edited s first last kept f why; put = put })
+
+-- ---- an edit of the timeline
+
+pub reply-timeline : {A E : Type 0} (r : Result A E) (edit : Result (Unit {0}) BenchFault) (a b : Option (List ℕ)) (s l : State) (fault : Option TimeFault) (timeline : Schedule)
+    → OnOk edit (fault ≡ None) → OnOk edit (l ≡ with_timeline timeline s) → IfErr edit (IsTimelineFault fault) → OnErr edit (l ≡ s) → Puts r a b (edit_text edit)
+    → Replies r a b s (timeline_outcome fault timeline s) l
+reply-timeline r (Ok u) a b s l fault timeline ok new err old put =
+    reply-done r a b s l (option_map of_time fault) (changed (with_timeline timeline s)) ok_line (ap (option_map of_time) ok) refl (sym new) put
+reply-timeline r (Err e) a b s l fault timeline ok new err old put =
+    reply-refused r a b s l (option_map of_time fault) (changed (with_timeline timeline s)) e err refl old put
+
+-- one that takes no memory
+pub reply-cleared : {A E : Type 0} (r : Result A E) (edit : Result (Unit {0}) BenchFault) (a b : Option (List ℕ)) (s l : State) (fault : Option TimeFault) (timeline : Schedule)
+    → OnOk edit (fault ≡ None) → OnOk edit (l ≡ with_timeline timeline s) → IfErr edit (IsTimelineRefusal fault) → OnErr edit (l ≡ s) → Puts r a b (edit_text edit)
+    → Replies r a b s (timeline_outcome fault timeline s) l
+reply-cleared r (Ok u) a b s l fault timeline ok new err old put = reply-timeline r (Ok u) a b s l fault timeline ok new tt old put
+reply-cleared r (Err e) a b s l fault timeline ok new err old put = reply-timeline r (Err e) a b s l fault timeline ok new (inl err) old put
+
+-- ---- an input of which at most 1,025 bytes were handed on
+
+-- they are those given, or both are too many
+FirstOrLong : List ℕ → List ℕ → Type 0
+FirstOrLong first bytes = (first ≡ bytes) ⊎ ((1024 < length first) × (1024 < length bytes))
+
+first_cases : (first bytes : List ℕ) → first ≡ take 1025 bytes → (b : Bool) → leb (length bytes) 1025 ≡ b → FirstOrLong first bytes
+unfolding FirstOrLong
+first_cases first bytes e true h = inl (e ∙ take_all 1025 bytes (search (arith, tests)))
+first_cases first bytes e false h =
+    let many : 1025 < length bytes = search (arith, tests) in
+    inr (omega (arith, ap length e, length-take 1025 bytes), omega arith)
+
+-- the fault of an input whose bytes are this long or not
+input_fault : ℕ → Bool → Schedule → Option TimeFault
+input_fault step long s =
+    cond (ltb 1000000 step) (Some time.StepTooLarge) (cond (is_one_too_many (has_input step s.inputs) s) (Some time.TooManyEvents) (cond long (Some time.InputTooLong) None))
+
+input_fault-is : (step : ℕ) (bytes : List ℕ) (s : Schedule) → set_input_fault step bytes s ≡ input_fault step (ltb 1024 (length bytes)) s
+unfolding input_fault
+input_fault-is step bytes s = refl
+
+is_long : (bytes : List ℕ) → 1024 < length bytes → ltb 1024 (length bytes) ≡ true
+is_long bytes h = search (arith, tests)
+
+first_fault : (step : ℕ) (first bytes : List ℕ) (s : Schedule) → FirstOrLong first bytes → set_input_fault step first s ≡ set_input_fault step bytes s
+unfolding FirstOrLong
+first_fault step first bytes s (inl e) = ap (λ b. set_input_fault step b s) e
+first_fault step first bytes s (inr m) =
+    input_fault-is step first s ∙ ap (λ l. input_fault step l s) (is_long first m.0 ∙ sym (is_long bytes m.1)) ∙ sym (input_fault-is step bytes s)
+
+long_refused : (step : ℕ) (s : Schedule) (a b : Bool) → cond a (Some time.StepTooLarge) (cond b (Some time.TooManyEvents) (Some time.InputTooLong)) ≡ None → ⊥
+long_refused step s true b h = cc
+long_refused step s false true h = cc
+long_refused step s false false h = cc
+
+first_accepted : (step : ℕ) (first bytes : List ℕ) (s : Schedule) → FirstOrLong first bytes → set_input_fault step first s ≡ None → first ≡ bytes
+unfolding FirstOrLong input_fault
+first_accepted step first bytes s (inl e) h = e
+first_accepted step first bytes s (inr m) h =
+    absurd (long_refused step s (ltb 1000000 step) (is_one_too_many (has_input step s.inputs) s) (sym (ap (λ l. input_fault step l s) (is_long first m.0)) ∙ sym (input_fault-is step first s) ∙ h))
+
+pub reply-input : {A E : Type 0} (r : Result A E) (edit : Result (Unit {0}) BenchFault) (a b : Option (List ℕ)) (s l : State) (step : ℕ) (first bytes : List ℕ) → first ≡ take 1025 bytes
+    → OnOk edit (set_input_fault step first s.timeline ≡ None) → OnOk edit (l ≡ with_timeline (with_input step first s.timeline) s) → IfErr edit (IsTimelineFault (set_input_fault step first s.timeline)) → OnErr edit (l ≡ s)
+    → Puts r a b (edit_text edit) → Replies r a b s (timeline_outcome (set_input_fault step bytes s.timeline) (with_input step bytes s.timeline) s) l
+reply-input r (Ok u) a b s l step first bytes e ok new err old put =
+    let same : first ≡ bytes = first_accepted step first bytes s.timeline (first_cases first bytes e (leb (length bytes) 1025) refl) ok in
+    subst (λ (k : List ℕ). Replies r a b s (timeline_outcome (set_input_fault step k s.timeline) (with_input step k s.timeline) s) l) same
+    (reply-timeline r (Ok u) a b s l (set_input_fault step first s.timeline) (with_input step first s.timeline) ok new err old put)
+reply-input r (Err f) a b s l step first bytes e ok new err old put =
+    let same = first_fault step first bytes s.timeline (first_cases first bytes e (leb (length bytes) 1025) refl) in
+    reply-timeline r (Err f) a b s l (set_input_fault step bytes s.timeline) (with_input step bytes s.timeline) ok new (subst (λ (g : Option TimeFault). IsTimelineFault g f) same err) old put

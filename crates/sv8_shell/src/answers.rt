@@ -1,30 +1,51 @@
 //! The answer to each command: what it asks of the workbench, and what is told of it.
 ghost use Rattle.std.specs.Prelude.{◌≡◌, ℕ, ◌++◌, ◌∷◌, [], List, take};
 ghost use Rattle.sv8_source.specs.Text.{texts};
-ghost use Rattle.sv8_shell.specs.Put.{Puts, Replies};
+ghost use Rattle.sv8_shell.specs.Put.{Puts, Replies, edit_text};
 ghost use Rattle.sv8_shell.specs.Text.{ok_line, regs_text};
 ghost use Rattle.sv8_shell.specs.Commands.{edit_outcome, outcome_of};
-ghost use Rattle.sv8_shell.specs.declared.command.Command.TheVariants.{Listing, Regs, Quit};
+ghost use Rattle.sv8_shell.specs.declared.command.Command.TheVariants.{Input, Listing, Regs, Quit};
 
 use crate::command::Command;
+use crate::hex_bytes::HexBytes;
 use crate::listing::add_listing;
 use crate::put::{WriteFault, accept, done, refuse};
 use crate::refusal::refusal_of;
 use crate::text::Text;
 use crate::texts::add_regs;
 use std::io::Write;
-use sv8_bench::{Bench, Shown};
+use sv8_bench::{Bench, BenchFault, Shown};
 
 /// Answers a command that takes no lines.
 pub fn answer<const NW: usize, const PAGES: usize, const K: u32, W: Write>(
     bench: &mut Bench<NW, PAGES, K>,
     writer: &mut W,
-    command: Command,
+    command: Command<'_>,
 ) -> Result<(), WriteFault>
-    ensures { Replies result (W.contents writer.old) (W.contents writer.new) bench.old (outcome_of command bench.old) bench.new }
+    ensures { Replies result (W.contents writer.old) (W.contents writer.new) bench.old (outcome_of command.entry bench.old) bench.new }
 {
     match command {
         Command::Edit { first, last, .. } => answer_edit(bench, writer, first, last, &[]),
+        Command::Poke {
+            step,
+            address,
+            value,
+        } => tell_edit(writer, bench.set_poke(step, address, value)),
+        Command::ClearPoke { step, address } => tell_edit(writer, bench.clear_poke(step, address)),
+        Command::PokeByte {
+            step,
+            address,
+            value,
+        } => tell_edit(writer, bench.set_poke_byte(step, address, value)),
+        Command::ClearPokeByte { step, address } => {
+            tell_edit(writer, bench.clear_poke_byte(step, address))
+        }
+        Command::Input { step, bytes } => answer_input(bench, writer, step, bytes),
+        Command::ClearInput { step } => tell_edit(writer, bench.clear_input(step)),
+        Command::Request { step, level } => tell_edit(writer, bench.set_request(step, level)),
+        Command::ClearRequest { step, level } => {
+            tell_edit(writer, bench.clear_request(step, level))
+        }
         Command::Listing => answer_listing(bench, writer),
         Command::Regs { step } => answer_regs(bench, writer, step),
         Command::Quit => answer_quit(bench, writer),
@@ -46,6 +67,29 @@ pub fn answer_edit<const NW: usize, const PAGES: usize, const K: u32, W: Write>(
         Ok(()) => done(writer),
         Err(fault) => refuse(writer, refusal_of(fault)),
     }
+}
+
+/// The answer to an edit of the timeline.
+fn tell_edit<W: Write>(writer: &mut W, edit: Result<(), BenchFault>) -> Result<(), WriteFault>
+    ensures { Puts result (W.contents writer.old) (W.contents writer.new) (edit_text edit) }
+{
+    match edit {
+        Ok(()) => done(writer),
+        Err(fault) => refuse(writer, refusal_of(fault)),
+    }
+}
+
+/// At most 1,025 bytes are handed on, which are too many whatever they are.
+fn answer_input<const NW: usize, const PAGES: usize, const K: u32, W: Write>(
+    bench: &mut Bench<NW, PAGES, K>,
+    writer: &mut W,
+    step: u32,
+    bytes: HexBytes<'_>,
+) -> Result<(), WriteFault>
+    ensures { Replies result (W.contents writer.old) (W.contents writer.new) bench.old (outcome_of (Input step bytes.entry) bench.old) bench.new }
+{
+    let first = bytes.first();
+    tell_edit(writer, bench.set_input(step, first.as_slice()))
 }
 
 fn answer_listing<const NW: usize, const PAGES: usize, const K: u32, W: Write>(

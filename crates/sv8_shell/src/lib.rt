@@ -6,6 +6,7 @@ mod bytes;
 mod command;
 mod driver;
 mod gathering;
+mod hex_bytes;
 pub mod laws;
 mod line;
 mod listing;
@@ -15,6 +16,8 @@ mod refusal;
 mod script;
 mod text;
 mod texts;
+mod words;
 
 pub use command::{BadCommand, Command, parse_command};
 pub use driver::{RunFault, run};
+pub use hex_bytes::HexBytes;

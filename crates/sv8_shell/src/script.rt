@@ -6,10 +6,11 @@ ghost use Rattle.sv8_shell.specs.Script.{Stage, step, step_of_line, step_of_word
 ghost use Rattle.sv8_shell.specs.Gathers.{IsAt, IsKept, Steps, idle_after, is_taking};
 
 use crate::answers::{answer, answer_edit};
-use crate::command::{Command, next_word, parse_command};
+use crate::command::{Command, parse_command};
 use crate::gathering::{Gathering, Pending};
 use crate::put::{WriteFault, refuse};
 use crate::refusal::{bad_command, refusal_of};
+use crate::words::next_word;
 use std::alloc::Global;
 use std::io::Write;
 use sv8_bench::{Bench, BenchFault};
@@ -90,10 +91,10 @@ fn obey<const NW: usize, const PAGES: usize, const K: u32, W: Write>(
     alloc: Global,
     bench: &mut Bench<NW, PAGES, K>,
     writer: &mut W,
-    command: Command,
+    command: Command<'_>,
 ) -> Result<Gathering, WriteFault>
     ensures { Steps result (W.contents writer.old) (W.contents writer.new) bench.old
-        (step_of_command (Some command)) bench.new }
+        (step_of_command (Some command.entry)) bench.new }
 {
     let next = gathering_after(alloc, &command);
     if next.is_taking() {
@@ -106,7 +107,7 @@ fn obey<const NW: usize, const PAGES: usize, const K: u32, W: Write>(
 }
 
 /// What waits after a command.
-fn gathering_after(alloc: Global, command: &Command) -> Gathering
+fn gathering_after(alloc: Global, command: &Command<'_>) -> Gathering
     ensures { IsAt result (stage_after command.now) }
 {
     match command {

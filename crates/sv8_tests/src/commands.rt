@@ -51,6 +51,123 @@ fn lines_that_are_commands(rt: HostRuntime) -> Result<(), Fail> {
 }
 
 #[test]
+fn lines_that_edit_the_timeline(rt: HostRuntime) -> Result<(), Fail> {
+    assert!(rt;
+        matches!(
+            parse_command(b"\tpoke\t0000000005  0000fFfC AbCdEf01 "),
+            Ok(Command::Poke {
+                step: 5,
+                address: 0xfffc,
+                value: 0xabcd_ef01
+            })
+        )
+    );
+    assert!(rt;
+        matches!(
+            parse_command(b"unpoke 4294967295 FFFFFFFF"),
+            Ok(Command::ClearPoke {
+                step: u32::MAX,
+                address: u32::MAX
+            })
+        )
+    );
+    assert!(rt;
+        matches!(
+            parse_command(b"pokeb 5 101 aA"),
+            Ok(Command::PokeByte {
+                step: 5,
+                address: 0x101,
+                value: 0xaa
+            })
+        )
+    );
+    assert!(rt;
+        matches!(
+            parse_command(b"unpokeb 10 10"),
+            Ok(Command::ClearPokeByte {
+                step: 10,
+                address: 16
+            })
+        )
+    );
+    assert!(rt;
+        matches!(
+            parse_command(b"uninput 10"),
+            Ok(Command::ClearInput { step: 10 })
+        )
+    );
+    assert!(rt;
+        matches!(
+            parse_command(b"irq 10 10"),
+            Ok(Command::Request {
+                step: 10,
+                level: 10
+            })
+        )
+    );
+    assert!(rt;
+        matches!(
+            parse_command(b"unirq 10 99"),
+            Ok(Command::ClearRequest {
+                step: 10,
+                level: 99
+            })
+        )
+    );
+    Ok(())
+}
+
+/// Whether a line sets these bytes as the input of step 3.
+fn is_input(line: &[u8], wanted: &[u8]) -> bool {
+    match parse_command(line) {
+        Ok(Command::Input { step: 3, bytes }) => bytes.first().as_slice() == wanted,
+        _ => false,
+    }
+}
+
+#[test]
+fn bytes_of_an_input(rt: HostRuntime) -> Result<(), Fail> {
+    assert!(rt; is_input(b"input 3 09", &[0x09]));
+    assert!(rt; is_input(b"input 3\tafFA4142  ", &[0xaf, 0xfa, 0x41, 0x42]));
+    Ok(())
+}
+
+#[test]
+fn lines_that_edit_no_timeline(rt: HostRuntime) -> Result<(), Fail> {
+    let lines: [&[u8]; 25] = [
+        b"poke",
+        b"poke 0 0",
+        b"poke 0 0 0 0",
+        b"poke 0 000000000 0",
+        b"poke 0 0 123456789",
+        b"poke 0 0x0 0",
+        b"poke 0 g 0",
+        b"poke 0 0 -1",
+        b"poke a 0 0",
+        b"poke 00000000001 0 0",
+        b"Poke 0 0 0",
+        b"unpoke 0",
+        b"unpoke 0 0 0",
+        b"pokeb 0 0 100",
+        b"pokeb 0 0 001",
+        b"pokeb 0 0",
+        b"unpokeb 0 0 0",
+        b"input 0",
+        b"input 0 4",
+        b"input 0 414",
+        b"input 0 4g",
+        b"input 0 41 42",
+        b"uninput 0 0",
+        b"irq 0 f",
+        b"unirq 0",
+    ];
+    for line in lines {
+        assert!(rt; parse_command(line).is_err());
+    }
+    Ok(())
+}
+
+#[test]
 fn lines_that_are_none(rt: HostRuntime) -> Result<(), Fail> {
     let lines: [&[u8]; 24] = [
         b"",

@@ -5,6 +5,8 @@
 mod commands;
 pub mod ends;
 #[cfg(test)]
+mod events;
+#[cfg(test)]
 mod faults;
 #[cfg(test)]
 mod refusals;
