@@ -64,4 +64,4 @@ unfolding exchanged_at
 exchanged_word keeps limit u o o1 o2 ts ts1 ts2 size asi at value old x y s inside h k e =
     does_if_true keeps (nat_lt at limit) _ _ o o2 s ts ts2 inside
     (does_then keeps (ram_load size at) (λ v. ram_store size at value (served u v)) o o1 o2 old s ts ts1 ts2 h
-      (rw (← store_then size at value x (served u old)) (does_map keeps (ram_store size at value x) (λ z. served u old) o1 o2 y s ts1 ts2 k e)))
+    (rw (← store_then size at value x (served u old)) (does_map keeps (ram_store size at value x) (λ z. served u old) o1 o2 y s ts1 ts2 k e)))

@@ -161,7 +161,7 @@ pub loaded : (size : ℕ) (ls : List ListedLine) (ram : List ℕ) → Rising 0 l
 loaded size ls ram r e =
     let shown = shows size 0 ls (replicate size 0) r (length-zeros size) in
     sym e ∙ fill_by_all (byte_at ls) (lines_placed size ls (replicate size 0)) size 0 (length-lines size ls (replicate size 0) ∙ length-zeros size)
-        (λ k h. shown.high (λ b g. zeros size b) k h (omega arith))
+    (λ k h. shown.high (λ b g. zeros size b) k h (omega arith))
 
 past : (ls : List ListedLine) (n : ℕ) → length ls ≤ n → drop n ls ≡ []
 past [] zero h = refl

@@ -76,8 +76,8 @@ return_traps windows p rs1 operand =
     if p.registers.psr.et
     then (if p.registers.psr.s then IllegalInstruction ∷ [] else PrivilegedInstruction ∷ [])
     else when (not p.registers.psr.s) PrivilegedInstruction
-        ++ when (bit p.registers.wim (above windows p.registers.cwp)) WindowUnderflow
-        ++ when (is_misaligned (sum_of_sources windows p rs1 operand)) MemAddressNotAligned
+    ++ when (bit p.registers.wim (above windows p.registers.cwp)) WindowUnderflow
+    ++ when (is_misaligned (sum_of_sources windows p rs1 operand)) MemAddressNotAligned
 
 -- ---- Ticc (B.27)
 

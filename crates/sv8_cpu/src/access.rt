@@ -8,9 +8,16 @@ use sv8_trap::Trap;
 pub enum Request {
     Nothing,
     /// Fetches an instruction.
-    Fetch { supervisor: bool, at: u32 },
+    Fetch {
+        supervisor: bool,
+        at: u32,
+    },
     /// Loads from an address space.
-    Load { size: Size, asi: u8, at: u32 },
+    Load {
+        size: Size,
+        asi: u8,
+        at: u32,
+    },
     /// Stores the low bytes of a number to an address space.
     Store {
         size: Size,

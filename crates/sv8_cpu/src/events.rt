@@ -30,10 +30,7 @@ fn poke_byte<const PAGES: usize>(
 }
 
 /// Writes the poked bytes of a word.
-fn poke_word<const PAGES: usize>(
-    phys: &mut Phys<PAGES>,
-    word: &WordPoke,
-) -> Result<(), AllocError>
+fn poke_word<const PAGES: usize>(phys: &mut Phys<PAGES>, word: &WordPoke) -> Result<(), AllocError>
     requires { word.now.address + 4 ≤ ram_size PAGES }
     ensures { OnOk result (phys.new ≡ record phys.old { ram = word_poked word.now phys.old.ram }) }
 {
@@ -97,7 +94,6 @@ pub fn happen<const PAGES: usize>(
 
 /// The step up to which input bytes have arrived when step n does what it does.
 #[inline(always)]
-
 pub fn end_of(n: u32, timeline: &Timeline) -> u32
     ensures arrived { arrived result timeline.now ≡ arrived (n + 1) timeline.now }
     ensures below { bytes_below result timeline.now.inputs ≡ bytes_below (n + 1) timeline.now.inputs }

@@ -17,10 +17,12 @@ mod state_registers;
 mod windows;
 
 use crate::access::Request;
-use arithmetic::{arithmetic, arithmetic_trap, multiply_step, set_upper, shift, tagged, tagged_trap};
+use arithmetic::{
+    arithmetic, arithmetic_trap, multiply_step, set_upper, shift, tagged, tagged_trap,
+};
 use control::{branch, call, go_back, jump, jump_trap, number_trap, return_trap};
-use memory::{access_of, alternate_trap, finish_access, memory_trap};
 pub use memory::low_word;
+use memory::{access_of, alternate_trap, finish_access, memory_trap};
 use state_registers::{read_state, read_trap, write_state, write_trap};
 use sv8_isa::{Instr, Operand, is_queue_store};
 use sv8_trap::{Processor, Trap};
@@ -103,7 +105,10 @@ pub fn raised_by<const NW: usize>(p: &Processor<NW>, instr: Instr) -> Option<Tra
         | Instr::Flush { .. } => None,
         Instr::Arith { op, operand, .. } => arithmetic_trap(p, op, operand),
         Instr::Tagged {
-            op, rs1, operand, ..
+            op,
+            rs1,
+            operand,
+            ..
         } => tagged_trap(p, op, rs1, operand),
         Instr::ReadState { register, .. } => read_trap(p, register),
         Instr::WriteState {
@@ -123,7 +128,11 @@ pub fn raised_by<const NW: usize>(p: &Processor<NW>, instr: Instr) -> Option<Tra
             operand,
         } => memory_trap(op, rd, sum_of_sources(p, rs1, operand)),
         Instr::Alternate {
-            op, rd, rs1, rs2, ..
+            op,
+            rd,
+            rs1,
+            rs2,
+            ..
         } => alternate_trap(p, op, rd, sum_of_sources(p, rs1, Operand::Register(rs2))),
         Instr::Fp(word) => disabled_trap(p, word, Trap::FpDisabled),
         Instr::Cp(word) => disabled_trap(p, word, Trap::CpDisabled),

@@ -382,8 +382,8 @@ impl<const NW: usize, const PAGES: usize> Model for Machine<NW, PAGES> {
     ghost use Rattle.std.specs.Prelude.{◌≤◌};
     ghost use Rattle.sv8_cpu.specs.State.{State};
     ghost use Rattle.sv8_cpu.specs.State.{reset_state};
-ghost use Rattle.sv8_cpu.specs.Work.{counted};
-ghost use Rattle.sv8_cpu.specs.View.{state_of};
+    ghost use Rattle.sv8_cpu.specs.Work.{counted};
+    ghost use Rattle.sv8_cpu.specs.View.{state_of};
 
     ghost Value = { State };
 
@@ -391,7 +391,6 @@ ghost use Rattle.sv8_cpu.specs.View.{state_of};
 
     ghost invariant = { λ m. (2 ≤ NW) × (NW ≤ 32) × (PAGES ≤ 65536) };
 }
-
 
 impl<const NW: usize, const PAGES: usize> Machine<NW, PAGES> {
     /// The machine after reset (chapter 7), with the image of a source in its RAM over zeros: PC 0, nPC 4, S = 1

@@ -136,12 +136,7 @@ impl<const PAGES: usize> Memory<PAGES> {
     /// Fetches an instruction.
     #[inline(always)]
     #[tactic(auto, unfolding(crate::specs::Access::fetched_from))]
-    fn fetch<T: Touches>(
-        &mut self,
-        asi: u8,
-        at: u32,
-        notes: &mut T,
-    ) -> Result<Response, AllocError>
+    fn fetch<T: Touches>(&mut self, asi: u8, at: u32, notes: &mut T) -> Result<Response, AllocError>
         requires { at % 4 ≡ 0 }
         ensures ok { IfOk result (λ r. (bytes : List ℕ) → Does T.KEEPS (fetched_from (ram_size PAGES) (units_of self.old) asi at)
             (outside_of self.old.phys bytes) (outside_of self.new.phys bytes) (record { response = r; units = units_of self.new }) (T.noted notes.old) (T.noted notes.new)) }

@@ -9,7 +9,7 @@ mod table;
 #[cfg(test)]
 mod tests;
 
-pub use laws::{the_first_is_taken, worked_interrupts, worked_table, worked_traps};
 pub use entry::highest_level;
+pub use laws::{the_first_is_taken, worked_interrupts, worked_table, worked_traps};
 pub use processor::Processor;
 pub use table::{Row, Trap, select};

@@ -7,8 +7,8 @@ ghost use Rattle.sv8_trap.specs.Table.{taken};
 ghost use Rattle.sv8_cpu.specs.Memory.{size_of, odd_register, takes_pair, memory_traps, pair, access_of, low_word, sign_extended, with_pair, transferred_data};
 ghost use Rattle.sv8_cpu.specs.Instruction.{alternate_traps};
 
-use crate::access::Request;
 use super::word_of;
+use crate::access::Request;
 use sv8_isa::MemoryOp;
 use sv8_phys::Size;
 use sv8_trap::{Processor, Trap};
@@ -225,11 +225,8 @@ pub fn finish_access<const NW: usize>(p: &mut Processor<NW>, op: MemoryOp, rd: u
     ensures { p.new ≡ transferred_data NW p.old op rd value }
 {
     match op {
-        MemoryOp::Ld
-        | MemoryOp::Ldub
-        | MemoryOp::Lduh
-        | MemoryOp::Ldstub
-        | MemoryOp::Swap => p.finish_with(rd, low_word(value)),
+        MemoryOp::Ld | MemoryOp::Ldub | MemoryOp::Lduh | MemoryOp::Ldstub | MemoryOp::Swap =>
+            p.finish_with(rd, low_word(value)),
         MemoryOp::Ldsb => p.finish_with(rd, extended_byte(value)),
         MemoryOp::Ldsh => p.finish_with(rd, extended_half(value)),
         MemoryOp::Ldd => finish_with_pair(p, rd, value),

@@ -38,13 +38,7 @@ pub fn restore_trap<const NW: usize>(p: &Processor<NW>) -> Option<Trap>
 /// Writes the sum of sources of this window to a register of another one, which becomes the current one.
 #[inline(always)]
 #[tactic(auto, unfolding(crate::specs::Windows::moved))]
-fn move_to<const NW: usize>(
-    p: &mut Processor<NW>,
-    window: u32,
-    rd: u8,
-    rs1: u8,
-    operand: Operand,
-)
+fn move_to<const NW: usize>(p: &mut Processor<NW>, window: u32, rd: u8, rs1: u8, operand: Operand)
     requires window { window < NW }
     requires rd { rd < 32 }
     requires rs1 { rs1 < 32 }

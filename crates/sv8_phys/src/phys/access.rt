@@ -81,7 +81,12 @@ impl<const PAGES: usize> Phys<PAGES> {
     ///
     /// `AllocError` where memory for a note cannot be had.
     #[inline(always)]
-    pub fn read_ram<T: Touches>(&self, pa: u64, size: Size, notes: &mut T) -> Result<u64, AllocError>
+    pub fn read_ram<T: Touches>(
+        &self,
+        pa: u64,
+        size: Size,
+        notes: &mut T,
+    ) -> Result<u64, AllocError>
         requires within { pa < ram_size PAGES }
         requires aligned { pa % bytes_in size ≡ 0 }
         ensures ok { IfOk result (λ v. (bytes : List ℕ) → Does T.KEEPS (ram_load size pa)
