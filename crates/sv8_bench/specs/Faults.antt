@@ -1,5 +1,5 @@
 -- The refusals.
-use Rattle.std.specs.Prelude.{◌≡◌, ℕ, ◌⊎◌, List, Option, Some, None, option_map, nat_le, if◌then◌else◌}
+use Rattle.std.specs.Prelude.{◌≡◌, ℕ, ◌+◌, ◌*◌, ◌%◌, ◌==◌, ◌&&◌, ◌⊎◌, Bool, max, List, Option, Some, None, option_map, nat_le, if◌then◌else◌}
 use Rattle.sv8_source.specs.declared.fault.SourceFault.{SourceFault}
 use Rattle.sv8_source.specs.declared.fault.SourceFault.TheVariants as source
 use Rattle.sv8_source.specs.Text.{edit_fault}
@@ -45,6 +45,15 @@ last_step = 1000000
 -- why a step is not shown, or none
 unfoldable pub step_refusal : ℕ → Option BenchFault
 step_refusal step = if nat_le step last_step then None else Some StepTooLarge
+
+-- so many words of RAM from an address on, of so many bytes; none at all still asks for the word at the address
+abbrev pub are_words : ℕ → ℕ → ℕ → Bool
+are_words address count size = address % 4 == 0 && nat_le (address + 4 * max count 1) size
+
+-- why words are not shown, or none
+unfoldable pub words_refusal : ℕ → ℕ → ℕ → Kept → Option BenchFault
+words_refusal step address count k =
+    if nat_le step last_step then (if are_words address count (4096 * k.pages) then None else Some BadAddress) else Some StepTooLarge
 
 -- the fault of a query: its refusal, or want of memory where it has none
 abbrev pub IsQueryFault : Option BenchFault → BenchFault → Type 0

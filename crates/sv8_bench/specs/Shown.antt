@@ -1,5 +1,6 @@
 -- What is shown of a state.
-use Rattle.std.specs.Prelude.{ℕ, List, length, map}
+use Rattle.std.specs.Prelude.{ℕ, ◌+◌, ◌/◌, List, length, map}
+use Rattle.sv8_model.specs.Outside.{word_of}
 use Rattle.std.specs.List.{range_with_len}
 use Rattle.sv8_regs.specs.Ring.{Registers, read}
 use Rattle.sv8_regs.specs.Control.{packed_psr}
@@ -41,3 +42,15 @@ machine_state k n = state_at k.windows k.pages k.source k.timeline n
 -- what is shown of it
 abbrev pub shown_at : Kept → ℕ → Shown
 shown_at k n = shown_state k.windows k.timeline n (machine_state k n)
+
+-- so many words of RAM from an address on
+unfoldable pub words_in : List ℕ → ℕ → ℕ → List ℕ
+words_in ram address count = map (λ i. word_of ram (address / 4 + i)) (range_with_len 0 count)
+
+-- the same at a step
+abbrev pub words_shown : Kept → ℕ → ℕ → ℕ → List ℕ
+words_shown k n address count = words_in (machine_state k n).memory.ram address count
+
+-- the bytes put out at the console below a step
+abbrev pub output_shown : Kept → ℕ → List ℕ
+output_shown k n = (machine_state k n).memory.output

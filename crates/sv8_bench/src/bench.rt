@@ -1,14 +1,14 @@
 //! The workbench.
 
-ghost use Rattle.std.specs.Prelude.{◌≡◌, ℕ, ◌+◌, ◌*◌, ◌<◌, ◌≤◌, ◌⊎◌, [], length, None, Some, IfOk, IfErr, OnOk, OnErr, option_map};
+ghost use Rattle.std.specs.Prelude.{◌≡◌, ℕ, ◌+◌, ◌*◌, ◌<◌, ◌≤◌, ◌⊎◌, [], length, true, None, Some, IfOk, IfErr, OnOk, OnErr, option_map};
 ghost use Rattle.sv8_source.specs.Text.{texts};
 ghost use Rattle.sv8_source.specs.Listing.{listing, numbered};
 ghost use Rattle.sv8_source.specs.View.{shown_of};
 ghost use Rattle.sv8_time.specs.Schedule.{bytes_below, with_poke, without_poke, with_poke_byte, without_poke_byte, with_input, without_input, with_request, without_request, set_poke_fault, clear_poke_fault, set_poke_byte_fault, clear_poke_byte_fault, set_input_fault, clear_input_fault, set_request_fault, clear_request_fault};
 ghost use Rattle.sv8_cpu.specs.Run.{state_at};
-ghost use Rattle.sv8_bench.specs.Faults.{edit_refusal, step_refusal, IsQueryFault, IsTimelineFault, IsTimelineRefusal};
+ghost use Rattle.sv8_bench.specs.Faults.{are_words, edit_refusal, step_refusal, words_refusal, IsQueryFault, IsTimelineFault, IsTimelineRefusal};
 ghost use Rattle.sv8_bench.specs.Kept.{empty, edited, with_timeline};
-ghost use Rattle.sv8_bench.specs.Shown.{machine_state, shown_at};
+ghost use Rattle.sv8_bench.specs.Shown.{machine_state, shown_at, words_in, words_shown, output_shown};
 
 use crate::fault::BenchFault;
 use crate::shown::Shown;
@@ -45,6 +45,33 @@ impl<const NW: usize, const PAGES: usize, const K: u32> Model for Bench<NW, PAGE
 
     ghost invariant = { λ b. (2 ≤ NW) × (NW ≤ 32) × (1 ≤ PAGES) × (PAGES ≤ 65536) × (1 ≤ K) × (K ≤ 1000000)
         × (b.source.limit ≡ 4096 * PAGES) × (b.timeline.limit ≡ 4096 * PAGES) };
+}
+
+/// Whether so many words from an address on lie in a RAM of that size; of none the one at the address.
+fn are_words(address: u32, count: u32, size: u64) -> bool
+    ensures { result ≡ are_words address count size }
+{
+    address % 4 == 0 && address as u64 + 4 * (count.max(1) as u64) <= size
+}
+
+/// So many words of a machine's RAM from an address on.
+#[tactic(auto, using(crate::proofs::ShownWords::no_words, crate::proofs::ShownWords::words_more))]
+fn words_of<const NW: usize, const PAGES: usize>(
+    alloc: Global,
+    machine: &Machine<NW, PAGES>,
+    address: u32,
+    count: u32,
+) -> Result<Vec<u32>, AllocError>
+    requires few_windows { NW ≤ 32 }
+    requires few_pages { PAGES ≤ 65536 }
+    requires within { are_words address count (4096 * PAGES) ≡ true }
+    ensures { IfOk result (λ v. v.items ≡ words_in machine.now.memory.ram address count) }
+{
+    let mut words = Vec::with_capacity(alloc, count as usize)?;
+    for index in 0..count {
+        words.push(machine.word(address + 4 * index))?;
+    }
+    Ok(words)
 }
 
 /// The machine of a source after so many steps from reset, under a timeline.
@@ -151,6 +178,56 @@ impl<const NW: usize, const PAGES: usize, const K: u32> Bench<NW, PAGES, K> {
         }
         let machine = self.machine_at(step)?;
         Ok(Shown::of(&machine, step, &self.timeline))
+    }
+
+    /// So many words of RAM from an address on, as the machine has them at a step; of no words the address is looked at all the same.
+    ///
+    /// # Errors
+    ///
+    /// `StepTooLarge` for a step above 1,000,000, `BadAddress` where the words, or with none the word at the address, are no words
+    /// of RAM, else `OutOfMemory`.
+    #[tactic(auto, unfolding(crate::specs::Faults::words_refusal))]
+    pub fn words_at(
+        &mut self,
+        step: u32,
+        address: u32,
+        count: u32,
+    ) -> Result<Vec<u32>, BenchFault>
+        ensures shown { IfOk result (λ v. v.items ≡ words_shown self.old step address count) }
+        ensures within { OnOk result (words_refusal step address count self.old ≡ None) }
+        ensures refused { IfErr result (IsQueryFault (words_refusal step address count self.old)) }
+        ensures unchanged { self.new ≡ self.old }
+    {
+        if LAST_STEP < step {
+            return Err(BenchFault::StepTooLarge);
+        }
+        let _source = &self.source;
+        if !are_words(address, count, 4096 * PAGES as u64) {
+            return Err(BenchFault::BadAddress);
+        }
+        let machine = self.machine_at(step)?;
+        let words = words_of(self.alloc, &machine, address, count)?;
+        Ok(words)
+    }
+
+    /// The bytes put out at the console by the steps below a step.
+    ///
+    /// # Errors
+    ///
+    /// `StepTooLarge` for a step above 1,000,000, else `OutOfMemory`.
+    #[tactic(auto, unfolding(crate::specs::Faults::step_refusal))]
+    pub fn output_at(&mut self, step: u32) -> Result<Vec<u8>, BenchFault>
+        ensures shown { IfOk result (λ v. v.items ≡ output_shown self.old step) }
+        ensures within { OnOk result (step_refusal step ≡ None) }
+        ensures refused { IfErr result (IsQueryFault (step_refusal step)) }
+        ensures unchanged { self.new ≡ self.old }
+    {
+        if LAST_STEP < step {
+            return Err(BenchFault::StepTooLarge);
+        }
+        let machine = self.machine_at(step)?;
+        let bytes = machine.output(self.alloc)?;
+        Ok(bytes)
     }
 
     /// The machine after so many steps from reset.

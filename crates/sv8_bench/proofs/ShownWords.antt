@@ -1,0 +1,18 @@
+-- Words of RAM, one after the other.
+use Rattle.std.proofs.Common.{◌≡◌, ◌∙◌, ℕ, ◌+◌, ◌*◌, ◌/◌, List, [], ◌∷◌, ◌++◌, refl, sym, ap, arith}
+use Rattle.std.proofs.lemmas.List.FromFn.{map-range_with_len_more}
+use Rattle.sv8_model.specs.Outside.{word_of}
+use Rattle.sv8_bench.specs.Shown.{words_in}
+
+pub no_words : (ram : List ℕ) (address : ℕ) → [] ≡ words_in ram address 0
+unfolding words_in
+no_words ram address = refl
+
+-- one word more
+pub words_more : (ram words more : List ℕ) (address i w : ℕ) → words ≡ words_in ram address i → w ≡ word_of ram ((address + 4 * i) / 4) → more ≡ words ++ w ∷ []
+    → more ≡ words_in ram address (i + 1)
+unfolding words_in
+words_more ram words more address i w e f g =
+    let at : (address + 4 * i) / 4 ≡ address / 4 + i = omega arith in
+    g ∙ ap (λ ws. ws ++ w ∷ []) e ∙ ap (λ x. words_in ram address i ++ x ∷ []) (f ∙ ap (word_of ram) at)
+    ∙ sym (map-range_with_len_more (λ k. word_of ram (address / 4 + k)) 0 i i (omega arith))
