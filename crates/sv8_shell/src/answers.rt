@@ -2,13 +2,14 @@
 ghost use Rattle.std.specs.Prelude.{◌≡◌, ℕ, ◌++◌, ◌∷◌, [], List, take};
 ghost use Rattle.sv8_source.specs.Text.{texts};
 ghost use Rattle.sv8_shell.specs.Put.{Puts, Replies, edit_text};
-ghost use Rattle.sv8_shell.specs.Text.{ok_line, regs_text};
+ghost use Rattle.sv8_shell.specs.Text.{ok_line, regs_text, memory_text, output_text};
 ghost use Rattle.sv8_shell.specs.Commands.{edit_outcome, outcome_of};
-ghost use Rattle.sv8_shell.specs.declared.command.Command.TheVariants.{Input, Listing, Regs, Quit};
+ghost use Rattle.sv8_shell.specs.declared.command.Command.TheVariants.{Input, Listing, Regs, Mem, Out, Quit};
 
 use crate::command::Command;
 use crate::hex_bytes::HexBytes;
 use crate::listing::add_listing;
+use crate::memory::{add_memory, add_output};
 use crate::put::{WriteFault, accept, done, refuse};
 use crate::refusal::refusal_of;
 use crate::text::Text;
@@ -48,6 +49,12 @@ pub fn answer<const NW: usize, const PAGES: usize, const K: u32, W: Write>(
         }
         Command::Listing => answer_listing(bench, writer),
         Command::Regs { step } => answer_regs(bench, writer, step),
+        Command::Mem {
+            step,
+            address,
+            count,
+        } => answer_mem(bench, writer, step, address, count),
+        Command::Out { step } => answer_out(bench, writer, step),
         Command::Quit => answer_quit(bench, writer),
     }
 }
@@ -124,6 +131,54 @@ fn tell_regs<W: Write>(writer: &mut W, step: u32, shown: &Shown) -> Result<(), W
     let mut text = Text::new();
     add_regs(&mut text, step, shown);
     accept(writer, &mut text)
+}
+
+fn answer_mem<const NW: usize, const PAGES: usize, const K: u32, W: Write>(
+    bench: &mut Bench<NW, PAGES, K>,
+    writer: &mut W,
+    step: u32,
+    address: u32,
+    count: u32,
+) -> Result<(), WriteFault>
+    ensures { Replies result (W.contents writer.old) (W.contents writer.new) bench.old (outcome_of (Mem step address count) bench.old) bench.new }
+{
+    match bench.words_at(step, address, count) {
+        Ok(words) => tell_words(writer, address, &words),
+        Err(fault) => refuse(writer, refusal_of(fault)),
+    }
+}
+
+fn tell_words<W: Write>(writer: &mut W, first: u32, words: &[u32]) -> Result<(), WriteFault>
+    ensures { Puts result (W.contents writer.old) (W.contents writer.new) (memory_text first words.now ++ ok_line) }
+{
+    let mut text = Text::new();
+    match add_memory(writer, &mut text, first, words) {
+        Ok(()) => accept(writer, &mut text),
+        Err(fault) => Err(fault),
+    }
+}
+
+fn answer_out<const NW: usize, const PAGES: usize, const K: u32, W: Write>(
+    bench: &mut Bench<NW, PAGES, K>,
+    writer: &mut W,
+    step: u32,
+) -> Result<(), WriteFault>
+    ensures { Replies result (W.contents writer.old) (W.contents writer.new) bench.old (outcome_of (Out step) bench.old) bench.new }
+{
+    match bench.output_at(step) {
+        Ok(bytes) => tell_output(writer, &bytes),
+        Err(fault) => refuse(writer, refusal_of(fault)),
+    }
+}
+
+fn tell_output<W: Write>(writer: &mut W, bytes: &[u8]) -> Result<(), WriteFault>
+    ensures { Puts result (W.contents writer.old) (W.contents writer.new) (output_text bytes.now ++ ok_line) }
+{
+    let mut text = Text::new();
+    match add_output(writer, &mut text, bytes) {
+        Ok(()) => accept(writer, &mut text),
+        Err(fault) => Err(fault),
+    }
 }
 
 fn answer_quit<const NW: usize, const PAGES: usize, const K: u32, W: Write>(

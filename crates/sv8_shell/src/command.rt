@@ -1,7 +1,7 @@
 //! Commands, and how a line reads as one.
 ghost use Rattle.std.specs.Prelude.{true, ◌≡◌, ℕ, ◌+◌, ◌-◌, ◌*◌, ◌<◌, ◌≤◌, ◌++◌, ◌∷◌, [], List, length, drop, Some, None, IsTrue, MatchOption, MatchResult};
 ghost use Rattle.sv8_shell.specs.Words.{words_of, first_number, first_hex, first_bytes};
-ghost use Rattle.sv8_shell.specs.Commands.{command_of, edit_of, poke_of, clear_poke_of, poke_byte_of, clear_poke_byte_of, input_of, clear_input_of, request_of, clear_request_of, regs_of, alone};
+ghost use Rattle.sv8_shell.specs.Commands.{command_of, edit_of, poke_of, clear_poke_of, poke_byte_of, clear_poke_byte_of, input_of, clear_input_of, request_of, clear_request_of, regs_of, mem_of, out_of, alone};
 
 use crate::hex_bytes::HexBytes;
 use crate::words::{hex, next_word, number};
@@ -31,6 +31,14 @@ pub enum Command<'a> {
     Listing,
     /// `regs N`: the machine at step N.
     Regs { step: u32 },
+    /// `mem N ADDR COUNT`: words of RAM at step N.
+    Mem {
+        step: u32,
+        address: u32,
+        count: u32,
+    },
+    /// `out N`: the bytes put out at the console below step N.
+    Out { step: u32 },
     /// `quit`: the end of the run.
     Quit,
 }
@@ -83,6 +91,10 @@ fn named<'a>(name: &[u8], rest: &'a [u8]) -> Result<Command<'a>, BadCommand>
         read_alone(Command::Listing, rest)
     } else if name == b"regs".as_slice() {
         read_regs(rest)
+    } else if name == b"mem".as_slice() {
+        read_mem(rest)
+    } else if name == b"out".as_slice() {
+        read_out(rest)
     } else if name == b"quit".as_slice() {
         read_alone(Command::Quit, rest)
     } else {
@@ -214,6 +226,33 @@ fn read_regs(rest: &[u8]) -> Result<Command<'_>, BadCommand>
 {
     let (step, rest) = read_number(rest)?;
     read_alone(Command::Regs { step }, rest)
+}
+
+#[tactic(auto, unfolding(crate::specs::Commands::mem_of))]
+fn read_mem(rest: &[u8]) -> Result<Command<'_>, BadCommand>
+    ensures { MatchResult result (λ c. mem_of (words_of rest.now) ≡ Some c)
+        (λ _. mem_of (words_of rest.now) ≡ None) }
+{
+    let (step, rest) = read_number(rest)?;
+    let (address, rest) = read_hex(rest)?;
+    let (count, rest) = read_number(rest)?;
+    read_alone(
+        Command::Mem {
+            step,
+            address,
+            count,
+        },
+        rest,
+    )
+}
+
+#[tactic(auto, unfolding(crate::specs::Commands::out_of))]
+fn read_out(rest: &[u8]) -> Result<Command<'_>, BadCommand>
+    ensures { MatchResult result (λ c. out_of (words_of rest.now) ≡ Some c)
+        (λ _. out_of (words_of rest.now) ≡ None) }
+{
+    let (step, rest) = read_number(rest)?;
+    read_alone(Command::Out { step }, rest)
 }
 
 #[tactic(auto, unfolding(crate::specs::Words::first_number))]

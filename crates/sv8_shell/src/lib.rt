@@ -10,6 +10,7 @@ mod hex_bytes;
 pub mod laws;
 mod line;
 mod listing;
+mod memory;
 mod place;
 mod put;
 mod refusal;
