@@ -65,7 +65,8 @@ fn words_of<const NW: usize, const PAGES: usize>(
     requires few_windows { NW ≤ 32 }
     requires few_pages { PAGES ≤ 65536 }
     requires within { are_words address count (4096 * PAGES) ≡ true }
-    ensures { IfOk result (λ v. v.items ≡ words_in machine.now.memory.ram address count) }
+    ensures value { IfOk result (λ v. v.items ≡ words_in machine.now.memory.ram address count) }
+    ensures inside { IfOk result (λ v. address + 4 * length v.items ≤ 0x1_0000_0000) }
 {
     let mut words = Vec::with_capacity(alloc, count as usize)?;
     for index in 0..count {
@@ -187,13 +188,9 @@ impl<const NW: usize, const PAGES: usize, const K: u32> Bench<NW, PAGES, K> {
     /// `StepTooLarge` for a step above 1,000,000, `BadAddress` where the words, or with none the word at the address, are no words
     /// of RAM, else `OutOfMemory`.
     #[tactic(auto, unfolding(crate::specs::Faults::words_refusal))]
-    pub fn words_at(
-        &mut self,
-        step: u32,
-        address: u32,
-        count: u32,
-    ) -> Result<Vec<u32>, BenchFault>
+    pub fn words_at(&mut self, step: u32, address: u32, count: u32) -> Result<Vec<u32>, BenchFault>
         ensures shown { IfOk result (λ v. v.items ≡ words_shown self.old step address count) }
+        ensures inside { IfOk result (λ v. address + 4 * length v.items ≤ 0x1_0000_0000) }
         ensures within { OnOk result (words_refusal step address count self.old ≡ None) }
         ensures refused { IfErr result (IsQueryFault (words_refusal step address count self.old)) }
         ensures unchanged { self.new ≡ self.old }

@@ -1,5 +1,5 @@
 //! The answer to each command: what it asks of the workbench, and what is told of it.
-ghost use Rattle.std.specs.Prelude.{◌≡◌, ℕ, ◌++◌, ◌∷◌, [], List, take};
+ghost use Rattle.std.specs.Prelude.{◌≡◌, ℕ, ◌+◌, ◌*◌, ◌≤◌, ◌++◌, ◌∷◌, [], List, length, take};
 ghost use Rattle.sv8_source.specs.Text.{texts};
 ghost use Rattle.sv8_shell.specs.Put.{Puts, Replies, edit_text};
 ghost use Rattle.sv8_shell.specs.Text.{ok_line, regs_text, memory_text, output_text};
@@ -143,12 +143,13 @@ fn answer_mem<const NW: usize, const PAGES: usize, const K: u32, W: Write>(
     ensures { Replies result (W.contents writer.old) (W.contents writer.new) bench.old (outcome_of (Mem step address count) bench.old) bench.new }
 {
     match bench.words_at(step, address, count) {
-        Ok(words) => tell_words(writer, address, &words),
+        Ok(words) => tell_words(writer, address, words.as_slice()),
         Err(fault) => refuse(writer, refusal_of(fault)),
     }
 }
 
 fn tell_words<W: Write>(writer: &mut W, first: u32, words: &[u32]) -> Result<(), WriteFault>
+    requires { first + 4 * length words.now ≤ 4294967296 }
     ensures { Puts result (W.contents writer.old) (W.contents writer.new) (memory_text first words.now ++ ok_line) }
 {
     let mut text = Text::new();
@@ -166,7 +167,7 @@ fn answer_out<const NW: usize, const PAGES: usize, const K: u32, W: Write>(
     ensures { Replies result (W.contents writer.old) (W.contents writer.new) bench.old (outcome_of (Out step) bench.old) bench.new }
 {
     match bench.output_at(step) {
-        Ok(bytes) => tell_output(writer, &bytes),
+        Ok(bytes) => tell_output(writer, bytes.as_slice()),
         Err(fault) => refuse(writer, refusal_of(fault)),
     }
 }

@@ -10,7 +10,7 @@ pub returns-in-Ok : goal.returns-in-Ok
 returns-in-Ok g c =
     let text = memory_text c.args.address (words_shown c.args.bench.now c.args.step c.args.address c.args.count) in
     reply-done c.tell_words.result _ _ _ _ (words_refusal c.args.step c.args.address c.args.count c.args.bench.now) (told true text) _
-    c.in-Ok.ensures.within refl (sym c.in-Ok.ensures.unchanged) (rw c.in-Ok.ensures.shown at c.tell_words.ensures)
+    c.in-Ok.ensures.within refl (sym c.in-Ok.ensures.unchanged) (rw (c.as_slice.ensures.value, c.in-Ok.ensures.shown) at c.tell_words.ensures)
 
 pub returns-in-Err : goal.returns-in-Err
 returns-in-Err g c =

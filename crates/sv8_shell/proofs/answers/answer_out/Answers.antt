@@ -9,7 +9,7 @@ use Rattle.sv8_shell.proofs.answers.answer_out.Goals as goal
 pub returns-in-Ok : goal.returns-in-Ok
 returns-in-Ok g c =
     let text = output_text (output_shown c.args.bench.now c.args.step) in
-    reply-done c.tell_output.result _ _ _ _ (step_refusal c.args.step) (told true text) _ c.in-Ok.ensures.within refl (sym c.in-Ok.ensures.unchanged) (rw c.in-Ok.ensures.shown at c.tell_output.ensures)
+    reply-done c.tell_output.result _ _ _ _ (step_refusal c.args.step) (told true text) _ c.in-Ok.ensures.within refl (sym c.in-Ok.ensures.unchanged) (rw (c.as_slice.ensures.value, c.in-Ok.ensures.shown) at c.tell_output.ensures)
 
 pub returns-in-Err : goal.returns-in-Err
 returns-in-Err g c =
