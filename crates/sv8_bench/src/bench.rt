@@ -26,7 +26,6 @@ pub const LAST_STEP: u32 = 1_000_000;
 /// (1 to 65,536), and a checkpoint every `K` steps (1 to 1,000,000).
 ///
 /// It keeps the source and the timeline of outside events alone, and each query replays the machine from reset.
-/// The machine does not meet the events of the timeline yet.
 #[derive(Drop)]
 pub struct Bench<const NW: usize, const PAGES: usize, const K: u32> {
     alloc: Global,
