@@ -1,0 +1,7 @@
+pub mod Levels
+pub mod Noting
+pub mod Walks
+pub mod Marks
+pub mod Storing
+pub mod Translating
+pub mod FaultTypes

@@ -1,0 +1,7 @@
+use Rattle.std.proofs.Common.{◌≡◌, ◌++◌, take}
+use Rattle.sv8_model.specs.Does.{kept}
+use Rattle.sv8_mmu.specs.Kept.{places_of, reads_of}
+use Rattle.sv8_mmu.proofs.translation.note_reads.Given as goal
+
+abbrev pub invariant-loop-at : goal.invariant-loop-at
+invariant-loop-at g l = g.T.Touches.noted l.notes ++ kept g.T.Touches.KEEPS (reads_of (take l.at-iterator.n l.at-iterator.iter.rest.now)) ≡ g.T.Touches.noted l.fn.notes ++ kept g.T.Touches.KEEPS (reads_of (places_of l.fn.trail))

@@ -1,0 +1,5 @@
+pub mod Registers
+pub mod Walk
+pub mod Translation
+pub mod Probe
+pub mod Kept

@@ -1,0 +1,142 @@
+//! Probes.
+
+ghost use Rattle.std.specs.Prelude.{◌≡◌, ℕ, ◌<◌, ◌≤◌, ◌+◌, ◌-◌, ◌*◌, ◌/◌, ◌%◌, ◌^◌, List, [], ◌∷◌, length, IfOk, OnErr, true};
+ghost use Rattle.sv8_model.specs.Outside.{Outside};
+ghost use Rattle.sv8_model.specs.Does.{Does};
+ghost use Rattle.sv8_phys.specs.Memory.{ram_size};
+ghost use Rattle.sv8_phys.specs.Contents.{outside_of};
+ghost use Rattle.sv8_mmu.specs.Walk.{table_of, entry_at, indices_of, root_of, walk};
+ghost use Rattle.sv8_mmu.specs.Probe.{found, sought, page_or_zero, level_probed, entirely_probed, probe_type, probe};
+ghost use Rattle.sv8_mmu.specs.Kept.{places_of, reads_of};
+
+use crate::registers::MmuRegisters;
+use crate::translation::note_reads;
+use crate::walk::{Trail, Walked, entry_at, indices_of, table_of, walk_for};
+use std::alloc::AllocError;
+use sv8_phys::{Phys, Touches};
+
+/// The entry at the level that is sought, or 0, with the indices into the tables below.
+fn found(below: &[u32], entry: u32) -> u32
+    ensures { result ≡ found below.now entry }
+{
+    match below {
+        [] => if entry % 4 == 2 { entry } else { 0 },
+        [_, ..] => if entry % 4 == 1 || entry % 4 == 2 {
+            entry
+        } else {
+            0
+        },
+    }
+}
+
+/// What an entry leads to where the level that is sought is `depth` levels deeper.
+#[tactic(auto, using(crate::proofs::Levels::next_sought, crate::proofs::Levels::none_sought), unfolding(crate::specs::Probe::sought))]
+fn sought<const PAGES: usize>(
+    phys: &Phys<PAGES>,
+    depth: u32,
+    below: &[u32],
+    entry: u32,
+    trail: &mut Trail,
+) -> u32
+    requires room { trail.old.count + length below.now ≤ 4 }
+    ensures { (o : Outside) → Does true (sought (ram_size PAGES) depth below.now entry)
+        (record o { ram = phys.now.ram }) (record o { ram = phys.now.ram }) result (reads_of (places_of trail.old)) (reads_of (places_of trail.new)) }
+{
+    if depth == 0 {
+        return found(below, entry);
+    }
+    match below {
+        [] => 0,
+        [index, after @ ..] => {
+            if entry % 4 != 1 {
+                return 0;
+            }
+            match entry_at(phys, table_of(entry) + 4 * (*index as u64), trail) {
+                None => 0,
+                Some(next) => sought(phys, depth - 1, after, next, trail),
+            }
+        }
+    }
+}
+
+/// The value of a probe for the entry at a level.
+fn probe_level<const PAGES: usize>(
+    registers: &MmuRegisters,
+    phys: &Phys<PAGES>,
+    level: u32,
+    va: u32,
+    trail: &mut Trail,
+) -> u32
+    requires empty { trail.old.count ≡ 0 }
+    ensures { (o : Outside) → Does true (level_probed (ram_size PAGES) registers.now level va)
+        (record o { ram = phys.now.ram }) (record o { ram = phys.now.ram }) result [] (reads_of (places_of trail.new)) }
+{
+    let indices = indices_of(va);
+    let root = table_of(registers.table_pointer) + 4 * (registers.context as u64);
+    match entry_at(phys, root, trail) {
+        None => 0,
+        Some(entry) => sought(phys, level, &indices, entry, trail),
+    }
+}
+
+/// The value of a probe for a whole walk.
+fn probe_entire<const PAGES: usize>(
+    registers: &MmuRegisters,
+    phys: &Phys<PAGES>,
+    va: u32,
+    trail: &mut Trail,
+) -> u32
+    ensures { (o : Outside) → Does true (entirely_probed (ram_size PAGES) registers.now va)
+        (record o { ram = phys.now.ram }) (record o { ram = phys.now.ram }) result [] (reads_of (places_of trail.new)) }
+{
+    let walk = walk_for(phys, registers.table_pointer, registers.context, va);
+    *trail = walk.trail;
+    match walk.end {
+        Walked::Page { entry, .. } => entry,
+        Walked::Fault { .. } => 0,
+    }
+}
+
+/// The value of a probe, and the entries that it reads.
+#[tactic(auto, unfolding(crate::specs::Probe::probe, sv8_model::specs::Words::field))]
+fn probed<const PAGES: usize>(
+    registers: &MmuRegisters,
+    phys: &Phys<PAGES>,
+    va: u32,
+    trail: &mut Trail,
+) -> u32
+    requires empty { trail.old.count ≡ 0 }
+    requires nothing { places_of trail.old ≡ [] }
+    ensures { (o : Outside) → Does true (probe (ram_size PAGES) registers.now va)
+        (record o { ram = phys.now.ram }) (record o { ram = phys.now.ram }) result [] (reads_of (places_of trail.new)) }
+{
+    let kind = va / 0x100 % 0x10;
+    if kind < 4 {
+        probe_level(registers, phys, 3 - kind, va, trail)
+    } else if kind == 4 {
+        probe_entire(registers, phys, va, trail)
+    } else {
+        0
+    }
+}
+
+/// What a load from the probing space gives. A probe reads RAM, whatever the buffer keeps, and changes nothing.
+///
+/// # Errors
+///
+/// `AllocError` where memory for a note cannot be had.
+pub fn probe<const PAGES: usize, T: Touches>(
+    registers: &MmuRegisters,
+    phys: &Phys<PAGES>,
+    va: u32,
+    notes: &mut T,
+) -> Result<u32, AllocError>
+    ensures ok { IfOk result (λ v. (bytes : List ℕ) → Does T.KEEPS (probe (ram_size PAGES) registers.now va)
+        (outside_of phys.now bytes) (outside_of phys.now bytes) v (T.noted notes.old) (T.noted notes.new)) }
+    ensures err { OnErr result (T.KEEPS ≡ true) }
+{
+    let mut trail = Trail::new();
+    let value = probed(registers, phys, va, &mut trail);
+    note_reads(&trail, notes)?;
+    Ok(value)
+}

@@ -1,0 +1,285 @@
+//! Translation of a virtual address.
+
+ghost use Rattle.std.specs.Prelude.{◌≡◌, ℕ, ◌<◌, ◌≤◌, ◌+◌, ◌*◌, ◌/◌, ◌%◌, ◌^◌, List, ◌++◌, IfOk, OnOk, OnErr, true, slice_index_or};
+ghost use Rattle.sv8_model.specs.Outside.{Outside, with_word};
+ghost use Rattle.sv8_model.specs.Does.{Does, kept};
+ghost use Rattle.sv8_phys.specs.Memory.{ram_size};
+ghost use Rattle.sv8_phys.specs.Contents.{outside_of};
+ghost use Rattle.sv8_mmu.specs.Translation.{fault_types, permission, fault_type, is_store, with_bit, marked, physical_address, is_device, is_served, with_marks, reached, settled, translate};
+ghost use Rattle.sv8_mmu.specs.Kept.{places_of, reads_of, IsEnd, IsTranslation, IsWalk, AllStand};
+ghost use Rattle.sv8_model.specs.Action.{done, store_word};
+
+use crate::buffer::{Buffer, Key};
+use crate::registers::MmuRegisters;
+use crate::walk::{Trail, Walk, Walked, walk_for};
+use std::alloc::AllocError;
+use sv8_model::Touch;
+use sv8_phys::{INPUT, OUTPUT, PENDING, Phys, Size, TIMER_COUNT, TIMER_RELOAD, Touches, WAITING};
+
+/// What serves an access: RAM alone for fetches, LDSTUB, SWAP and all that is no word; devices, too, for loads and stores of
+/// words.
+#[derive(Clone, Copy, PartialEq, Eq, Debug)]
+pub enum Reach {
+    Ram,
+    RamOrDevices,
+}
+
+/// An access to a virtual address.
+#[derive(Clone, Copy, PartialEq, Eq, Debug)]
+pub struct VirtualAccess {
+    /// The virtual address.
+    pub address: u32,
+    /// The access type, 0 to 7.
+    pub access_type: u8,
+    /// What serves it.
+    pub reach: Reach,
+}
+
+/// What a translation leads to: a physical address of 36 bits, or a fault of a type (1 to 5) and a level (0 to 3).
+#[derive(Clone, Copy, PartialEq, Eq, Debug)]
+pub enum Translated {
+    At(u64),
+    Refused { kind: u8, level: u8 },
+}
+
+/// The fault types of an access type, for each value of ACC.
+fn fault_types(access_type: u8) -> [u8; 8]
+    requires { access_type ≤ 7 }
+    ensures { result ≡ fault_types access_type }
+{
+    match access_type {
+        0 => [0, 0, 0, 0, 2, 0, 3, 3],
+        1 => [0, 0, 0, 0, 2, 0, 0, 0],
+        2 => [2, 2, 0, 0, 0, 2, 3, 3],
+        3 => [2, 2, 0, 0, 0, 2, 0, 0],
+        4 => [2, 0, 2, 0, 2, 2, 3, 3],
+        5 => [2, 0, 2, 0, 2, 0, 2, 0],
+        6 => [2, 2, 2, 0, 2, 2, 3, 3],
+        _ => [2, 2, 2, 0, 2, 2, 2, 0],
+    }
+}
+
+/// The fault type of an access to a page by its entry; 0 where it is allowed.
+#[tactic(auto, using(crate::proofs::FaultTypes::fault_types_are_small), unfolding(crate::specs::Translation::fault_type, sv8_model::specs::Words::field))]
+fn fault_type(access_type: u8, entry: u32) -> u8
+    requires { access_type ≤ 7 }
+    ensures value { result ≡ fault_type access_type entry }
+    ensures most { result ≤ 7 }
+{
+    let types = fault_types(access_type);
+    types[(entry / 4 % 8) as usize]
+}
+
+/// The word with bit 5, R, set.
+fn with_referenced(entry: u32) -> u32
+    ensures value { result ≡ with_bit entry 5 }
+    ensures kind { entry % 4 ≡ 2 → result % 4 ≡ 2 }
+{
+    if entry / 32 % 2 == 1 {
+        entry
+    } else {
+        entry + 32
+    }
+}
+
+/// The word with bit 6, M, set.
+fn with_modified(entry: u32) -> u32
+    ensures value { result ≡ with_bit entry 6 }
+    ensures kind { entry % 4 ≡ 2 → result % 4 ≡ 2 }
+{
+    if entry / 64 % 2 == 1 {
+        entry
+    } else {
+        entry + 64
+    }
+}
+
+/// The entry with the marks of an access.
+#[tactic(auto, unfolding(crate::specs::Translation::marked))]
+fn marked(access_type: u8, entry: u32) -> u32
+    ensures value { result ≡ marked access_type entry }
+    ensures kind { entry % 4 ≡ 2 → result % 4 ≡ 2 }
+{
+    if access_type > 3 {
+        with_modified(with_referenced(entry))
+    } else {
+        with_referenced(entry)
+    }
+}
+
+/// The physical address: bits 35:12 are those of the entry, but for the bits inside the page.
+#[tactic(auto, unfolding(crate::specs::Translation::physical_address))]
+fn physical_address(entry: u32, level: u8, va: u32) -> u64
+    ensures value { result ≡ physical_address entry level va }
+    ensures offset { result % 4096 ≡ va % 4096 }
+    ensures small { result < 2 ^ 36 }
+{
+    let page = entry as u64 / 0x100 * 0x1000;
+    let inside = va as u64;
+    match level {
+        0 => page / 0x1_0000_0000 * 0x1_0000_0000 + inside % 0x1_0000_0000,
+        1 => page / 0x100_0000 * 0x100_0000 + inside % 0x100_0000,
+        2 => page / 0x4_0000 * 0x4_0000 + inside % 0x4_0000,
+        _ => page / 0x1000 * 0x1000 + inside % 0x1000,
+    }
+}
+
+/// Whether a device is at a physical address.
+fn is_device(pa: u64) -> bool
+    ensures { result ≡ is_device pa }
+{
+    pa == INPUT
+        || pa == WAITING
+        || pa == OUTPUT
+        || pa == TIMER_COUNT
+        || pa == TIMER_RELOAD
+        || pa == PENDING
+}
+
+/// Whether an access to a physical address is served.
+fn is_served<const PAGES: usize>(phys: &Phys<PAGES>, reach: Reach, pa: u64) -> bool
+    ensures { result ≡ is_served (ram_size PAGES) reach pa }
+{
+    match reach {
+        Reach::Ram => phys.is_ram(pa),
+        Reach::RamOrDevices => phys.is_ram(pa) || is_device(pa),
+    }
+}
+
+/// Notes the entries that a walk read.
+pub fn note_reads<T: Touches>(trail: &Trail, notes: &mut T) -> Result<(), AllocError>
+    ensures ok { OnOk result (T.noted notes.new ≡ T.noted notes.old ++ kept T.KEEPS (reads_of (places_of trail.now))) }
+    ensures err { OnErr result (T.KEEPS ≡ true) }
+{
+    for at in trail.places.iter().take(trail.count) {
+        notes.note(Touch::Read(*at))?;
+    }
+    Ok(())
+}
+
+/// The walk for a context and a page: one that is kept, or a new one, which is then kept.
+fn find_walk<const PAGES: usize>(
+    table_pointer: u32,
+    buffer: &mut Buffer,
+    phys: &Phys<PAGES>,
+    key: Key,
+) -> Walk
+    requires page { key.page < 2 ^ 20 }
+    requires stand { AllStand (ram_size PAGES) phys.now.ram table_pointer buffer.old }
+    ensures walk { IsWalk (ram_size PAGES) phys.now.ram table_pointer key.context (key.page * 4096) result }
+    ensures stand { AllStand (ram_size PAGES) phys.now.ram table_pointer buffer.new }
+{
+    if let Some(walk) = buffer.find(key) {
+        return walk;
+    }
+    let walk = walk_for(phys, table_pointer, key.context, key.page * 0x1000);
+    if let Walked::Page { .. } = walk.end {
+        buffer.keep(key, walk);
+    }
+    walk
+}
+
+/// Stores the entry of a page with other marks, and keeps its walk with them in the place of all walks that have read it.
+#[cold]
+fn store_marks<const PAGES: usize, T: Touches>(
+    buffer: &mut Buffer,
+    phys: &mut Phys<PAGES>,
+    key: Key,
+    trail: Trail,
+    old: u32,
+    level: u8,
+    at: u32,
+    entry: u32,
+    notes: &mut T,
+) -> Result<(), AllocError>
+    requires kind { old % 4 ≡ 2 → entry % 4 ≡ 2 }
+    requires end { IsEnd (ram_size PAGES) (Walked.Page old level at) }
+    ensures ok { OnOk result ((answer : Translated) (bytes : List ℕ) → Does T.KEEPS (store_word (at / 4) entry (done answer))
+        (outside_of phys.old bytes) (outside_of phys.new bytes) answer (T.noted notes.old) (T.noted notes.new)) }
+    ensures others { phys.new ≡ record phys.old { ram = phys.new.ram } }
+    ensures stand { (table_pointer : ℕ) → IsWalk (ram_size PAGES) phys.old.ram table_pointer key.context (key.page * 4096) (record { trail = trail; end = Walked.Page old level at })
+        → AllStand (ram_size PAGES) phys.old.ram table_pointer buffer.old → AllStand (ram_size PAGES) phys.new.ram table_pointer buffer.new }
+{
+    let _size = phys.ram_size();
+    phys.write_ram(at as u64, Size::Word, entry as u64, notes)?;
+    buffer.forget_entry(at);
+    let end = Walked::Page { entry, level, at };
+    buffer.keep(key, Walk { trail, end });
+    Ok(())
+}
+
+/// What the end of a walk leads to.
+#[tactic(auto, unfolding(crate::specs::Translation::settled))]
+fn settle<const PAGES: usize, T: Touches>(
+    buffer: &mut Buffer,
+    phys: &mut Phys<PAGES>,
+    key: Key,
+    walk: Walk,
+    access: VirtualAccess,
+    notes: &mut T,
+) -> Result<Translated, AllocError>
+    requires access_type { access.access_type ≤ 7 }
+    requires end { IsEnd (ram_size PAGES) walk.end }
+    ensures ok { IfOk result (λ r. (bytes : List ℕ) → Does T.KEEPS (settled (ram_size PAGES) access.address access.access_type access.reach walk.end)
+        (outside_of phys.old bytes) (outside_of phys.new bytes) r (T.noted notes.old) (T.noted notes.new)) }
+    ensures answer { IfOk result (λ r. IsTranslation access.address r) }
+    ensures others { phys.new ≡ record phys.old { ram = phys.new.ram } }
+    ensures stand { (table_pointer : ℕ) → IsWalk (ram_size PAGES) phys.old.ram table_pointer key.context (key.page * 4096) walk
+        → AllStand (ram_size PAGES) phys.old.ram table_pointer buffer.old → AllStand (ram_size PAGES) phys.new.ram table_pointer buffer.new }
+{
+    match walk.end {
+        Walked::Fault { kind, level } => Ok(Translated::Refused { kind, level }),
+        Walked::Page { entry, level, at } => {
+            let kind = fault_type(access.access_type, entry);
+            if kind != 0 {
+                return Ok(Translated::Refused { kind, level });
+            }
+            let pa = physical_address(entry, level, access.address);
+            if !is_served(phys, access.reach, pa) {
+                return Ok(Translated::Refused { kind: 5, level: 0 });
+            }
+            let now = marked(access.access_type, entry);
+            if now != entry {
+                store_marks(buffer, phys, key, walk.trail, entry, level, at, now, notes)?;
+            }
+            Ok(Translated::At(pa))
+        }
+    }
+}
+
+/// Translates the address of an access. The marks that the access leaves in the entry of its page are made.
+///
+/// What the buffer keeps never shows: neither in the answer, nor in RAM, nor in the notes. It keeps the walk of a page, where
+/// there is memory for it.
+///
+/// # Errors
+///
+/// `AllocError` where memory for a page of RAM that is shared or for a note cannot be had.
+#[tactic(auto, unfolding(crate::specs::Translation::translate))]
+pub fn translate<const PAGES: usize, T: Touches>(
+    registers: &MmuRegisters,
+    buffer: &mut Buffer,
+    phys: &mut Phys<PAGES>,
+    access: VirtualAccess,
+    notes: &mut T,
+) -> Result<Translated, AllocError>
+    requires access_type { access.access_type ≤ 7 }
+    requires stand { AllStand (ram_size PAGES) phys.old.ram registers.now.table_pointer buffer.old }
+    ensures ok { IfOk result (λ r. (bytes : List ℕ) → Does T.KEEPS (translate (ram_size PAGES) registers.now access.address access.access_type access.reach)
+        (outside_of phys.old bytes) (outside_of phys.new bytes) r (T.noted notes.old) (T.noted notes.new)) }
+    ensures answer { IfOk result (λ r. IsTranslation access.address r) }
+    ensures others { phys.new ≡ record phys.old { ram = phys.new.ram } }
+    ensures stand { AllStand (ram_size PAGES) phys.new.ram registers.now.table_pointer buffer.new }
+{
+    if !registers.translates() {
+        return Ok(Translated::At(access.address as u64));
+    }
+    let key = Key {
+        context: registers.context,
+        page: access.address / 0x1000,
+    };
+    let walk = find_walk(registers.table_pointer, buffer, phys, key);
+    note_reads(&walk.trail, notes)?;
+    let answer = settle(buffer, phys, key, walk, access, notes)?;
+    Ok(answer)
+}
