@@ -1,5 +1,5 @@
 -- What an access does, from what physical memory did.
-use Rattle.std.proofs.Common.{◌≡◌, ◌∙◌, ℕ, Bool, true, false, cond, nat_lt, List, Result, refl, sym, ap}
+use Rattle.std.proofs.Common.{◌≡◌, ◌∙◌, ℕ, Bool, true, false, cond, nat_lt, List, Result, refl, sym, ap, subst}
 use Rattle.sv8_model.specs.Outside.{Outside}
 use Rattle.sv8_model.specs.declared.touch.Touch.{Touch}
 use Rattle.sv8_model.specs.Action.{Action, done, take_input, count_waiting, ◌>>=◌}
@@ -10,43 +10,51 @@ use Rattle.sv8_phys.specs.declared.size.Size.{Size}
 use Rattle.sv8_phys.specs.declared.size.Size.TheVariants.{Byte, Half, Word, Double}
 use Rattle.sv8_phys.specs.declared.timer.Timer.{Timer}
 use Rattle.sv8_phys.specs.Devices.{Stored, load, store, ram_load, ram_store, stored_with}
+use Rattle.sv8_mmu.specs.declared.translation.Reach.{Reach}
+use Rattle.sv8_mmu.specs.declared.translation.Translated.{Translated}
+use Rattle.sv8_mmu.specs.declared.translation.Translated.TheVariants as translated
+use Rattle.sv8_mmu.specs.declared.translation.Translated.TheVariants.{At}
+use Rattle.sv8_mmu.specs.Translation.{translate}
+use Rattle.sv8_mmu.specs.Probe.{probe}
+use Rattle.sv8_mmu.specs.Kept.{Kept, AllStand}
+use Rattle.sv8_trap.specs.declared.table.Trap.{Trap}
 use Rattle.sv8_trap.specs.declared.table.Trap.TheVariants.{InstructionAccessException, DataAccessException}
 use Rattle.sv8_cpu.specs.Units.{Units, Served, served, failed}
-use Rattle.sv8_cpu.specs.Access.{load_type, store_type, bus_fault, fetched_from, load_answer, takes_byte, counts_bytes, plainly_loaded, loaded_from, store_answer, stored_at, exchanged_at}
+use Rattle.sv8_cpu.specs.Access.{load_type, store_type, bus_fault, fetched_from, load_answer, takes_byte, counts_bytes, plainly_loaded, loaded_from, store_answer, stored_at, exchanged_at, located, at_virtual, is_word, probed}
 
 module _ (keeps : Bool) (limit : ℕ) (u : Units) (o o1 : Outside) (ts ts1 : List Touch) where
   -- a word of RAM is fetched
-  pub fetched_word : (asi at value : ℕ) (s : Served) → nat_lt at limit ≡ true → Does keeps (ram_load Word at) o o1 value ts ts1 → s ≡ served u value
-      → Does keeps (fetched_from limit u asi at) o o1 s ts ts1
+  pub fetched_word : (asi va pa value : ℕ) (s : Served) → nat_lt pa limit ≡ true → Does keeps (ram_load Word pa) o o1 value ts ts1 → s ≡ served u value
+      → Does keeps (fetched_from limit u asi va pa) o o1 s ts ts1
   unfolding fetched_from
-  fetched_word asi at value s inside h e = does_if_true keeps (nat_lt at limit) _ _ o o1 s ts ts1 inside (does_map keeps (ram_load Word at) (served u) o o1 value s ts ts1 h e)
+  fetched_word asi va pa value s inside h e = does_if_true keeps (nat_lt pa limit) _ _ o o1 s ts ts1 inside (does_map keeps (ram_load Word pa) (served u) o o1 value s ts ts1 h e)
 
   -- physical memory answers a load
-  pub plain_load : (size : Size) (asi at : ℕ) (r : Result ℕ BusError) (s : Served) (o2 : Outside) → o2 ≡ o1 → Does keeps (load limit u.timer size at) o o1 r ts ts1
-      → s ≡ load_answer u asi at r → Does keeps (plainly_loaded limit u size asi at) o o2 s ts ts1
+  pub plain_load : (size : Size) (asi va pa : ℕ) (r : Result ℕ BusError) (s : Served) (o2 : Outside) → o2 ≡ o1 → Does keeps (load limit u.timer size pa) o o1 r ts ts1
+      → s ≡ load_answer u asi va r → Does keeps (plainly_loaded limit u size asi va pa) o o2 s ts ts1
   unfolding plainly_loaded
-  plain_load size asi at r s o2 same h e = rw same (does_map keeps (load limit u.timer size at) (load_answer u asi at) o o1 r s ts ts1 h e)
+  plain_load size asi va pa r s o2 same h e = rw same (does_map keeps (load limit u.timer size pa) (load_answer u asi va) o o1 r s ts ts1 h e)
 
   -- a byte of the console's input is taken
-  pub taken_byte : (size : Size) (asi at byte : ℕ) (s : Served) → takes_byte size at ≡ true → Does keeps (take_input (λ b. done b)) o o1 byte ts ts1 → s ≡ served u byte
-      → Does keeps (loaded_from limit u size asi at) o o1 s ts ts1
+  pub taken_byte : (size : Size) (asi va pa byte : ℕ) (s : Served) → takes_byte size pa ≡ true → Does keeps (take_input (λ b. done b)) o o1 byte ts ts1 → s ≡ served u byte
+      → Does keeps (loaded_from limit u size asi va pa) o o1 s ts ts1
   unfolding loaded_from
-  taken_byte size asi at byte s input h e =
-      does_if_true keeps (takes_byte size at) _ _ o o1 s ts ts1 input (does_map keeps (take_input (λ b. done b)) (served u) o o1 byte s ts ts1 h e)
+  taken_byte size asi va pa byte s input h e =
+      does_if_true keeps (takes_byte size pa) _ _ o o1 s ts ts1 input (does_map keeps (take_input (λ b. done b)) (served u) o o1 byte s ts ts1 h e)
 
   -- the waiting bytes are counted
-  pub counted_bytes : (size : Size) (asi at count : ℕ) (s : Served) → takes_byte size at ≡ false → counts_bytes size at ≡ true
-      → Does keeps (count_waiting (λ n. done n)) o o1 count ts ts1 → s ≡ served u count → Does keeps (loaded_from limit u size asi at) o o1 s ts ts1
+  pub counted_bytes : (size : Size) (asi va pa count : ℕ) (s : Served) → takes_byte size pa ≡ false → counts_bytes size pa ≡ true
+      → Does keeps (count_waiting (λ n. done n)) o o1 count ts ts1 → s ≡ served u count → Does keeps (loaded_from limit u size asi va pa) o o1 s ts ts1
   unfolding loaded_from
-  counted_bytes size asi at count s other input h e =
-      does_if_false keeps (takes_byte size at) _ _ o o1 s ts ts1 other
-      (does_if_true keeps (counts_bytes size at) _ _ o o1 s ts ts1 input (does_map keeps (count_waiting (λ n. done n)) (served u) o o1 count s ts ts1 h e))
+  counted_bytes size asi va pa count s other input h e =
+      does_if_false keeps (takes_byte size pa) _ _ o o1 s ts ts1 other
+      (does_if_true keeps (counts_bytes size pa) _ _ o o1 s ts ts1 input (does_map keeps (count_waiting (λ n. done n)) (served u) o o1 count s ts ts1 h e))
 
   -- physical memory answers a store
-  pub plain_store : (size : Size) (asi at value : ℕ) (r : Stored) (s : Served) (o2 : Outside) → o2 ≡ o1 → Does keeps (store limit u.timer size at value) o o1 r ts ts1
-      → s ≡ store_answer u asi at r → Does keeps (stored_at limit u size asi at value) o o2 s ts ts1
+  pub plain_store : (size : Size) (asi value va pa : ℕ) (r : Stored) (s : Served) (o2 : Outside) → o2 ≡ o1 → Does keeps (store limit u.timer size pa value) o o1 r ts ts1
+      → s ≡ store_answer u asi va r → Does keeps (stored_at limit u size asi value va pa) o o2 s ts ts1
   unfolding stored_at
-  plain_store size asi at value r s o2 same h e = rw same (does_map keeps (store limit u.timer size at value) (store_answer u asi at) o o1 r s ts ts1 h e)
+  plain_store size asi value va pa r s o2 same h e = rw same (does_map keeps (store limit u.timer size pa value) (store_answer u asi va) o o1 r s ts ts1 h e)
 
 -- what a store to RAM leads to is of no matter to the store
 store_then : {A B : Type 0} (size : Size) (at value : ℕ) (x : A) (y : B) → (ram_store size at value x >>= λ z. done y) ≡ ram_store size at value y
@@ -57,11 +65,48 @@ store_then Word at value x y = refl
 store_then Double at value x y = refl
 
 -- a load from RAM, and then a store
-pub exchanged_word : (keeps : Bool) (limit : ℕ) (u : Units) (o o1 o2 : Outside) (ts ts1 ts2 : List Touch) (size : Size) (asi at value old : ℕ) (x y : Stored) (s : Served)
-    → nat_lt at limit ≡ true → Does keeps (ram_load size at) o o1 old ts ts1 → Does keeps (ram_store size at value x) o1 o2 y ts1 ts2 → s ≡ served u old
-    → Does keeps (exchanged_at limit u size asi at value) o o2 s ts ts2
+pub exchanged_word : (keeps : Bool) (limit : ℕ) (u : Units) (o o1 o2 : Outside) (ts ts1 ts2 : List Touch) (size : Size) (asi value va pa old : ℕ) (x y : Stored) (s : Served)
+    → nat_lt pa limit ≡ true → Does keeps (ram_load size pa) o o1 old ts ts1 → Does keeps (ram_store size pa value x) o1 o2 y ts1 ts2 → s ≡ served u old
+    → Does keeps (exchanged_at limit u size asi value va pa) o o2 s ts ts2
 unfolding exchanged_at
-exchanged_word keeps limit u o o1 o2 ts ts1 ts2 size asi at value old x y s inside h k e =
-    does_if_true keeps (nat_lt at limit) _ _ o o2 s ts ts2 inside
-    (does_then keeps (ram_load size at) (λ v. ram_store size at value (served u v)) o o1 o2 old s ts ts1 ts2 h
-    (rw (← store_then size at value x (served u old)) (does_map keeps (ram_store size at value x) (λ z. served u old) o1 o2 y s ts1 ts2 k e)))
+exchanged_word keeps limit u o o1 o2 ts ts1 ts2 size asi value va pa old x y s inside h k e =
+    does_if_true keeps (nat_lt pa limit) _ _ o o2 s ts ts2 inside
+    (does_then keeps (ram_load size pa) (λ v. ram_store size pa value (served u v)) o o1 o2 old s ts ts1 ts2 h
+    (rw (← store_then size pa value x (served u old)) (does_map keeps (ram_store size pa value x) (λ z. served u old) o1 o2 y s ts1 ts2 k e)))
+
+-- ---- at a virtual address
+
+module _ (keeps : Bool) (limit : ℕ) (u u1 : Units) (trap : Trap) (asi access_type given : ℕ) (reach given_reach : Reach) (va : ℕ) (use_address : Units → ℕ → Action Served) (o o1 o2 : Outside) (t : Translated) (s : Served) (ts ts1 : List Touch)
+    (same : u1 ≡ u) (type_is : given ≡ access_type) (reach_is : given_reach ≡ reach) (d : Does keeps (translate limit u.mmu va given given_reach) o o1 t ts ts1) where
+  translated_first : Does keeps (translate limit u.mmu va access_type reach) o o1 t ts ts1
+  translated_first = subst (λ k. Does keeps (translate limit u.mmu va k reach) o o1 t ts ts1) type_is (subst (λ r. Does keeps (translate limit u.mmu va given r) o o1 t ts ts1) reach_is d)
+
+  -- it is translated, and the access is made at the physical address
+  pub made_at : (pa : ℕ) (ts2 : List Touch) → t ≡ At pa → Does keeps (use_address u1 pa) o1 o2 s ts1 ts2 → Does keeps (at_virtual limit u trap asi access_type reach va (use_address u)) o o2 s ts ts2
+  unfolding at_virtual
+  made_at pa ts2 e made =
+      does_then keeps (translate limit u.mmu va access_type reach) (located u trap asi access_type va (use_address u)) o o1 o2 t s ts ts1 ts2 translated_first
+      (rw e (subst (λ v. Does keeps (use_address v pa) o1 o2 s ts1 ts2) same made))
+
+  -- its translation meets a fault
+  pub refused_at : (kind level : ℕ) → t ≡ translated.Refused kind level → o2 ≡ o1 → s ≡ failed u1 trap asi (record { level = level; access_type = given; fault_type = kind; address = va })
+      → Does keeps (at_virtual limit u trap asi access_type reach va (use_address u)) o o2 s ts ts1
+  unfolding at_virtual
+  refused_at kind level e outside answer =
+      rw outside
+      (does_then keeps (translate limit u.mmu va access_type reach) (located u trap asi access_type va (use_address u)) o o1 o1 t s ts ts1 ts1 translated_first
+      (rw e (does_done keeps (failed u trap asi (record { level = level; access_type = access_type; fault_type = kind; address = va })) s o1 ts1
+      (answer ∙ ap (λ k. failed u1 trap asi (record { level = level; access_type = k; fault_type = kind; address = va })) type_is
+      ∙ ap (λ v. failed v trap asi (record { level = level; access_type = access_type; fault_type = kind; address = va })) same))))
+
+-- what is kept goes on standing where neither RAM nor the table pointer changes
+pub stand_on : (limit : ℕ) (ram now : List ℕ) (p q : ℕ) (ks : List Kept) → now ≡ ram → q ≡ p → AllStand limit ram p ks → AllStand limit now q ks
+stand_on limit ram now p q ks e f stand = subst (λ r. AllStand limit r q ks) (sym e) (subst (λ x. AllStand limit ram x ks) (sym f) stand)
+
+pub stand_written : (limit : ℕ) (now : List ℕ) (p q : ℕ) (ks : List Kept) → q ≡ p → AllStand limit now p ks → AllStand limit now q ks
+stand_written limit now p q ks f stand = subst (λ x. AllStand limit now x ks) (sym f) stand
+
+-- a load of a word is a probe
+pub probe_made : (keeps : Bool) (limit : ℕ) (u : Units) (size : Size) (at entry : ℕ) (o o1 : Outside) (ts ts1 : List Touch) → is_word size ≡ true → Does keeps (probe limit u.mmu at) o o1 entry ts ts1
+    → Does keeps (probed limit u size at) o o1 (served u entry) ts ts1
+probe_made keeps limit u size at entry o o1 ts ts1 word d = does_if_true keeps (is_word size) _ _ o o1 (served u entry) ts ts1 word (does_map keeps (probe limit u.mmu at) (served u) o o1 entry (served u entry) ts ts1 d refl)

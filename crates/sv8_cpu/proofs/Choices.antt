@@ -2,7 +2,7 @@
 use Rattle.std.proofs.Common.{◌≡◌, ◌⊎◌, inl, inr, ℕ, ◌%◌, Bool, true, false, not, ◌&&◌, ◌==◌, cond, List, [], ◌∷◌, ◌++◌, Option, Some, None, refl, arith}
 use Rattle.std.proofs.lemmas.Bool.Decides.{nat_tests}
 use Rattle.sv8_trap.specs.declared.table.Trap.{Trap}
-use Rattle.sv8_trap.specs.declared.table.Trap.TheVariants.{PrivilegedInstruction, IllegalInstruction, FpDisabled, CpDisabled, WindowUnderflow, MemAddressNotAligned, DataAccessException}
+use Rattle.sv8_trap.specs.declared.table.Trap.TheVariants.{PrivilegedInstruction, IllegalInstruction, FpDisabled, CpDisabled, WindowUnderflow, MemAddressNotAligned}
 use Rattle.sv8_trap.specs.Table.{row_of, taken}
 use Rattle.sv8_trap.specs.Processor.{Processor}
 use Rattle.sv8_model.specs.Words.{bit}
@@ -17,6 +17,7 @@ use Rattle.sv8_cpu.specs.StateRegisters.{is_privileged, names_no_window, written
 use Rattle.sv8_isa.specs.declared.instr.MemoryOp.TheVariants as memory
 use Rattle.sv8_cpu.specs.Access.{IsAligned}
 use Rattle.sv8_cpu.specs.Memory.{size_of, takes_pair, memory_traps, access_of}
+use Rattle.sv8_cpu.specs.Instruction.{alternate_traps}
 
 -- one condition
 pub alone : (b : Bool) (t : Trap) → taken (when b t) ≡ cond b (Some t) None
@@ -40,9 +41,8 @@ write_choice true false = refl
 write_choice false true = refl
 write_choice false false = refl
 
-pub alternate_choice : (a b c : Bool) →
-    taken (when a PrivilegedInstruction ++ (when b IllegalInstruction ++ when c MemAddressNotAligned) ++ DataAccessException ∷ [])
-    ≡ cond a (Some PrivilegedInstruction) (cond b (Some IllegalInstruction) (cond c (Some MemAddressNotAligned) (Some DataAccessException)))
+pub alternate_choice : (a b c : Bool) → taken (when a PrivilegedInstruction ++ (when b IllegalInstruction ++ when c MemAddressNotAligned))
+    ≡ cond a (Some PrivilegedInstruction) (cond b (Some IllegalInstruction) (cond c (Some MemAddressNotAligned) None))
 unfolding row_of
 alternate_choice true true true = refl
 alternate_choice true true false = refl
@@ -142,3 +142,16 @@ aligned_request windows p memory.Sth asi rd address e = aligned_access memory.St
 aligned_request windows p memory.Std asi rd address e = aligned_access memory.Std rd address e
 aligned_request windows p memory.Ldstub asi rd address e = aligned_access memory.Ldstub rd address e
 aligned_request windows p memory.Swap asi rd address e = aligned_access memory.Swap rd address e
+
+-- the address of an alternate space form
+pub aligned_alternate : (windows : ℕ) (p : Processor) (op : MemoryOp) (asi rd address : ℕ) → taken (alternate_traps p (memory_traps op rd address)) ≡ None → IsAligned (access_of windows p op asi rd address)
+unfolding alternate_traps memory_traps
+aligned_alternate windows p op asi rd address e =
+    aligned_request windows p op asi rd address (none_of_rest (not p.registers.psr.s) (takes_pair op && rd % 2 == 1) (not (address % bytes_in (size_of op) == 0)) e)
+  where
+    none_of_rest : (a b c : Bool) → taken (when a PrivilegedInstruction ++ (when b IllegalInstruction ++ when c MemAddressNotAligned)) ≡ None → taken (when b IllegalInstruction ++ when c MemAddressNotAligned) ≡ None
+    none_of_rest true true true e = absurd cc
+    none_of_rest true true false e = absurd cc
+    none_of_rest true false true e = absurd cc
+    none_of_rest true false false e = absurd cc
+    none_of_rest false b c e = e

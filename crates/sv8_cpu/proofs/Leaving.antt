@@ -7,7 +7,7 @@ use Rattle.sv8_model.specs.Does.{Does}
 use Rattle.sv8_phys.specs.Contents.{Contents, outside_of}
 use Rattle.sv8_phys.specs.declared.timer.Timer.{Timer}
 use Rattle.sv8_trap.specs.Processor.{Processor}
-use Rattle.sv8_cpu.specs.declared.mmu.MmuRegisters.{MmuRegisters}
+use Rattle.sv8_mmu.specs.declared.registers.MmuRegisters.{MmuRegisters}
 use Rattle.sv8_cpu.specs.Step.{Inner}
 use Rattle.sv8_cpu.specs.State.{State, left_by}
 

@@ -52,7 +52,7 @@ module _ (keeps : Bool) (windows limit : ℕ) (m : Inner) where
         (does_then keeps (ask_levels (unmasked m.processor.registers.psr.pil) (λ w. done w)) (requested windows limit m) o o1 o2 word y ts ts1 ts2 (rw (← e) h) k)
 
     -- the timer's step, and what follows
-    pub awake_by : (timer : Timer) → Does keeps (tick m.units.timer) o o1 timer ts ts1 → Does keeps (interruptible windows limit (with_timer m timer)) o1 o2 y ts1 ts2
+    pub awake_by : (timer : Timer) (next : Inner) → next ≡ with_timer m timer → Does keeps (tick m.units.timer) o o1 timer ts ts1 → Does keeps (interruptible windows limit next) o1 o2 y ts1 ts2
         → Does keeps (awake windows limit m) o o2 y ts ts2
     unfolding awake
-    awake_by timer h k = does_then keeps (tick m.units.timer) (λ t. interruptible windows limit (with_timer m t)) o o1 o2 timer y ts ts1 ts2 h k
+    awake_by timer next e h k = does_then keeps (tick m.units.timer) (λ t. interruptible windows limit (with_timer m t)) o o1 o2 timer y ts ts1 ts2 h (rw (← e) k)

@@ -2,6 +2,7 @@
 use Rattle.std.specs.Prelude.{ℕ, zero, suc, true, false, Bool, List, [], ◌∷◌, replicate}
 use Rattle.sv8_model.specs.Outside.{Outside}
 use Rattle.sv8_model.specs.Action.{result_of, after}
+use Rattle.sv8_mmu.specs.Registers.{registers_at_reset}
 use Rattle.sv8_regs.specs.Ring.{reset}
 use Rattle.sv8_trap.specs.Processor.{Processor, reset_processor}
 use Rattle.sv8_cpu.specs.Step.{Inner, action}
@@ -31,7 +32,7 @@ abbrev pub fresh : ℕ → List ℕ → Small
 fresh windows ram = record {
   inner = record {
     processor = reset_processor windows;
-    units = record { mmu = record { control = 0; table_pointer = 0; context = 0; fault_status = 0; fault_address = 0 }; timer = record { count = 0; reload = 0 } };
+    units = record { mmu = registers_at_reset; timer = record { count = 0; reload = 0 } };
   };
   outside = record { ram = ram; waiting = []; output = []; pending = replicate 16 false };
 }

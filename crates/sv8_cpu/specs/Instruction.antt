@@ -7,7 +7,7 @@ use Rattle.sv8_isa.specs.declared.instr.Instr.{Instr}
 use Rattle.sv8_isa.specs.declared.instr.Instr.TheVariants as row
 use Rattle.sv8_isa.specs.declared.instr.Operand.TheVariants.{Register}
 use Rattle.sv8_trap.specs.declared.table.Trap.{Trap}
-use Rattle.sv8_trap.specs.declared.table.Trap.TheVariants.{PrivilegedInstruction, IllegalInstruction, FpDisabled, CpDisabled, DataAccessException}
+use Rattle.sv8_trap.specs.declared.table.Trap.TheVariants.{PrivilegedInstruction, IllegalInstruction, FpDisabled, CpDisabled}
 use Rattle.sv8_trap.specs.Entry.{with_trap, with_return_trap, returned}
 use Rattle.sv8_trap.specs.Processor.{Processor, advanced}
 use Rattle.sv8_cpu.specs.declared.access.Request.{Request}
@@ -29,9 +29,9 @@ unless_supervisor p = when (not p.registers.psr.s) PrivilegedInstruction
 unfoldable pub disabled_traps : Processor → ℕ → Trap → List Trap
 disabled_traps p word disabled = when (is_queue_store word && not p.registers.psr.s) PrivilegedInstruction ++ disabled ∷ []
 
--- alternate spaces are the supervisor's; none of them is served until the memory management unit is there
+-- alternate spaces are the supervisor's (B.1 to B.8)
 unfoldable pub alternate_traps : Processor → List Trap → List Trap
-alternate_traps p traps = unless_supervisor p ++ traps ++ DataAccessException ∷ []
+alternate_traps p traps = unless_supervisor p ++ traps
 
 -- an alternate space form with i = 1
 unfoldable pub immediate_traps : Processor → List Trap
@@ -77,6 +77,7 @@ data_space p = if p.registers.psr.s then 0x0b else 0x0a
 -- the access to memory that an instruction asks for
 abbrev pub asked : ℕ → Processor → Instr → Request
 asked windows p (row.Memory op rd rs1 operand) = access_of windows p op (data_space p) rd (sum_of_sources windows p rs1 operand)
+asked windows p (row.Alternate op rd rs1 rs2 asi) = access_of windows p op asi rd (sum_of_sources windows p rs1 (Register rs2))
 asked windows p i = Nothing
 
 -- ---- behind the access
@@ -97,4 +98,5 @@ complete windows p (row.Rett rs1 operand) value = returned windows p (sum_of_sou
 complete windows p (row.Save rd rs1 operand) value = saved windows p rd rs1 operand
 complete windows p (row.Restore rd rs1 operand) value = restored windows p rd rs1 operand
 complete windows p (row.Memory op rd rs1 operand) value = transferred_data windows p op rd value
+complete windows p (row.Alternate op rd rs1 rs2 asi) value = transferred_data windows p op rd value
 complete windows p i value = advanced p

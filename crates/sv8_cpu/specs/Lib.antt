@@ -14,4 +14,5 @@ pub mod Run
 pub mod Loading
 pub mod Work
 pub mod View
+pub mod Whole
 pub mod Examples

@@ -7,7 +7,8 @@ use Rattle.sv8_phys.specs.Contents.{Contents, empty_contents, arrived}
 use Rattle.sv8_source.specs.Text.{Text}
 use Rattle.sv8_source.specs.Image.{image_bytes}
 use Rattle.sv8_trap.specs.Processor.{Processor, reset_processor}
-use Rattle.sv8_cpu.specs.declared.mmu.MmuRegisters.{MmuRegisters}
+use Rattle.sv8_mmu.specs.declared.registers.MmuRegisters.{MmuRegisters}
+use Rattle.sv8_mmu.specs.Registers.{registers_at_reset}
 use Rattle.sv8_cpu.specs.Step.{Inner}
 
 -- of the console's input it has the number of bytes taken: which bytes wait follows from the timeline
@@ -25,7 +26,7 @@ waiting schedule n s = drop s.memory.taken (arrived n schedule)
 unfoldable pub reset_state : ℕ → ℕ → Text → State
 reset_state windows pages source = record {
   processor = reset_processor windows;
-  mmu = record { control = 0; table_pointer = 0; context = 0; fault_status = 0; fault_address = 0 };
+  mmu = registers_at_reset;
   memory = record (empty_contents pages) { ram = image_bytes source (ram_size pages) };
 }
 

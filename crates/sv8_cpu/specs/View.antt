@@ -1,19 +1,14 @@
--- What the parts of a machine stand for.
-use Rattle.std.specs.Prelude.{ℕ}
-use Rattle.sv8_cpu.specs.declared.memory.Memory.{Memory}
-use Rattle.sv8_cpu.specs.declared.machine.Parts.{Parts}
+-- What physical memory with the registers of the memory management unit stands for.
+use Rattle.std.specs.Prelude.{ℕ, List}
+use Rattle.sv8_phys.specs.Memory.{ram_size}
+use Rattle.sv8_mmu.specs.Kept.{Kept, AllStand}
+use Rattle.sv8_cpu.specs.declared.physical.Physical.{Physical}
 use Rattle.sv8_cpu.specs.Units.{Units}
-use Rattle.sv8_cpu.specs.Step.{Inner}
-use Rattle.sv8_cpu.specs.State.{State}
 
 -- the units of a memory
-abbrev pub units_of : {pages : ℕ} → Memory pages → Units
+abbrev pub units_of : {pages : ℕ} → Physical pages → Units
 units_of m = record { mmu = m.mmu; timer = m.phys.timer }
 
--- what is not outside
-abbrev pub inner_of_parts : {windows pages : ℕ} → Parts windows pages → Inner
-inner_of_parts p = record { processor = p.processor; units = units_of p.memory }
-
--- the whole state
-abbrev pub state_of : {windows pages : ℕ} → Parts windows pages → State
-state_of p = record { processor = p.processor; mmu = p.memory.mmu; memory = p.memory.phys }
+-- what the lookaside buffer keeps stands in that memory
+abbrev pub Serves : {pages : ℕ} → Physical pages → List Kept → Type 0
+Serves {pages} m ks = AllStand (ram_size pages) m.phys.ram m.mmu.table_pointer ks

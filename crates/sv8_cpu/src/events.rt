@@ -5,9 +5,11 @@ ghost use Rattle.sv8_time.specs.Order.{Each};
 ghost use Rattle.sv8_time.specs.Schedule.{IsRequestPlace, bytes_below};
 ghost use Rattle.sv8_phys.specs.Memory.{ram_size};
 ghost use Rattle.sv8_phys.specs.Contents.{arrived};
+ghost use Rattle.sv8_mmu.specs.Kept.{AllStand};
 ghost use Rattle.sv8_cpu.specs.Events.{marked, with_events, byte_poked, word_poked, words_poked, AreInside};
 
 use std::alloc::AllocError;
+use sv8_mmu::Buffer;
 use sv8_phys::Phys;
 use sv8_time::{Request, Timeline, WordPoke};
 
@@ -71,6 +73,27 @@ fn request_levels<const PAGES: usize>(phys: &mut Phys<PAGES>, requests: &[Reques
     }
 }
 
+/// Writes the poked bytes of a step. Where there are any, the lookaside buffer forgets all.
+#[inline(always)]
+fn poke_events<const PAGES: usize>(
+    phys: &mut Phys<PAGES>,
+    buffer: &mut Buffer,
+    words: &[WordPoke],
+) -> Result<(), AllocError>
+    requires { AreInside (ram_size PAGES) words.now }
+    ensures poked { OnOk result (phys.new ≡ record phys.old { ram = words_poked words.now phys.old.ram }) }
+    ensures stand { (table_pointer : ℕ) → AllStand (ram_size PAGES) phys.old.ram table_pointer buffer.old → AllStand (ram_size PAGES) phys.new.ram table_pointer buffer.new }
+{
+    match words {
+        [] => Ok(()),
+        [_, ..] => {
+            buffer.clear();
+            poke_words(phys, words)?;
+            Ok(())
+        }
+    }
+}
+
 /// Makes the events of step n happen in memory.
 ///
 /// # Errors
@@ -80,14 +103,16 @@ fn request_levels<const PAGES: usize>(phys: &mut Phys<PAGES>, requests: &[Reques
 #[tactic(auto, using(crate::proofs::Poking::are_inside, crate::proofs::Poking::poked_words), unfolding(crate::specs::Events::with_events))]
 pub fn happen<const PAGES: usize>(
     phys: &mut Phys<PAGES>,
+    buffer: &mut Buffer,
     n: u32,
     timeline: &Timeline,
 ) -> Result<(), AllocError>
     requires { timeline.now.limit ≡ ram_size PAGES }
-    ensures { OnOk result (phys.new ≡ with_events timeline.now n phys.old) }
+    ensures happened { OnOk result (phys.new ≡ with_events timeline.now n phys.old) }
+    ensures stand { (table_pointer : ℕ) → AllStand (ram_size PAGES) phys.old.ram table_pointer buffer.old → AllStand (ram_size PAGES) phys.new.ram table_pointer buffer.new }
 {
     let events = timeline.events(n);
-    poke_words(phys, events.pokes)?;
+    poke_events(phys, buffer, events.pokes)?;
     request_levels(phys, events.requests);
     Ok(())
 }

@@ -161,7 +161,7 @@ fn data_space<const NW: usize>(p: &Processor<NW>) -> u8
 
 /// The access that an instruction asks for where it raises no trap.
 #[inline(always)]
-#[tactic(auto, using(crate::proofs::Choices::aligned_request))]
+#[tactic(auto, using(crate::proofs::Choices::aligned_request, crate::proofs::Choices::aligned_alternate))]
 pub fn asked<const NW: usize>(p: &Processor<NW>, instr: Instr) -> Request
     requires registers { HasRegisters instr }
     requires no_trap { taken (raised NW p.now instr) ≡ None }
@@ -175,6 +175,19 @@ pub fn asked<const NW: usize>(p: &Processor<NW>, instr: Instr) -> Request
             rs1,
             operand,
         } => access_of(p, op, data_space(p), rd, sum_of_sources(p, rs1, operand)),
+        Instr::Alternate {
+            op,
+            rd,
+            rs1,
+            rs2,
+            asi,
+        } => access_of(
+            p,
+            op,
+            asi,
+            rd,
+            sum_of_sources(p, rs1, Operand::Register(rs2)),
+        ),
         _ => Request::Nothing,
     }
 }
@@ -219,7 +232,9 @@ pub fn complete<const NW: usize>(p: &mut Processor<NW>, instr: Instr, value: u64
         Instr::Rett { rs1, operand } => go_back(p, rs1, operand),
         Instr::Save { rd, rs1, operand } => save(p, rd, rs1, operand),
         Instr::Restore { rd, rs1, operand } => restore(p, rd, rs1, operand),
-        Instr::Memory { op, rd, .. } => finish_access(p, op, rd, value),
+        Instr::Memory { op, rd, .. } | Instr::Alternate { op, rd, .. } => finish_access(
+            p, op, rd, value,
+        ),
         _ => p.advance(),
     }
 }

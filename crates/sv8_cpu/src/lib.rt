@@ -8,11 +8,12 @@ mod laws;
 mod loading;
 mod machine;
 mod memory;
-mod mmu;
+mod physical;
 mod readers;
+mod spaces;
 mod work;
 
 pub use laws::{worked_steps, worked_traps};
 pub use machine::Machine;
-pub use mmu::{Fault, MmuRegisters};
+pub use sv8_mmu::{Fault, MmuRegisters};
 pub use work::Work;

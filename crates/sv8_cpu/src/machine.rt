@@ -13,14 +13,14 @@ ghost use Rattle.sv8_cpu.specs.Instruction.{raised};
 ghost use Rattle.sv8_cpu.specs.Step.{answered, executed, fetched, instruction, continued, requested, interruptible, awake, action};
 ghost use Rattle.sv8_cpu.specs.State.{reset_state};
 ghost use Rattle.sv8_cpu.specs.Work.{counted};
-ghost use Rattle.sv8_cpu.specs.View.{inner_of_parts, units_of, state_of};
+ghost use Rattle.sv8_cpu.specs.View.{units_of};
+ghost use Rattle.sv8_cpu.specs.Whole.{inner_of_parts, state_of};
 
 use crate::access::{Request, Response};
-use crate::events::{end_of, happen};
+use crate::events::end_of;
 use crate::instruction::{asked, complete, low_word, raised_by, take};
 use crate::loading::load;
 use crate::memory::Memory;
-use crate::mmu::MmuRegisters;
 use crate::work::Work;
 use std::alloc::{AllocError, Global};
 use std::marker::Model;
@@ -219,7 +219,7 @@ impl<const NW: usize, const PAGES: usize> Parts<NW, PAGES> {
     {
         if self.processor.registers().psr().et {
             let levels = self.processor.unmasked_levels();
-            let pending = self.memory.phys.pending_among(levels, notes)?;
+            let pending = self.memory.pending_among(levels, notes)?;
             self.serve(pending, before, timeline, notes)?;
             Ok(())
         } else {
@@ -243,7 +243,7 @@ impl<const NW: usize, const PAGES: usize> Parts<NW, PAGES> {
             (inner_of_parts self.new) (T.noted notes.old) (T.noted notes.new)) }
         ensures taken { OnOk result (self.new.memory.phys.taken ≤ bytes_below before timeline.now.inputs) }
     {
-        self.memory.phys.tick(notes)?;
+        self.memory.tick(notes)?;
         self.go_on_or_interrupt(before, timeline, notes)?;
         Ok(())
     }
@@ -323,7 +323,7 @@ fn begin<const NW: usize, const PAGES: usize>(
     ensures below { IfOk result (λ before. bytes_below before timeline.now.inputs ≡ bytes_below (n + 1) timeline.now.inputs) }
     ensures taken { IfOk result (λ before. parts.new.memory.phys.taken ≤ bytes_below before timeline.now.inputs) }
 {
-    happen(&mut parts.memory.phys, n, timeline)?;
+    parts.memory.happen(n, timeline)?;
     Ok(end_of(n, timeline))
 }
 
@@ -383,7 +383,7 @@ impl<const NW: usize, const PAGES: usize> Model for Machine<NW, PAGES> {
     ghost use Rattle.sv8_cpu.specs.State.{State};
     ghost use Rattle.sv8_cpu.specs.State.{reset_state};
     ghost use Rattle.sv8_cpu.specs.Work.{counted};
-    ghost use Rattle.sv8_cpu.specs.View.{state_of};
+    ghost use Rattle.sv8_cpu.specs.Whole.{state_of};
 
     ghost Value = { State };
 
@@ -410,10 +410,7 @@ impl<const NW: usize, const PAGES: usize> Machine<NW, PAGES> {
         load(&mut phys, source)?;
         let parts = Parts {
             processor: Processor::new(),
-            memory: Memory {
-                phys,
-                mmu: MmuRegisters::new(),
-            },
+            memory: Memory::new(alloc, phys),
         };
         let parts = Box::new(alloc, parts)?;
         Ok(Machine {

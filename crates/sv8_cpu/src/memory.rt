@@ -1,250 +1,124 @@
-//! Memory as the processor reaches it: RAM, the devices, and the registers that record faults.
+//! Memory as the processor reaches it.
 
-ghost use Rattle.std.specs.Prelude.{◌≡◌, ℕ, ◌+◌, ◌*◌, ◌%◌, ◌/◌, ◌≤◌, ◌<◌, ◌∷◌, List, true, IfOk, OnOk};
+ghost use Rattle.std.specs.Prelude.{◌≡◌, ℕ, ◌+◌, ◌*◌, ◌%◌, ◌/◌, ◌≤◌, ◌<◌, List, [], true, IfOk, OnOk, OnErr, slice_set, length};
+ghost use Rattle.sv8_model.specs.Action as model;
 ghost use Rattle.sv8_model.specs.Does.{Does};
 ghost use Rattle.sv8_time.specs.Schedule.{bytes_below};
-ghost use Rattle.sv8_phys.specs.Memory.{bytes_in, ram_size};
+ghost use Rattle.sv8_phys.specs.Memory.{ram_size, with_page};
 ghost use Rattle.sv8_phys.specs.Contents.{arrived, outside_of};
-ghost use Rattle.sv8_cpu.specs.Units.{served, failed};
-ghost use Rattle.sv8_cpu.specs.Access.{load_type, store_type, bus_fault, fetched_from, load_answer, is_word, takes_byte, counts_bytes, plainly_loaded, loaded_from, answer_to_store, stored_at, exchanged_at, instruction_space, access, IsAligned};
+ghost use Rattle.sv8_phys.specs.Devices.{tick};
+ghost use Rattle.sv8_mmu.specs.Registers.{registers_at_reset};
+ghost use Rattle.sv8_cpu.specs.Events.{with_events};
+ghost use Rattle.sv8_cpu.specs.Access.{access, IsAligned};
 ghost use Rattle.sv8_cpu.specs.View.{units_of};
 
 use crate::access::{Request, Response};
-use crate::mmu::{Fault, MmuRegisters};
-use std::alloc::AllocError;
-use sv8_phys::{BusError, INPUT, Phys, Size, Touches, WAITING};
+use crate::events::happen;
+use crate::physical::Physical;
+use crate::spaces::access;
+use std::alloc::{AllocError, Global};
+use std::marker::Model;
+use sv8_mmu::{Buffer, MmuRegisters};
+use sv8_phys::{Page, Phys, Touches};
 use sv8_time::Timeline;
-use sv8_trap::Trap;
 
-/// Physical memory of `PAGES` pages of RAM with the devices, and the memory management unit's registers.
+/// Physical memory and the memory management unit with its lookaside buffer, of which nothing shows.
 #[derive(Drop)]
 pub struct Memory<const PAGES: usize> {
-    pub phys: Phys<PAGES>,
-    pub mmu: MmuRegisters,
+    physical: Physical<PAGES>,
+    buffer: Buffer,
 }
 
-/// The access type of a load from an address space.
-#[inline(always)]
-#[tactic(auto, unfolding(crate::specs::Access::load_type))]
-fn load_type(asi: u8) -> u8
-    ensures value { result ≡ load_type asi }
-    ensures small { result ≤ 7 }
-{
-    match asi {
-        0x08 => 2,
-        0x09 => 3,
-        0x0a => 0,
-        _ => 1,
-    }
-}
+impl<const PAGES: usize> Model for Memory<PAGES> {
+    ghost use Rattle.sv8_cpu.specs.declared.physical.Physical.{Physical};
+    ghost use Rattle.sv8_cpu.specs.View.{Serves};
 
-/// The access type of a store to an address space.
-#[inline(always)]
-#[tactic(auto, unfolding(crate::specs::Access::store_type))]
-fn store_type(asi: u8) -> u8
-    ensures value { result ≡ store_type asi }
-    ensures small { result ≤ 7 }
-{
-    match asi {
-        0x08 => 6,
-        0x09 => 7,
-        0x0a => 4,
-        _ => 5,
-    }
-}
+    ghost Value = { Physical PAGES };
 
-/// The address space that instructions are fetched from.
-#[inline(always)]
-fn instruction_space(supervisor: bool) -> u8
-    ensures { result ≡ instruction_space supervisor }
-{
-    if supervisor { 0x09 } else { 0x08 }
-}
+    ghost view = { λ m. m.physical };
 
-#[inline(always)]
-fn is_word(size: Size) -> bool
-    ensures { result ≡ is_word size }
-{
-    matches!(size, Size::Word)
-}
-
-/// Whether a load takes a byte of the console's input.
-#[inline(always)]
-fn takes_byte(size: Size, at: u32) -> bool
-    ensures { result ≡ takes_byte size at }
-{
-    is_word(size) && at as u64 == INPUT
-}
-
-/// Whether a load counts the bytes that wait at the console.
-#[inline(always)]
-fn counts_bytes(size: Size, at: u32) -> bool
-    ensures { result ≡ counts_bytes size at }
-{
-    is_word(size) && at as u64 == WAITING
+    ghost invariant = { λ m. Serves m.physical m.buffer };
 }
 
 impl<const PAGES: usize> Memory<PAGES> {
-    /// Records that nothing serves a physical address, and raises the trap unless the fault is hidden.
-    #[cold]
-    #[tactic(auto, unfolding(crate::specs::Units::failed))]
-    fn fail(&mut self, trap: Trap, asi: u8, access_type: u8, at: u32) -> Response
-        requires { access_type ≤ 7 }
-        ensures served { record { response = result; units = units_of self.new } ≡ failed (units_of self.old) trap asi (bus_fault access_type at) }
-        ensures memory { self.new.phys ≡ self.old.phys }
+    /// Around physical memory, with the registers of the unit as after reset.
+    pub fn new(alloc: Global, phys: Phys<PAGES>) -> Self
+        ensures { result ≡ record { phys = phys.entry; mmu = registers_at_reset } }
     {
-        let hidden = self.mmu.hides_fault(asi);
-        self.mmu.record(Fault {
-            level: 0,
-            access_type,
-            fault_type: 5,
-            address: at,
-        });
-        if hidden {
-            Response::Value(0)
-        } else {
-            Response::Refused(trap)
+        Memory {
+            physical: Physical {
+                phys,
+                mmu: MmuRegisters::new(),
+            },
+            buffer: Buffer::new(alloc),
         }
     }
 
-    /// What a load leads to.
+    /// Physical memory.
     #[inline(always)]
-    fn load_answer(&mut self, asi: u8, at: u32, answer: Result<u64, BusError>) -> Response
-        ensures served { record { response = result; units = units_of self.new } ≡ load_answer (units_of self.old) asi at answer }
-        ensures memory { self.new.phys ≡ self.old.phys }
+    pub fn phys(&self) -> &Phys<PAGES>
+        ensures { result.now ≡ self.now.phys }
     {
-        match answer {
-            Ok(value) => Response::Value(value),
-            Err(_) => self.fail(Trap::DataAccessException, asi, load_type(asi), at),
-        }
+        &self.physical.phys
     }
 
-    /// What a store leads to.
-    #[inline(always)]
-    fn store_answer(&mut self, asi: u8, at: u32, answer: Result<(), BusError>) -> Response
-        ensures served { record { response = result; units = units_of self.new } ≡ answer_to_store (units_of self.old) asi at answer }
-        ensures memory { self.new.phys ≡ self.old.phys }
+    /// The registers of the memory management unit.
+    pub fn mmu(&self) -> MmuRegisters
+        ensures { result ≡ self.now.mmu }
     {
-        match answer {
-            Ok(()) => Response::Value(0),
-            Err(_) => self.fail(Trap::DataAccessException, asi, store_type(asi), at),
-        }
-    }
-}
-
-impl<const PAGES: usize> Memory<PAGES> {
-    /// Fetches an instruction.
-    #[inline(always)]
-    #[tactic(auto, unfolding(crate::specs::Access::fetched_from))]
-    fn fetch<T: Touches>(&mut self, asi: u8, at: u32, notes: &mut T) -> Result<Response, AllocError>
-        requires { at % 4 ≡ 0 }
-        ensures ok { IfOk result (λ r. (bytes : List ℕ) → Does T.KEEPS (fetched_from (ram_size PAGES) (units_of self.old) asi at)
-            (outside_of self.old.phys bytes) (outside_of self.new.phys bytes) (record { response = r; units = units_of self.new }) (T.noted notes.old) (T.noted notes.new)) }
-        ensures taken { OnOk result (self.new.phys.taken ≡ self.old.phys.taken) }
-    {
-        if self.phys.is_ram(at as u64) {
-            let word = self.phys.read_ram(at as u64, Size::Word, notes)?;
-            Ok(Response::Value(word))
-        } else {
-            Ok(self.fail(Trap::InstructionAccessException, asi, load_type(asi), at))
-        }
+        self.physical.mmu
     }
 
-    /// Loads from RAM or a device, but for the console's input.
+    /// The events of step n.
+    ///
+    /// # Errors
+    ///
+    /// `AllocError` where memory for a page that is shared cannot be had; some events may have happened then.
     #[inline(always)]
-    fn load_plain<T: Touches>(
-        &mut self,
-        size: Size,
-        asi: u8,
-        at: u32,
-        notes: &mut T,
-    ) -> Result<Response, AllocError>
-        requires { at % bytes_in size ≡ 0 }
-        ensures ok { IfOk result (λ r. (bytes : List ℕ) → Does T.KEEPS (plainly_loaded (ram_size PAGES) (units_of self.old) size asi at)
-            (outside_of self.old.phys bytes) (outside_of self.new.phys bytes) (record { response = r; units = units_of self.new }) (T.noted notes.old) (T.noted notes.new)) }
-        ensures taken { OnOk result (self.new.phys.taken ≡ self.old.phys.taken) }
+    pub fn happen(&mut self, n: u32, timeline: &Timeline) -> Result<(), AllocError>
+        requires { timeline.now.limit ≡ ram_size PAGES }
+        ensures { OnOk result (self.new ≡ record self.old { phys = with_events timeline.now n self.old.phys }) }
     {
-        let answer = self.phys.read(at as u64, size, notes)?;
-        Ok(self.load_answer(asi, at, answer))
+        happen(&mut self.physical.phys, &mut self.buffer, n, timeline)?;
+        Ok(())
     }
 
-    /// Loads from RAM or a device.
+    /// A step of the timer.
+    ///
+    /// # Errors
+    ///
+    /// `AllocError` where memory for the note of an expiry cannot be had.
     #[inline(always)]
-    #[tactic(auto, unfolding(crate::specs::Access::loaded_from))]
-    fn load<T: Touches>(
-        &mut self,
-        size: Size,
-        asi: u8,
-        at: u32,
-        before: u32,
-        timeline: &Timeline,
-        notes: &mut T,
-    ) -> Result<Response, AllocError>
-        requires aligned { at % bytes_in size ≡ 0 }
-        requires delivered { self.old.phys.taken ≤ bytes_below before timeline.now.inputs }
-        ensures ok { IfOk result (λ r. Does T.KEEPS (loaded_from (ram_size PAGES) (units_of self.old) size asi at)
-            (outside_of self.old.phys (arrived before timeline.now)) (outside_of self.new.phys (arrived before timeline.now))
-            (record { response = r; units = units_of self.new }) (T.noted notes.old) (T.noted notes.new)) }
-        ensures taken { OnOk result (self.new.phys.taken ≤ bytes_below before timeline.now.inputs) }
+    pub fn tick<T: Touches>(&mut self, notes: &mut T) -> Result<(), AllocError>
+        ensures ok { OnOk result ((bytes : List ℕ) → Does T.KEEPS (tick self.old.phys.timer)
+            (outside_of self.old.phys bytes) (outside_of self.new.phys bytes) self.new.phys.timer (T.noted notes.old) (T.noted notes.new)) }
+        ensures taken { self.new.phys.taken ≡ self.old.phys.taken }
+        ensures mmu { self.new.mmu ≡ self.old.mmu }
     {
-        if takes_byte(size, at) {
-            let byte = self.phys.take_input(before, timeline, notes)?;
-            Ok(Response::Value(byte as u64))
-        } else if counts_bytes(size, at) {
-            let count = self.phys.waiting(before, timeline, notes)?;
-            Ok(Response::Value(count as u64))
-        } else {
-            let response = self.load_plain(size, asi, at, notes)?;
-            Ok(response)
-        }
+        self.physical.phys.tick(notes)?;
+        Ok(())
     }
 
-    /// Stores to RAM or a device.
+    /// Those of some interrupt levels that are pending, bit l for level l, from 1 to 15.
+    ///
+    /// # Errors
+    ///
+    /// `AllocError` where memory for the note cannot be had.
     #[inline(always)]
-    #[tactic(auto, unfolding(crate::specs::Access::stored_at))]
-    fn store<T: Touches>(
-        &mut self,
-        size: Size,
-        asi: u8,
-        at: u32,
-        value: u64,
-        notes: &mut T,
-    ) -> Result<Response, AllocError>
-        requires { at % bytes_in size ≡ 0 }
-        ensures ok { IfOk result (λ r. (bytes : List ℕ) → Does T.KEEPS (stored_at (ram_size PAGES) (units_of self.old) size asi at value)
-            (outside_of self.old.phys bytes) (outside_of self.new.phys bytes) (record { response = r; units = units_of self.new }) (T.noted notes.old) (T.noted notes.new)) }
-        ensures taken { OnOk result (self.new.phys.taken ≡ self.old.phys.taken) }
+    pub fn pending_among<T: Touches>(&self, levels: u16, notes: &mut T) -> Result<u32, AllocError>
+        ensures { IfOk result (λ word. (bytes : List ℕ) → Does T.KEEPS (model.ask_levels levels (λ word. model.done word))
+            (outside_of self.now.phys bytes) (outside_of self.now.phys bytes) word (T.noted notes.old) (T.noted notes.new)) }
     {
-        let answer = self.phys.write(at as u64, size, value, notes)?;
-        Ok(self.store_answer(asi, at, answer))
-    }
-
-    /// Loads from RAM, and stores in the same place.
-    #[tactic(auto, unfolding(crate::specs::Access::exchanged_at))]
-    fn exchange<T: Touches>(
-        &mut self,
-        size: Size,
-        asi: u8,
-        at: u32,
-        value: u64,
-        notes: &mut T,
-    ) -> Result<Response, AllocError>
-        requires { at % bytes_in size ≡ 0 }
-        ensures ok { IfOk result (λ r. (bytes : List ℕ) → Does T.KEEPS (exchanged_at (ram_size PAGES) (units_of self.old) size asi at value)
-            (outside_of self.old.phys bytes) (outside_of self.new.phys bytes) (record { response = r; units = units_of self.new }) (T.noted notes.old) (T.noted notes.new)) }
-        ensures taken { OnOk result (self.new.phys.taken ≡ self.old.phys.taken) }
-    {
-        if !self.phys.is_ram(at as u64) {
-            return Ok(self.fail(Trap::DataAccessException, asi, store_type(asi), at));
-        }
-        let old = self.phys.read_ram(at as u64, size, notes)?;
-        self.phys.write_ram(at as u64, size, value, notes)?;
-        Ok(Response::Value(old))
+        let pending = self.physical.phys.pending_among(levels, notes)?;
+        Ok(pending)
     }
 
     /// Makes an access. The bytes that came in at the console at the steps below `before` have arrived.
+    ///
+    /// # Errors
+    ///
+    /// `AllocError` where memory for a page that is shared, for the output or for a note cannot be had.
     #[inline(always)]
-    #[tactic(auto, unfolding(crate::specs::Access::access))]
     pub fn access<T: Touches>(
         &mut self,
         request: Request,
@@ -259,34 +133,50 @@ impl<const PAGES: usize> Memory<PAGES> {
             (record { response = r; units = units_of self.new }) (T.noted notes.old) (T.noted notes.new)) }
         ensures taken { OnOk result (self.new.phys.taken ≤ bytes_below before timeline.now.inputs) }
     {
-        match request {
-            Request::Nothing => Ok(Response::Value(0)),
-            Request::Fetch { supervisor, at } => {
-                let response = self.fetch(instruction_space(supervisor), at, notes)?;
-                Ok(response)
-            }
-            Request::Load { size, asi, at } => {
-                let response = self.load(size, asi, at, before, timeline, notes)?;
-                Ok(response)
-            }
-            Request::Store {
-                size,
-                asi,
-                at,
-                value,
-            } => {
-                let response = self.store(size, asi, at, value, notes)?;
-                Ok(response)
-            }
-            Request::Exchange {
-                size,
-                asi,
-                at,
-                value,
-            } => {
-                let response = self.exchange(size, asi, at, value, notes)?;
-                Ok(response)
-            }
-        }
+        let response = access(
+            &mut self.physical,
+            &mut self.buffer,
+            request,
+            before,
+            timeline,
+            notes,
+        )?;
+        Ok(response)
+    }
+
+    /// Makes an interrupt level pending, or no longer pending.
+    pub fn set_pending(&mut self, level: u32, pending: bool)
+        requires some { 1 ≤ level }
+        requires most { level ≤ 15 }
+        ensures { self.new ≡ record self.old { phys = record self.old.phys { pending = slice_set self.old.phys.pending level pending } } }
+    {
+        self.physical.phys.set_pending(level, pending);
+    }
+
+    /// Puts a page in the place of the page of RAM with an address. It takes no memory.
+    pub fn put_page(&mut self, pa: u32, page: Page)
+        requires { pa < ram_size PAGES }
+        ensures { self.new ≡ record self.old { phys = record self.old.phys { ram = with_page self.old.phys.ram (pa / 4096) page } } }
+    {
+        self.buffer.clear();
+        self.physical.phys.put_page(pa, page);
+    }
+
+    /// The same memory once more, with an empty lookaside buffer. RAM and the bytes put out are shared.
+    ///
+    /// # Errors
+    ///
+    /// `AllocError` where memory for the handles of the pages cannot be had.
+    pub fn snapshot(&self, alloc: Global) -> Result<Self, AllocError>
+        ensures { IfOk result (λ m. m ≡ self.now) }
+    {
+        let phys = self.physical.phys.snapshot()?;
+        Ok(Memory {
+            physical: Physical {
+                phys,
+                mmu: self.physical.mmu,
+            },
+            buffer: Buffer::new(alloc),
+        })
     }
 }

@@ -8,9 +8,8 @@ ghost use Rattle.sv8_phys.specs.Memory.{ram_size, page_of, with_page};
 ghost use Rattle.sv8_cpu.specs.State.{waiting};
 
 use crate::machine::{Machine, Parts};
-use crate::memory::Memory;
-use crate::mmu::MmuRegisters;
 use std::alloc::{AllocError, Global};
+use sv8_mmu::MmuRegisters;
 use sv8_phys::{Page, StepTouches, Timer};
 use sv8_regs::Regs;
 use sv8_time::Timeline;
@@ -57,28 +56,28 @@ impl<const NW: usize, const PAGES: usize> Machine<NW, PAGES> {
     pub fn mmu(&self) -> MmuRegisters
         ensures { result ≡ self.now.mmu }
     {
-        self.parts.memory.mmu
+        self.parts.memory.mmu()
     }
 
     /// The timer.
     pub fn timer(&self) -> Timer
         ensures { result ≡ self.now.memory.timer }
     {
-        self.parts.memory.phys.timer()
+        self.parts.memory.phys().timer()
     }
 
     /// The pending interrupt levels, bit l for level l, from 1 to 15.
     pub fn pending(&self) -> u32
         ensures { result ≡ levels_word self.now.memory.pending }
     {
-        self.parts.memory.phys.pending()
+        self.parts.memory.phys().pending()
     }
 
     /// How many bytes of the console's input have been taken.
     pub fn taken(&self) -> u32
         ensures { result ≡ self.now.memory.taken }
     {
-        self.parts.memory.phys.taken()
+        self.parts.memory.phys().taken()
     }
 
     /// How many bytes wait at the console in the state at step n: of those that came in at the steps below n, all that have
@@ -98,7 +97,7 @@ impl<const NW: usize, const PAGES: usize> Machine<NW, PAGES> {
     pub fn output(&self, alloc: Global) -> Result<Vec<u8>, AllocError>
         ensures { IfOk result (λ v. v.items ≡ self.now.memory.output) }
     {
-        self.parts.memory.phys.output(alloc)
+        self.parts.memory.phys().output(alloc)
     }
 
     /// The word of RAM at a physical address, the byte at the lowest address being its most significant one.
@@ -107,7 +106,7 @@ impl<const NW: usize, const PAGES: usize> Machine<NW, PAGES> {
         requires within { at < ram_size PAGES }
         ensures { result ≡ word_of self.now.memory.ram (at / 4) }
     {
-        self.parts.memory.phys.word(at)
+        self.parts.memory.phys().word(at)
     }
 
     /// Makes an interrupt level pending, or no longer pending; nothing else changes.
@@ -116,7 +115,7 @@ impl<const NW: usize, const PAGES: usize> Machine<NW, PAGES> {
         requires most { level ≤ 15 }
         ensures { self.new ≡ record self.old { memory = record self.old.memory { pending = slice_set self.old.memory.pending level pending } } }
     {
-        self.parts.memory.phys.set_pending(level, pending);
+        self.parts.memory.set_pending(level, pending);
     }
 
     /// The page of RAM with an address, which is shared.
@@ -128,7 +127,7 @@ impl<const NW: usize, const PAGES: usize> Machine<NW, PAGES> {
         requires { pa < ram_size PAGES }
         ensures { IfOk result (λ p. p ≡ page_of self.now.memory.ram (pa / 4096)) }
     {
-        self.parts.memory.phys.page(pa)
+        self.parts.memory.phys().page(pa)
     }
 
     /// Puts a page in the place of the page of RAM with an address. It takes no memory, and nothing else changes.
@@ -136,7 +135,7 @@ impl<const NW: usize, const PAGES: usize> Machine<NW, PAGES> {
         requires { pa < ram_size PAGES }
         ensures { self.new ≡ record self.old { memory = record self.old.memory { ram = with_page self.old.memory.ram (pa / 4096) page } } }
     {
-        self.parts.memory.phys.put_page(pa, page);
+        self.parts.memory.put_page(pa, page);
     }
 
     /// The same machine once more. RAM and the bytes put out are shared until they are written.
@@ -147,13 +146,10 @@ impl<const NW: usize, const PAGES: usize> Machine<NW, PAGES> {
     pub fn snapshot(&self, alloc: Global) -> Result<Self, AllocError>
         ensures { IfOk result (λ m. m ≡ self.now) }
     {
-        let phys = self.parts.memory.phys.snapshot()?;
+        let memory = self.parts.memory.snapshot(alloc)?;
         let parts = Parts {
             processor: self.parts.processor.copy(),
-            memory: Memory {
-                phys,
-                mmu: self.parts.memory.mmu,
-            },
+            memory,
         };
         let parts = Box::new(alloc, parts)?;
         Ok(Machine {

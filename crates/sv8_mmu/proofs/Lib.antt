@@ -5,3 +5,4 @@ pub mod Marks
 pub mod Storing
 pub mod Translating
 pub mod FaultTypes
+pub mod Keeping

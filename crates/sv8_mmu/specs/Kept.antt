@@ -1,5 +1,6 @@
 -- What a lookaside buffer keeps: walks, each with the context and the page that it is for. None of this shows in the definitions of an access.
-use Rattle.std.specs.Prelude.{◌≡◌, ◌≢◌, ◌<◌, ◌≤◌, ℕ, ◌+◌, ◌*◌, ◌/◌, ◌%◌, ◌^◌, true, List, [], ◌∷◌, map, take, length, slice_index_or, Contains, Option, Some, None}
+use Rattle.std.specs.Prelude.{◌≡◌, ◌≢◌, ◌<◌, ◌≤◌, ℕ, ◌+◌, ◌*◌, ◌/◌, ◌%◌, ◌^◌, Bool, true, false, List, [], ◌∷◌, map, take, length, slice_index_or, Contains, Option, Some, None}
+use Rattle.lru.specs.LruCache.{LruCache}
 use Rattle.sv8_model.specs.declared.touch.Touch.{Touch}
 use Rattle.sv8_model.specs.declared.touch.Touch.TheVariants.{Read}
 use Rattle.sv8_model.specs.Outside.{Outside}
@@ -47,6 +48,19 @@ Kept = Key × Walk
 abbrev pub if_kept : Option Kept → List Kept
 if_kept None = []
 if_kept (Some k) = k ∷ []
+
+-- the walks of a cache, which is made when the first is kept
+abbrev pub entries_of : Option (LruCache Key Walk) → List Kept
+entries_of None = []
+entries_of (Some walks) = walks.entries
+
+-- the flag of the page of RAM that a word is in
+abbrev pub is_marked : List Bool → ℕ → Bool
+is_marked pages place = slice_index_or pages (place / 4096 % 256) false
+
+-- each page that any of them has read is marked
+abbrev pub AreMarked : List Bool → List Kept → Type 0
+AreMarked pages ks = (k : Kept) → Contains ks k → (place : ℕ) → Contains (places_of k.1.trail) place → is_marked pages place ≡ true
 
 -- it is the walk for its context and page in that RAM
 abbrev pub Stands : ℕ → List ℕ → ℕ → Kept → Type 0

@@ -1,13 +1,16 @@
 //! The lookaside buffer.
 
-ghost use Rattle.std.specs.Prelude.{◌≡◌, ◌⊎◌, ℕ, List, [], Contains, IfSome};
+ghost use Rattle.std.specs.Prelude.{◌≡◌, ◌⊎◌, ◌≢◌, ℕ, ◌/◌, ◌%◌, List, [], ◌++◌, Bool, true, false, slice_index_or, ⊤, Contains, IfSome, MatchOption};
+ghost use Rattle.lru.specs.LruCache.{LruCache};
 ghost use Rattle.sv8_mmu.specs.Registers.{control_address, table_pointer_address, is_register, after_write};
-ghost use Rattle.sv8_mmu.specs.Kept.{Kept, if_kept, AllStand, AreAmong, NoneReads, NoneReadsPage, DiffersInPage};
+ghost use Rattle.sv8_mmu.specs.Kept.{Kept, if_kept, entries_of, places_of, is_marked, AllStand, AreAmong, NoneReads, NoneReadsPage, DiffersInPage};
 
 use crate::registers::{CONTROL, MmuRegisters, TABLE_POINTER};
-use crate::walk::Walk;
+use crate::walk::{Trail, Walk};
+use lru::LruCache;
 use std::alloc::Global;
 use std::marker::Model;
+use std::num::NonZeroUsize;
 
 /// A context and a page of virtual addresses.
 #[derive(Clone, Copy, PartialEq, Eq, Hash)]
@@ -16,55 +19,254 @@ pub struct Key {
     pub page: u32,
 }
 
-/// Walks that are kept.
+/// What a walk is for: fetches and accesses to data have a memo each.
+#[derive(Clone, Copy)]
+pub enum Purpose {
+    Fetch,
+    Data,
+}
+
+/// Walks that are kept: the last of each purpose, and the 64 that were used last.
+///
+/// It takes no memory until a walk is kept.
 #[derive(Drop)]
 pub struct Buffer {
-    memo: Option<(Key, Walk)>,
+    alloc: Global,
+    fetch_memo: Option<(Key, Walk)>,
+    data_memo: Option<(Key, Walk)>,
+    cache: Option<LruCache<Key, Walk>>,
+    /// A flag for each number of a page of RAM modulo 256: unset, no walk that is kept has read a word of such a page.
+    pages: [bool; 256],
 }
 
 impl Model for Buffer {
-    ghost use Rattle.std.specs.Prelude.{List};
-    ghost use Rattle.sv8_mmu.specs.Registers.{control_address, table_pointer_address, is_register, after_write};
-    ghost use Rattle.sv8_mmu.specs.Kept.{Kept, if_kept};
+    ghost use Rattle.std.specs.Prelude.{List, ◌++◌};
+    ghost use Rattle.sv8_mmu.specs.Kept.{Kept, if_kept, entries_of, AreMarked};
 
     ghost Value = { List Kept };
 
-    ghost view = { λ b. if_kept b.memo };
+    ghost view = { λ b. if_kept b.fetch_memo ++ if_kept b.data_memo ++ entries_of b.cache };
+
+    ghost invariant = { λ b. AreMarked b.pages (if_kept b.fetch_memo ++ if_kept b.data_memo ++ entries_of b.cache) };
+}
+
+impl Trail {
+    /// Whether the entry at an address is among those read.
+    fn reads(&self, at: u32) -> bool
+        ensures { result ≡ false → (place : ℕ) → Contains (places_of self.now) place → place ≢ at }
+    {
+        self.places
+            .iter()
+            .take(self.count)
+            .any(|place| *place == at)
+    }
+
+    /// Whether a word of a page of RAM is among those read.
+    fn reads_page(&self, page: u32) -> bool
+        ensures { result ≡ false → (place : ℕ) → Contains (places_of self.now) place → place / 4096 ≢ page }
+    {
+        self.places
+            .iter()
+            .take(self.count)
+            .any(|place| *place / 4096 == page)
+    }
+}
+
+/// Sets the flags of the pages of RAM that a walk has read.
+fn mark(pages: &mut [bool; 256], trail: &Trail)
+    ensures marked { (place : ℕ) → Contains (places_of trail.now) place → is_marked pages.new place ≡ true }
+    ensures kept { (place : ℕ) → is_marked pages.old place ≡ true → is_marked pages.new place ≡ true }
+{
+    for place in trail.places.iter().take(trail.count) {
+        pages[(*place / 4096 % 256) as usize] = true;
+    }
+}
+
+/// The walk of a memo, where it is for a key.
+#[inline(always)]
+fn recall_last(memo: &Option<(Key, Walk)>, key: Key) -> Option<Walk>
+    ensures { IfSome result (λ w. Contains (if_kept memo.now) (key, w)) }
+{
+    match memo {
+        Some((last, walk)) if *last == key => Some(*walk),
+        _ => None,
+    }
+}
+
+/// The walk of a key in the cache, which becomes the one used last.
+fn recall(cache: &mut Option<LruCache<Key, Walk>>, key: Key) -> Option<Walk>
+    ensures found { IfSome result (λ w. Contains (entries_of cache.old) (key, w)) }
+    ensures among { AreAmong (entries_of cache.new) (entries_of cache.old) }
+{
+    match cache {
+        None => None,
+        Some(walks) => recall_from(walks, key),
+    }
+}
+
+/// The walk of a key, which becomes the one used last.
+fn recall_from(walks: &mut LruCache<Key, Walk>, key: Key) -> Option<Walk>
+    ensures found { IfSome result (λ w. Contains walks.old.entries (key, w)) }
+    ensures among { AreAmong walks.new.entries walks.old.entries }
+{
+    walks.get(&key).copied()
+}
+
+/// Stores a walk in the cache, where there is memory for it.
+fn store(cache: &mut Option<LruCache<Key, Walk>>, alloc: Global, key: Key, walk: Walk)
+    ensures { (k : Kept) → Contains (entries_of cache.new) k → Contains (entries_of cache.old) k ⊎ (k ≡ (key, walk)) }
+{
+    if let Some(walks) = cache {
+        store_into(walks, key, walk);
+        return;
+    }
+    if let Ok(mut walks) = LruCache::sparse(alloc, NonZeroUsize::new(64).unwrap()) {
+        store_into(&mut walks, key, walk);
+        *cache = Some(walks);
+    }
+}
+
+/// Stores a walk, where there is memory for it.
+fn store_into(walks: &mut LruCache<Key, Walk>, key: Key, walk: Walk)
+    ensures { (k : Kept) → Contains walks.new.entries k → Contains walks.old.entries k ⊎ (k ≡ (key, walk)) }
+{
+    let _ = walks.put(key, walk);
+}
+
+/// The key of a walk that has read the entry at an address.
+fn reader(walks: &LruCache<Key, Walk>, at: u32) -> Option<Key>
+    ensures { MatchOption result (NoneReads at walks.now.entries) (λ _. ⊤) }
+{
+    for (key, walk) in walks.iter() {
+        if walk.trail.reads(at) {
+            return Some(*key);
+        }
+    }
+    None
+}
+
+/// Drops the walks of the cache that have read the entry at an address.
+fn drop_readers(cache: &mut Option<LruCache<Key, Walk>>, at: u32)
+    ensures among { AreAmong (entries_of cache.new) (entries_of cache.old) }
+    ensures none { NoneReads at (entries_of cache.new) }
+{
+    if let Some(walks) = cache {
+        drop_readers_from(walks, at);
+    }
+}
+
+/// Drops the walks that have read the entry at an address.
+fn drop_readers_from(walks: &mut LruCache<Key, Walk>, at: u32)
+    ensures among { AreAmong walks.new.entries walks.old.entries }
+    ensures none { NoneReads at walks.new.entries }
+{
+    for _ in 0..64 {
+        match reader(walks, at) {
+            None => return,
+            Some(key) => {
+                let _ = walks.pop(&key);
+            }
+        }
+    }
+    walks.clear();
+}
+
+/// Whether a walk of the cache has read a word of a page of RAM.
+fn has_reader(cache: &Option<LruCache<Key, Walk>>, page: u32) -> bool
+    ensures { result ≡ false → NoneReadsPage page (entries_of cache.now) }
+{
+    match cache {
+        None => false,
+        Some(walks) => is_read_by(walks, page),
+    }
+}
+
+/// Whether a walk has read a word of a page of RAM.
+fn is_read_by(walks: &LruCache<Key, Walk>, page: u32) -> bool
+    ensures { result ≡ false → NoneReadsPage page walks.now.entries }
+{
+    for (_, walk) in walks.iter() {
+        if walk.trail.reads_page(page) {
+            return true;
+        }
+    }
+    false
+}
+
+/// Whether the walk of a memo has read a word of a page of RAM.
+fn is_reader(memo: &Option<(Key, Walk)>, page: u32) -> bool
+    ensures { result ≡ false → NoneReadsPage page (if_kept memo.now) }
+{
+    match memo {
+        None => false,
+        Some((_, walk)) => walk.trail.reads_page(page),
+    }
 }
 
 impl Buffer {
     /// An empty buffer. It takes no memory.
-    pub fn new(_alloc: Global) -> Self
+    pub fn new(alloc: Global) -> Self
         ensures { result ≡ [] }
     {
-        Buffer { memo: None }
+        Buffer {
+            alloc,
+            fetch_memo: None,
+            data_memo: None,
+            cache: None,
+            pages: [false; 256],
+        }
     }
 
     /// Forgets all walks.
     pub fn clear(&mut self)
         ensures { self.new ≡ [] }
     {
-        self.memo = None;
+        self.fetch_memo = None;
+        self.data_memo = None;
+        if let Some(walks) = &mut self.cache {
+            walks.clear();
+        }
+        self.pages = [false; 256];
     }
 
     /// The walk that is kept for a context and a page.
-    pub(crate) fn find(&mut self, key: Key) -> Option<Walk>
+    #[inline]
+    pub(crate) fn find(&mut self, purpose: Purpose, key: Key) -> Option<Walk>
         ensures found { IfSome result (λ w. Contains self.old (key, w)) }
         ensures among { AreAmong self.new self.old }
     {
-        if let Some((last, walk)) = self.memo {
-            if last == key {
-                return Some(walk);
-            }
+        match purpose {
+            Purpose::Fetch => match recall_last(&self.fetch_memo, key) {
+                None => self.find_in_cache(purpose, key),
+                found => found,
+            },
+            Purpose::Data => match recall_last(&self.data_memo, key) {
+                None => self.find_in_cache(purpose, key),
+                found => found,
+            },
         }
-        None
     }
 
-    /// Keeps a walk, where there is memory for it.
+    /// The walk that the cache has for a context and a page.
+    #[inline(never)]
+    fn find_in_cache(&mut self, purpose: Purpose, key: Key) -> Option<Walk>
+        ensures found { IfSome result (λ w. Contains self.old (key, w)) }
+        ensures among { AreAmong self.new self.old }
+    {
+        let walk = recall(&mut self.cache, key)?;
+        match purpose {
+            Purpose::Fetch => self.fetch_memo = Some((key, walk)),
+            Purpose::Data => self.data_memo = Some((key, walk)),
+        }
+        Some(walk)
+    }
+
+    /// Keeps a walk in the cache, where there is memory for it.
     pub(crate) fn keep(&mut self, key: Key, walk: Walk)
         ensures { (k : Kept) → Contains self.new k → Contains self.old k ⊎ (k ≡ (key, walk)) }
     {
-        self.memo = Some((key, walk));
+        mark(&mut self.pages, &walk.trail);
+        store(&mut self.cache, self.alloc, key, walk);
     }
 
     /// Forgets the walks that have read the entry at an address.
@@ -72,20 +274,43 @@ impl Buffer {
         ensures among { AreAmong self.new self.old }
         ensures none { NoneReads at self.new }
     {
-        let _ = at;
-        self.memo = None;
+        self.fetch_memo = None;
+        self.data_memo = None;
+        drop_readers(&mut self.cache, at);
+    }
+
+    /// Whether a walk has read a word of a page of RAM.
+    fn has_read(&self, page: u32) -> bool
+        ensures { result ≡ false → NoneReadsPage page self.now }
+    {
+        is_reader(&self.fetch_memo, page)
+            || is_reader(&self.data_memo, page)
+            || has_reader(&self.cache, page)
+    }
+
+    /// Forgets all walks where one of them has read a word of a page of RAM.
+    #[cold]
+    fn forget_readers(&mut self, page: u32)
+        ensures among { AreAmong self.new self.old }
+        ensures none { NoneReadsPage page self.new }
+    {
+        if self.has_read(page) {
+            self.clear();
+        }
     }
 
     /// Forgets the walks that have read a word of a page of RAM, which was written.
     ///
     /// What is kept then stands again, where it did before that page was written.
+    #[inline]
     pub fn forget_page(&mut self, page: u32)
         ensures among { AreAmong self.new self.old }
         ensures none { NoneReadsPage page self.new }
         ensures stand { (limit : ℕ) (ram now : List ℕ) (table_pointer : ℕ) → DiffersInPage page ram now → AllStand limit ram table_pointer self.old → AllStand limit now table_pointer self.new }
     {
-        let _ = page;
-        self.memo = None;
+        if self.pages[(page % 256) as usize] {
+            self.forget_readers(page);
+        }
     }
 }
 
@@ -94,6 +319,7 @@ impl Buffer {
 pub fn write_register(registers: &mut MmuRegisters, buffer: &mut Buffer, at: u32, word: u32) -> bool
     ensures there { result ≡ is_register at }
     ensures registers { registers.new ≡ after_write registers.old at word }
+    ensures refused { result ≡ false → registers.new ≡ registers.old }
     ensures emptied { (at ≡ control_address) ⊎ (at ≡ table_pointer_address) → buffer.new ≡ [] }
     ensures among { AreAmong buffer.new buffer.old }
     ensures stand { (limit : ℕ) (ram : List ℕ) → AllStand limit ram registers.old.table_pointer buffer.old → AllStand limit ram registers.new.table_pointer buffer.new }

@@ -1,6 +1,6 @@
 //! The registers of the memory management unit, and the faults that they record.
 
-ghost use Rattle.std.specs.Prelude.{◌≡◌, ◌≢◌, ◌≤◌};
+ghost use Rattle.std.specs.Prelude.{◌≡◌, ◌≢◌, ◌≤◌, false, None};
 ghost use Rattle.sv8_mmu.specs.Registers.{registers_at_reset, translates, has_no_fault, table_pointer_address, register_at, after_read, is_register, after_write, has_fault, status_of, recorded};
 
 /// The registers of the reference memory management unit.
@@ -99,6 +99,8 @@ impl MmuRegisters {
     pub fn read_register(&mut self, at: u32) -> Option<u32>
         ensures value { result ≡ register_at self.old at }
         ensures registers { self.new ≡ after_read self.old at }
+        ensures pointer { self.new.table_pointer ≡ self.old.table_pointer }
+        ensures none { result ≡ None → self.new ≡ self.old }
     {
         match at {
             CONTROL => Some(self.control),
@@ -121,6 +123,7 @@ impl MmuRegisters {
         ensures there { result ≡ is_register at }
         ensures registers { self.new ≡ after_write self.old at word }
         ensures pointer { at ≢ table_pointer_address → self.new.table_pointer ≡ self.old.table_pointer }
+        ensures refused { result ≡ false → self.new ≡ self.old }
     {
         match at {
             CONTROL => self.control = word % 4,

@@ -9,7 +9,7 @@ ghost use Rattle.sv8_mmu.specs.Translation.{fault_types, permission, fault_type,
 ghost use Rattle.sv8_mmu.specs.Kept.{places_of, reads_of, IsEnd, IsTranslation, IsWalk, AllStand};
 ghost use Rattle.sv8_model.specs.Action.{done, store_word};
 
-use crate::buffer::{Buffer, Key};
+use crate::buffer::{Buffer, Key, Purpose};
 use crate::registers::MmuRegisters;
 use crate::walk::{Trail, Walk, Walked, walk_for};
 use std::alloc::AllocError;
@@ -157,11 +157,22 @@ pub fn note_reads<T: Touches>(trail: &Trail, notes: &mut T) -> Result<(), AllocE
     Ok(())
 }
 
+/// What the walk of an access is for.
+#[inline]
+fn purpose_of(access_type: u8) -> Purpose {
+    match access_type {
+        2 | 3 => Purpose::Fetch,
+        _ => Purpose::Data,
+    }
+}
+
 /// The walk for a context and a page: one that is kept, or a new one, which is then kept.
+#[inline]
 fn find_walk<const PAGES: usize>(
     table_pointer: u32,
     buffer: &mut Buffer,
     phys: &Phys<PAGES>,
+    purpose: Purpose,
     key: Key,
 ) -> Walk
     requires page { key.page < 2 ^ 20 }
@@ -169,7 +180,7 @@ fn find_walk<const PAGES: usize>(
     ensures walk { IsWalk (ram_size PAGES) phys.now.ram table_pointer key.context (key.page * 4096) result }
     ensures stand { AllStand (ram_size PAGES) phys.now.ram table_pointer buffer.new }
 {
-    if let Some(walk) = buffer.find(key) {
+    if let Some(walk) = buffer.find(purpose, key) {
         return walk;
     }
     let walk = walk_for(phys, table_pointer, key.context, key.page * 0x1000);
@@ -278,7 +289,8 @@ pub fn translate<const PAGES: usize, T: Touches>(
         context: registers.context,
         page: access.address / 0x1000,
     };
-    let walk = find_walk(registers.table_pointer, buffer, phys, key);
+    let purpose = purpose_of(access.access_type);
+    let walk = find_walk(registers.table_pointer, buffer, phys, purpose, key);
     note_reads(&walk.trail, notes)?;
     let answer = settle(buffer, phys, key, walk, access, notes)?;
     Ok(answer)

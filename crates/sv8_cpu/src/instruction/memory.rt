@@ -96,7 +96,7 @@ pub fn alternate_trap<const NW: usize>(
     } else if !is_multiple(address, size_of(op)) {
         Some(Trap::MemAddressNotAligned)
     } else {
-        Some(Trap::DataAccessException)
+        None
     }
 }
 

@@ -1,0 +1,285 @@
+//! Accesses at a physical address: RAM, the devices, and the registers of the memory management unit, which record faults.
+
+ghost use Rattle.std.specs.Prelude.{◌≡◌, ℕ, ◌+◌, ◌*◌, ◌%◌, ◌/◌, ◌≤◌, ◌<◌, ◌∷◌, List, true, IfOk, OnOk, OnErr};
+ghost use Rattle.sv8_model.specs.Does.{Does};
+ghost use Rattle.sv8_time.specs.Schedule.{bytes_below};
+ghost use Rattle.sv8_phys.specs.declared.timer.Timer.{Timer};
+ghost use Rattle.sv8_phys.specs.Memory.{bytes_in, ram_size};
+ghost use Rattle.sv8_phys.specs.Contents.{arrived, outside_of};
+ghost use Rattle.sv8_mmu.specs.Kept.{DiffersInPage};
+ghost use Rattle.sv8_cpu.specs.Units.{served, failed, is_hidden};
+ghost use Rattle.sv8_cpu.specs.Access.{load_type, store_type, bus_fault, fetched_from, load_answer, is_word, takes_byte, counts_bytes, plainly_loaded, loaded_from, answer_to_store, stored_at, exchanged_at};
+ghost use Rattle.sv8_cpu.specs.View.{units_of};
+
+use crate::access::Response;
+use std::alloc::AllocError;
+use sv8_mmu::{Fault, MmuRegisters};
+use sv8_phys::{BusError, INPUT, Phys, Size, Touches, WAITING};
+use sv8_time::Timeline;
+use sv8_trap::Trap;
+
+/// Physical memory of `PAGES` pages of RAM with the devices, and the memory management unit's registers.
+#[derive(Drop)]
+pub struct Physical<const PAGES: usize> {
+    pub phys: Phys<PAGES>,
+    pub mmu: MmuRegisters,
+}
+
+/// The access type of a load from an address space.
+#[inline(always)]
+#[tactic(auto, unfolding(crate::specs::Access::load_type))]
+pub fn load_type(asi: u8) -> u8
+    ensures value { result ≡ load_type asi }
+    ensures small { result ≤ 7 }
+{
+    match asi {
+        0x08 => 2,
+        0x09 => 3,
+        0x0a => 0,
+        _ => 1,
+    }
+}
+
+/// The access type of a store to an address space.
+#[inline(always)]
+#[tactic(auto, unfolding(crate::specs::Access::store_type))]
+pub fn store_type(asi: u8) -> u8
+    ensures value { result ≡ store_type asi }
+    ensures small { result ≤ 7 }
+{
+    match asi {
+        0x08 => 6,
+        0x09 => 7,
+        0x0a => 4,
+        _ => 5,
+    }
+}
+
+#[inline(always)]
+pub fn is_word(size: Size) -> bool
+    ensures { result ≡ is_word size }
+{
+    matches!(size, Size::Word)
+}
+
+/// Whether a load takes a byte of the console's input.
+#[inline(always)]
+fn takes_byte(size: Size, pa: u64) -> bool
+    ensures { result ≡ takes_byte size pa }
+{
+    is_word(size) && pa == INPUT
+}
+
+/// Whether a load counts the bytes that wait at the console.
+#[inline(always)]
+fn counts_bytes(size: Size, pa: u64) -> bool
+    ensures { result ≡ counts_bytes size pa }
+{
+    is_word(size) && pa == WAITING
+}
+
+/// Whether NF keeps a fault in an address space from raising a trap.
+#[tactic(auto, unfolding(crate::specs::Units::is_hidden))]
+fn is_hidden(mmu: &MmuRegisters, asi: u8) -> bool
+    ensures { result ≡ is_hidden mmu.now asi }
+{
+    mmu.has_no_fault() && asi != 9
+}
+
+impl<const PAGES: usize> Physical<PAGES> {
+    /// Records a fault, and raises the trap unless the fault is hidden.
+    #[cold]
+    #[tactic(auto, unfolding(crate::specs::Units::failed, sv8_mmu::specs::Registers::recorded))]
+    pub fn fail(&mut self, trap: Trap, asi: u8, fault: Fault) -> Response
+        requires level { fault.level ≤ 3 }
+        requires access_type { fault.access_type ≤ 7 }
+        requires fault_type { fault.fault_type ≤ 7 }
+        ensures served { record { response = result; units = units_of self.new } ≡ failed (units_of self.old) trap asi fault }
+        ensures memory { self.new.phys ≡ self.old.phys }
+        ensures pointer { self.new.mmu.table_pointer ≡ self.old.mmu.table_pointer }
+    {
+        let hidden = is_hidden(&self.mmu, asi);
+        self.mmu.record(fault);
+        if hidden {
+            Response::Value(0)
+        } else {
+            Response::Refused(trap)
+        }
+    }
+
+    /// Records that nothing serves a physical address.
+    #[cold]
+    fn fail_bus(&mut self, trap: Trap, asi: u8, access_type: u8, va: u32) -> Response
+        requires { access_type ≤ 7 }
+        ensures served { record { response = result; units = units_of self.new } ≡ failed (units_of self.old) trap asi (bus_fault access_type va) }
+        ensures memory { self.new.phys ≡ self.old.phys }
+        ensures pointer { self.new.mmu.table_pointer ≡ self.old.mmu.table_pointer }
+    {
+        let fault = Fault {
+            level: 0,
+            access_type,
+            fault_type: 5,
+            address: va,
+        };
+        self.fail(trap, asi, fault)
+    }
+
+    /// What a load leads to.
+    #[inline(always)]
+    fn load_answer(&mut self, asi: u8, va: u32, answer: Result<u64, BusError>) -> Response
+        ensures served { record { response = result; units = units_of self.new } ≡ load_answer (units_of self.old) asi va answer }
+        ensures memory { self.new.phys ≡ self.old.phys }
+        ensures pointer { self.new.mmu.table_pointer ≡ self.old.mmu.table_pointer }
+    {
+        match answer {
+            Ok(value) => Response::Value(value),
+            Err(_) => self.fail_bus(Trap::DataAccessException, asi, load_type(asi), va),
+        }
+    }
+
+    /// What a store leads to.
+    #[inline(always)]
+    fn store_answer(&mut self, asi: u8, va: u32, answer: Result<(), BusError>) -> Response
+        ensures served { record { response = result; units = units_of self.new } ≡ answer_to_store (units_of self.old) asi va answer }
+        ensures memory { self.new.phys ≡ self.old.phys }
+        ensures pointer { self.new.mmu.table_pointer ≡ self.old.mmu.table_pointer }
+    {
+        match answer {
+            Ok(()) => Response::Value(0),
+            Err(_) => self.fail_bus(Trap::DataAccessException, asi, store_type(asi), va),
+        }
+    }
+}
+
+impl<const PAGES: usize> Physical<PAGES> {
+    /// Fetches an instruction.
+    #[inline(always)]
+    #[tactic(auto, unfolding(crate::specs::Access::fetched_from))]
+    pub fn fetch<T: Touches>(
+        &mut self,
+        asi: u8,
+        va: u32,
+        pa: u64,
+        notes: &mut T,
+    ) -> Result<Response, AllocError>
+        requires { pa % 4 ≡ 0 }
+        ensures ok { IfOk result (λ r. (bytes : List ℕ) → Does T.KEEPS (fetched_from (ram_size PAGES) (units_of self.old) asi va pa)
+            (outside_of self.old.phys bytes) (outside_of self.new.phys bytes) (record { response = r; units = units_of self.new }) (T.noted notes.old) (T.noted notes.new)) }
+        ensures kept { self.new.phys.ram ≡ self.old.phys.ram }
+        ensures pointer { self.new.mmu.table_pointer ≡ self.old.mmu.table_pointer }
+        ensures taken { OnOk result (self.new.phys.taken ≡ self.old.phys.taken) }
+    {
+        if self.phys.is_ram(pa) {
+            let word = self.phys.read_ram(pa, Size::Word, notes)?;
+            Ok(Response::Value(word))
+        } else {
+            Ok(self.fail_bus(Trap::InstructionAccessException, asi, load_type(asi), va))
+        }
+    }
+
+    /// Loads from RAM or a device, but for the console's input.
+    #[inline(always)]
+    fn load_plain<T: Touches>(
+        &mut self,
+        size: Size,
+        asi: u8,
+        va: u32,
+        pa: u64,
+        notes: &mut T,
+    ) -> Result<Response, AllocError>
+        requires { pa % bytes_in size ≡ 0 }
+        ensures ok { IfOk result (λ r. (bytes : List ℕ) → Does T.KEEPS (plainly_loaded (ram_size PAGES) (units_of self.old) size asi va pa)
+            (outside_of self.old.phys bytes) (outside_of self.new.phys bytes) (record { response = r; units = units_of self.new }) (T.noted notes.old) (T.noted notes.new)) }
+        ensures kept { self.new.phys.ram ≡ self.old.phys.ram }
+        ensures pointer { self.new.mmu.table_pointer ≡ self.old.mmu.table_pointer }
+        ensures taken { OnOk result (self.new.phys.taken ≡ self.old.phys.taken) }
+    {
+        let answer = self.phys.read(pa, size, notes)?;
+        Ok(self.load_answer(asi, va, answer))
+    }
+
+    /// Loads from RAM or a device.
+    #[inline(always)]
+    #[tactic(auto, unfolding(crate::specs::Access::loaded_from))]
+    pub fn load<T: Touches>(
+        &mut self,
+        size: Size,
+        asi: u8,
+        va: u32,
+        pa: u64,
+        before: u32,
+        timeline: &Timeline,
+        notes: &mut T,
+    ) -> Result<Response, AllocError>
+        requires aligned { pa % bytes_in size ≡ 0 }
+        requires delivered { self.old.phys.taken ≤ bytes_below before timeline.now.inputs }
+        ensures ok { IfOk result (λ r. Does T.KEEPS (loaded_from (ram_size PAGES) (units_of self.old) size asi va pa)
+            (outside_of self.old.phys (arrived before timeline.now)) (outside_of self.new.phys (arrived before timeline.now))
+            (record { response = r; units = units_of self.new }) (T.noted notes.old) (T.noted notes.new)) }
+        ensures kept { self.new.phys.ram ≡ self.old.phys.ram }
+        ensures pointer { self.new.mmu.table_pointer ≡ self.old.mmu.table_pointer }
+        ensures taken { OnOk result (self.new.phys.taken ≤ bytes_below before timeline.now.inputs) }
+    {
+        if takes_byte(size, pa) {
+            let byte = self.phys.take_input(before, timeline, notes)?;
+            Ok(Response::Value(byte as u64))
+        } else if counts_bytes(size, pa) {
+            let count = self.phys.waiting(before, timeline, notes)?;
+            Ok(Response::Value(count as u64))
+        } else {
+            let response = self.load_plain(size, asi, va, pa, notes)?;
+            Ok(response)
+        }
+    }
+
+    /// Stores to RAM or a device.
+    #[inline(always)]
+    #[tactic(auto, unfolding(crate::specs::Access::stored_at))]
+    pub fn store<T: Touches>(
+        &mut self,
+        size: Size,
+        asi: u8,
+        va: u32,
+        pa: u64,
+        value: u64,
+        notes: &mut T,
+    ) -> Result<Response, AllocError>
+        requires { pa % bytes_in size ≡ 0 }
+        ensures ok { IfOk result (λ r. (bytes : List ℕ) → Does T.KEEPS (stored_at (ram_size PAGES) (units_of self.old) size asi value va pa)
+            (outside_of self.old.phys bytes) (outside_of self.new.phys bytes) (record { response = r; units = units_of self.new }) (T.noted notes.old) (T.noted notes.new)) }
+        ensures kept { OnErr result (self.new.phys.ram ≡ self.old.phys.ram) }
+        ensures page { DiffersInPage (pa / 4096) self.old.phys.ram self.new.phys.ram }
+        ensures pointer { self.new.mmu.table_pointer ≡ self.old.mmu.table_pointer }
+        ensures taken { OnOk result (self.new.phys.taken ≡ self.old.phys.taken) }
+    {
+        let answer = self.phys.write(pa, size, value, notes)?;
+        Ok(self.store_answer(asi, va, answer))
+    }
+
+    /// Loads from RAM, and stores in the same place.
+    #[tactic(auto, unfolding(crate::specs::Access::exchanged_at))]
+    pub fn exchange<T: Touches>(
+        &mut self,
+        size: Size,
+        asi: u8,
+        va: u32,
+        pa: u64,
+        value: u64,
+        notes: &mut T,
+    ) -> Result<Response, AllocError>
+        requires { pa % bytes_in size ≡ 0 }
+        ensures ok { IfOk result (λ r. (bytes : List ℕ) → Does T.KEEPS (exchanged_at (ram_size PAGES) (units_of self.old) size asi value va pa)
+            (outside_of self.old.phys bytes) (outside_of self.new.phys bytes) (record { response = r; units = units_of self.new }) (T.noted notes.old) (T.noted notes.new)) }
+        ensures kept { OnErr result (self.new.phys.ram ≡ self.old.phys.ram) }
+        ensures page { DiffersInPage (pa / 4096) self.old.phys.ram self.new.phys.ram }
+        ensures pointer { self.new.mmu.table_pointer ≡ self.old.mmu.table_pointer }
+        ensures taken { OnOk result (self.new.phys.taken ≡ self.old.phys.taken) }
+    {
+        if !self.phys.is_ram(pa) {
+            return Ok(self.fail_bus(Trap::DataAccessException, asi, store_type(asi), va));
+        }
+        let old = self.phys.read_ram(pa, size, notes)?;
+        self.phys.write_ram(pa, size, value, notes)?;
+        Ok(Response::Value(old))
+    }
+}

@@ -1,0 +1,519 @@
+//! Accesses by address space (Appendices H and I).
+
+ghost use Rattle.std.specs.Prelude.{◌≡◌, ℕ, ◌+◌, ◌*◌, ◌%◌, ◌/◌, ◌^◌, ◌≤◌, ◌<◌, List, true, IfOk, OnOk, OnErr};
+ghost use Rattle.sv8_model.specs.Does.{Does};
+ghost use Rattle.sv8_time.specs.Schedule.{bytes_below};
+ghost use Rattle.sv8_phys.specs.declared.size.Size.{Size};
+ghost use Rattle.sv8_phys.specs.Memory.{bytes_in, ram_size};
+ghost use Rattle.sv8_phys.specs.Contents.{arrived, outside_of};
+ghost use Rattle.sv8_cpu.specs.Units.{served, failed};
+ghost use Rattle.sv8_cpu.specs.Access.{load_type, store_type, physical_place, fetched_in, loaded_in, stored_in, exchanged_in, stored_at, exchanged_at, reach_of, space_of, instruction_space, is_word, no_such_access, answer_of_register, register_loaded, register_stored, probed, access, IsAligned};
+ghost use Rattle.sv8_cpu.specs.View.{units_of, Serves};
+
+use crate::access::{Request, Response, Space, space_of};
+use crate::physical::{Physical, is_word, load_type, store_type};
+use std::alloc::AllocError;
+use sv8_mmu::{Buffer, Fault, Reach, Translated, VirtualAccess, probe, translate, write_register};
+use sv8_phys::{Size, Touches};
+use sv8_time::Timeline;
+use sv8_trap::Trap;
+
+/// The address space that instructions are fetched from.
+#[inline(always)]
+fn instruction_space(supervisor: bool) -> u8
+    ensures { result ≡ instruction_space supervisor }
+{
+    if supervisor { 0x09 } else { 0x08 }
+}
+
+/// What serves a load or a store of a size.
+#[inline(always)]
+fn reach_of(size: Size) -> Reach
+    ensures { result ≡ reach_of size }
+{
+    match size {
+        Size::Word => Reach::RamOrDevices,
+        Size::Byte | Size::Half | Size::Double => Reach::Ram,
+    }
+}
+
+/// The physical address in one of the spaces of physical addresses.
+#[inline(always)]
+#[tactic(auto, using(crate::proofs::Pages::place_aligned))]
+fn physical_place(high: u8, at: u32) -> u64
+    ensures value { result ≡ physical_place high at }
+    ensures aligned { (size : Size) → at % bytes_in size ≡ 0 → result % bytes_in size ≡ 0 }
+    ensures small { result < 2 ^ 44 }
+{
+    high as u64 * 0x1_0000_0000 + at as u64
+}
+
+/// Fails an access whose translation meets a fault.
+#[cold]
+fn refuse<const PAGES: usize>(
+    physical: &mut Physical<PAGES>,
+    trap: Trap,
+    asi: u8,
+    access: VirtualAccess,
+    kind: u8,
+    level: u8,
+) -> Response
+    requires access_type { access.access_type ≤ 7 }
+    requires kind { kind ≤ 7 }
+    requires level { level ≤ 3 }
+    ensures served { record { response = result; units = units_of physical.new }
+        ≡ failed (units_of physical.old) trap asi (record { level = level; access_type = access.access_type; fault_type = kind; address = access.address }) }
+    ensures memory { physical.new.phys ≡ physical.old.phys }
+    ensures pointer { physical.new.mmu.table_pointer ≡ physical.old.mmu.table_pointer }
+{
+    let fault = Fault {
+        level,
+        access_type: access.access_type,
+        fault_type: kind,
+        address: access.address,
+    };
+    physical.fail(trap, asi, fault)
+}
+
+/// Fetches an instruction.
+#[inline(always)]
+fn fetch<const PAGES: usize, T: Touches>(
+    physical: &mut Physical<PAGES>,
+    buffer: &mut Buffer,
+    asi: u8,
+    at: u32,
+    notes: &mut T,
+) -> Result<Response, AllocError>
+    requires aligned { at % 4 ≡ 0 }
+    requires serves { Serves physical.old buffer.old }
+    ensures ok { IfOk result (λ r. (bytes : List ℕ) → Does T.KEEPS (fetched_in (ram_size PAGES) (units_of physical.old) asi at)
+        (outside_of physical.old.phys bytes) (outside_of physical.new.phys bytes) (record { response = r; units = units_of physical.new }) (T.noted notes.old) (T.noted notes.new)) }
+    ensures taken { OnOk result (physical.new.phys.taken ≡ physical.old.phys.taken) }
+    ensures serves { Serves physical.new buffer.new }
+{
+    let access = VirtualAccess {
+        address: at,
+        access_type: load_type(asi),
+        reach: Reach::Ram,
+    };
+    match translate(&physical.mmu, buffer, &mut physical.phys, access, notes)? {
+        Translated::At(pa) => {
+            let response = physical.fetch(asi, at, pa, notes)?;
+            Ok(response)
+        }
+        Translated::Refused { kind, level } => Ok(refuse(
+            physical,
+            Trap::InstructionAccessException,
+            asi,
+            access,
+            kind,
+            level,
+        )),
+    }
+}
+
+/// Loads from RAM or a device at a virtual address.
+#[inline(always)]
+fn load_virtual<const PAGES: usize, T: Touches>(
+    physical: &mut Physical<PAGES>,
+    buffer: &mut Buffer,
+    size: Size,
+    asi: u8,
+    at: u32,
+    before: u32,
+    timeline: &Timeline,
+    notes: &mut T,
+) -> Result<Response, AllocError>
+    requires aligned { at % bytes_in size ≡ 0 }
+    requires delivered { physical.old.phys.taken ≤ bytes_below before timeline.now.inputs }
+    requires serves { Serves physical.old buffer.old }
+    ensures ok { IfOk result (λ r. Does T.KEEPS (loaded_in (ram_size PAGES) (units_of physical.old) size asi at Space.Virtual)
+        (outside_of physical.old.phys (arrived before timeline.now)) (outside_of physical.new.phys (arrived before timeline.now))
+        (record { response = r; units = units_of physical.new }) (T.noted notes.old) (T.noted notes.new)) }
+    ensures taken { OnOk result (physical.new.phys.taken ≤ bytes_below before timeline.now.inputs) }
+    ensures serves { Serves physical.new buffer.new }
+{
+    let access = VirtualAccess {
+        address: at,
+        access_type: load_type(asi),
+        reach: reach_of(size),
+    };
+    match translate(&physical.mmu, buffer, &mut physical.phys, access, notes)? {
+        Translated::At(pa) => {
+            let response = physical.load(size, asi, at, pa, before, timeline, notes)?;
+            Ok(response)
+        }
+        Translated::Refused { kind, level } => Ok(refuse(
+            physical,
+            Trap::DataAccessException,
+            asi,
+            access,
+            kind,
+            level,
+        )),
+    }
+}
+
+/// Loads a register of the memory management unit.
+#[cold]
+fn load_register<const PAGES: usize>(physical: &mut Physical<PAGES>, at: u32) -> Response
+    ensures served { record { response = result; units = units_of physical.new } ≡ register_loaded (units_of physical.old) at }
+    ensures memory { physical.new.phys ≡ physical.old.phys }
+    ensures pointer { physical.new.mmu.table_pointer ≡ physical.old.mmu.table_pointer }
+{
+    match physical.mmu.read_register(at) {
+        None => Response::Refused(Trap::DataAccessException),
+        Some(word) => Response::Value(word as u64),
+    }
+}
+
+/// Probes the tables.
+#[cold]
+fn load_probe<const PAGES: usize, T: Touches>(
+    physical: &Physical<PAGES>,
+    size: Size,
+    at: u32,
+    notes: &mut T,
+) -> Result<Response, AllocError>
+    ensures ok { IfOk result (λ r. (bytes : List ℕ) → Does T.KEEPS (probed (ram_size PAGES) (units_of physical.now) size at)
+        (outside_of physical.now.phys bytes) (outside_of physical.now.phys bytes) (record { response = r; units = units_of physical.now }) (T.noted notes.old) (T.noted notes.new)) }
+{
+    if !is_word(size) {
+        return Ok(Response::Refused(Trap::DataAccessException));
+    }
+    let entry = probe(&physical.mmu, &physical.phys, at, notes)?;
+    Ok(Response::Value(entry as u64))
+}
+
+/// Loads from an address space.
+#[inline(always)]
+fn load<const PAGES: usize, T: Touches>(
+    physical: &mut Physical<PAGES>,
+    buffer: &mut Buffer,
+    size: Size,
+    asi: u8,
+    at: u32,
+    before: u32,
+    timeline: &Timeline,
+    notes: &mut T,
+) -> Result<Response, AllocError>
+    requires aligned { at % bytes_in size ≡ 0 }
+    requires delivered { physical.old.phys.taken ≤ bytes_below before timeline.now.inputs }
+    requires serves { Serves physical.old buffer.old }
+    ensures ok { IfOk result (λ r. Does T.KEEPS (loaded_in (ram_size PAGES) (units_of physical.old) size asi at (space_of asi))
+        (outside_of physical.old.phys (arrived before timeline.now)) (outside_of physical.new.phys (arrived before timeline.now))
+        (record { response = r; units = units_of physical.new }) (T.noted notes.old) (T.noted notes.new)) }
+    ensures taken { OnOk result (physical.new.phys.taken ≤ bytes_below before timeline.now.inputs) }
+    ensures serves { Serves physical.new buffer.new }
+{
+    match space_of(asi) {
+        Space::Virtual => {
+            let response = load_virtual(physical, buffer, size, asi, at, before, timeline, notes)?;
+            Ok(response)
+        }
+        Space::Physical(high) => {
+            let place = physical_place(high, at);
+            let response = physical.load(size, asi, at, place, before, timeline, notes)?;
+            Ok(response)
+        }
+        Space::Probing => {
+            let response = load_probe(physical, size, at, notes)?;
+            Ok(response)
+        }
+        Space::Registers => {
+            if is_word(size) {
+                Ok(load_register(physical, at))
+            } else {
+                Ok(Response::Refused(Trap::DataAccessException))
+            }
+        }
+        Space::Unassigned => Ok(Response::Refused(Trap::DataAccessException)),
+    }
+}
+
+/// Stores to RAM or a device at a physical address. What the buffer keeps of the page is forgotten.
+#[inline(always)]
+fn store_physical<const PAGES: usize, T: Touches>(
+    physical: &mut Physical<PAGES>,
+    buffer: &mut Buffer,
+    size: Size,
+    asi: u8,
+    at: u32,
+    pa: u64,
+    value: u64,
+    notes: &mut T,
+) -> Result<Response, AllocError>
+    requires aligned { pa % bytes_in size ≡ 0 }
+    requires small { pa < 2 ^ 44 }
+    requires serves { Serves physical.old buffer.old }
+    ensures ok { IfOk result (λ r. (bytes : List ℕ) → Does T.KEEPS (stored_at (ram_size PAGES) (units_of physical.old) size asi value at pa)
+        (outside_of physical.old.phys bytes) (outside_of physical.new.phys bytes) (record { response = r; units = units_of physical.new }) (T.noted notes.old) (T.noted notes.new)) }
+    ensures taken { OnOk result (physical.new.phys.taken ≡ physical.old.phys.taken) }
+    ensures serves { Serves physical.new buffer.new }
+{
+    let response = physical.store(size, asi, at, pa, value, notes)?;
+    buffer.forget_page((pa / 4096) as u32);
+    Ok(response)
+}
+
+/// Stores to RAM or a device at a virtual address.
+#[inline(always)]
+fn store_virtual<const PAGES: usize, T: Touches>(
+    physical: &mut Physical<PAGES>,
+    buffer: &mut Buffer,
+    size: Size,
+    asi: u8,
+    at: u32,
+    value: u64,
+    notes: &mut T,
+) -> Result<Response, AllocError>
+    requires aligned { at % bytes_in size ≡ 0 }
+    requires serves { Serves physical.old buffer.old }
+    ensures ok { IfOk result (λ r. (bytes : List ℕ) → Does T.KEEPS (stored_in (ram_size PAGES) (units_of physical.old) size asi at value Space.Virtual)
+        (outside_of physical.old.phys bytes) (outside_of physical.new.phys bytes) (record { response = r; units = units_of physical.new }) (T.noted notes.old) (T.noted notes.new)) }
+    ensures taken { OnOk result (physical.new.phys.taken ≡ physical.old.phys.taken) }
+    ensures serves { Serves physical.new buffer.new }
+{
+    let access = VirtualAccess {
+        address: at,
+        access_type: store_type(asi),
+        reach: reach_of(size),
+    };
+    match translate(&physical.mmu, buffer, &mut physical.phys, access, notes)? {
+        Translated::At(pa) => {
+            let response = store_physical(physical, buffer, size, asi, at, pa, value, notes)?;
+            Ok(response)
+        }
+        Translated::Refused { kind, level } => Ok(refuse(
+            physical,
+            Trap::DataAccessException,
+            asi,
+            access,
+            kind,
+            level,
+        )),
+    }
+}
+
+/// Stores to a register of the memory management unit.
+#[cold]
+fn store_register<const PAGES: usize>(
+    physical: &mut Physical<PAGES>,
+    buffer: &mut Buffer,
+    at: u32,
+    word: u32,
+) -> Response
+    requires serves { Serves physical.old buffer.old }
+    ensures served { record { response = result; units = units_of physical.new } ≡ register_stored (units_of physical.old) at word }
+    ensures memory { physical.new.phys ≡ physical.old.phys }
+    ensures serves { Serves physical.new buffer.new }
+{
+    if write_register(&mut physical.mmu, buffer, at, word) {
+        Response::Value(0)
+    } else {
+        Response::Refused(Trap::DataAccessException)
+    }
+}
+
+/// Empties the buffer.
+#[cold]
+fn flush<const PAGES: usize>(physical: &Physical<PAGES>, buffer: &mut Buffer) -> Response
+    ensures response { result ≡ Response.Value 0 }
+    ensures serves { Serves physical.now buffer.new }
+{
+    buffer.clear();
+    Response::Value(0)
+}
+
+/// Stores to an address space.
+#[inline(always)]
+fn store<const PAGES: usize, T: Touches>(
+    physical: &mut Physical<PAGES>,
+    buffer: &mut Buffer,
+    size: Size,
+    asi: u8,
+    at: u32,
+    value: u64,
+    notes: &mut T,
+) -> Result<Response, AllocError>
+    requires aligned { at % bytes_in size ≡ 0 }
+    requires serves { Serves physical.old buffer.old }
+    ensures ok { IfOk result (λ r. (bytes : List ℕ) → Does T.KEEPS (stored_in (ram_size PAGES) (units_of physical.old) size asi at value (space_of asi))
+        (outside_of physical.old.phys bytes) (outside_of physical.new.phys bytes) (record { response = r; units = units_of physical.new }) (T.noted notes.old) (T.noted notes.new)) }
+    ensures taken { OnOk result (physical.new.phys.taken ≡ physical.old.phys.taken) }
+    ensures serves { Serves physical.new buffer.new }
+{
+    match space_of(asi) {
+        Space::Virtual => {
+            let response = store_virtual(physical, buffer, size, asi, at, value, notes)?;
+            Ok(response)
+        }
+        Space::Physical(high) => {
+            let place = physical_place(high, at);
+            let response = store_physical(physical, buffer, size, asi, at, place, value, notes)?;
+            Ok(response)
+        }
+        Space::Probing => {
+            if is_word(size) {
+                Ok(flush(physical, buffer))
+            } else {
+                Ok(Response::Refused(Trap::DataAccessException))
+            }
+        }
+        Space::Registers => {
+            if is_word(size) {
+                let word = (value % 0x1_0000_0000) as u32;
+                Ok(store_register(physical, buffer, at, word))
+            } else {
+                Ok(Response::Refused(Trap::DataAccessException))
+            }
+        }
+        Space::Unassigned => Ok(Response::Refused(Trap::DataAccessException)),
+    }
+}
+
+/// Loads from RAM at a physical address, and stores in the same place. What the buffer keeps of the page is forgotten.
+fn exchange_physical<const PAGES: usize, T: Touches>(
+    physical: &mut Physical<PAGES>,
+    buffer: &mut Buffer,
+    size: Size,
+    asi: u8,
+    at: u32,
+    pa: u64,
+    value: u64,
+    notes: &mut T,
+) -> Result<Response, AllocError>
+    requires aligned { pa % bytes_in size ≡ 0 }
+    requires small { pa < 2 ^ 44 }
+    requires serves { Serves physical.old buffer.old }
+    ensures ok { IfOk result (λ r. (bytes : List ℕ) → Does T.KEEPS (exchanged_at (ram_size PAGES) (units_of physical.old) size asi value at pa)
+        (outside_of physical.old.phys bytes) (outside_of physical.new.phys bytes) (record { response = r; units = units_of physical.new }) (T.noted notes.old) (T.noted notes.new)) }
+    ensures taken { OnOk result (physical.new.phys.taken ≡ physical.old.phys.taken) }
+    ensures serves { Serves physical.new buffer.new }
+{
+    let response = physical.exchange(size, asi, at, pa, value, notes)?;
+    buffer.forget_page((pa / 4096) as u32);
+    Ok(response)
+}
+
+/// Loads from RAM at a virtual address, and stores in the same place.
+fn exchange_virtual<const PAGES: usize, T: Touches>(
+    physical: &mut Physical<PAGES>,
+    buffer: &mut Buffer,
+    size: Size,
+    asi: u8,
+    at: u32,
+    value: u64,
+    notes: &mut T,
+) -> Result<Response, AllocError>
+    requires aligned { at % bytes_in size ≡ 0 }
+    requires serves { Serves physical.old buffer.old }
+    ensures ok { IfOk result (λ r. (bytes : List ℕ) → Does T.KEEPS (exchanged_in (ram_size PAGES) (units_of physical.old) size asi at value Space.Virtual)
+        (outside_of physical.old.phys bytes) (outside_of physical.new.phys bytes) (record { response = r; units = units_of physical.new }) (T.noted notes.old) (T.noted notes.new)) }
+    ensures taken { OnOk result (physical.new.phys.taken ≡ physical.old.phys.taken) }
+    ensures serves { Serves physical.new buffer.new }
+{
+    let access = VirtualAccess {
+        address: at,
+        access_type: store_type(asi),
+        reach: Reach::Ram,
+    };
+    match translate(&physical.mmu, buffer, &mut physical.phys, access, notes)? {
+        Translated::At(pa) => {
+            let response = exchange_physical(physical, buffer, size, asi, at, pa, value, notes)?;
+            Ok(response)
+        }
+        Translated::Refused { kind, level } => Ok(refuse(
+            physical,
+            Trap::DataAccessException,
+            asi,
+            access,
+            kind,
+            level,
+        )),
+    }
+}
+
+/// Loads from an address space, and stores in the same place.
+fn exchange<const PAGES: usize, T: Touches>(
+    physical: &mut Physical<PAGES>,
+    buffer: &mut Buffer,
+    size: Size,
+    asi: u8,
+    at: u32,
+    value: u64,
+    notes: &mut T,
+) -> Result<Response, AllocError>
+    requires aligned { at % bytes_in size ≡ 0 }
+    requires serves { Serves physical.old buffer.old }
+    ensures ok { IfOk result (λ r. (bytes : List ℕ) → Does T.KEEPS (exchanged_in (ram_size PAGES) (units_of physical.old) size asi at value (space_of asi))
+        (outside_of physical.old.phys bytes) (outside_of physical.new.phys bytes) (record { response = r; units = units_of physical.new }) (T.noted notes.old) (T.noted notes.new)) }
+    ensures taken { OnOk result (physical.new.phys.taken ≡ physical.old.phys.taken) }
+    ensures serves { Serves physical.new buffer.new }
+{
+    match space_of(asi) {
+        Space::Virtual => {
+            let response = exchange_virtual(physical, buffer, size, asi, at, value, notes)?;
+            Ok(response)
+        }
+        Space::Physical(high) => {
+            let place = physical_place(high, at);
+            let response = exchange_physical(physical, buffer, size, asi, at, place, value, notes)?;
+            Ok(response)
+        }
+        Space::Probing | Space::Registers | Space::Unassigned => Ok(Response::Refused(
+            Trap::DataAccessException,
+        )),
+    }
+}
+
+/// Makes an access. The bytes that came in at the console at the steps below `before` have arrived.
+#[inline(always)]
+#[tactic(auto, unfolding(crate::specs::Access::access))]
+pub fn access<const PAGES: usize, T: Touches>(
+    physical: &mut Physical<PAGES>,
+    buffer: &mut Buffer,
+    request: Request,
+    before: u32,
+    timeline: &Timeline,
+    notes: &mut T,
+) -> Result<Response, AllocError>
+    requires aligned { IsAligned request }
+    requires delivered { physical.old.phys.taken ≤ bytes_below before timeline.now.inputs }
+    requires serves { Serves physical.old buffer.old }
+    ensures ok { IfOk result (λ r. Does T.KEEPS (access (ram_size PAGES) (units_of physical.old) request)
+        (outside_of physical.old.phys (arrived before timeline.now)) (outside_of physical.new.phys (arrived before timeline.now))
+        (record { response = r; units = units_of physical.new }) (T.noted notes.old) (T.noted notes.new)) }
+    ensures taken { OnOk result (physical.new.phys.taken ≤ bytes_below before timeline.now.inputs) }
+    ensures serves { Serves physical.new buffer.new }
+{
+    match request {
+        Request::Nothing => Ok(Response::Value(0)),
+        Request::Fetch { supervisor, at } => {
+            let response = fetch(physical, buffer, instruction_space(supervisor), at, notes)?;
+            Ok(response)
+        }
+        Request::Load { size, asi, at } => {
+            let response = load(physical, buffer, size, asi, at, before, timeline, notes)?;
+            Ok(response)
+        }
+        Request::Store {
+            size,
+            asi,
+            at,
+            value,
+        } => {
+            let response = store(physical, buffer, size, asi, at, value, notes)?;
+            Ok(response)
+        }
+        Request::Exchange {
+            size,
+            asi,
+            at,
+            value,
+        } => {
+            let response = exchange(physical, buffer, size, asi, at, value, notes)?;
+            Ok(response)
+        }
+    }
+}
