@@ -12,7 +12,9 @@ mod mmu;
 mod readers;
 mod work;
 
-pub use laws::{worked_steps, worked_traps};
+pub use laws::{
+    access_frames, runs_agree, steps_frame, timelines_serve, worked_steps, worked_traps,
+};
 pub use machine::Machine;
 pub use mmu::{Fault, MmuRegisters};
 pub use work::Work;
