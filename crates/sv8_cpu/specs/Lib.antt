@@ -11,6 +11,8 @@ pub mod Step
 pub mod Events
 pub mod State
 pub mod Run
+pub mod Recorded
+pub mod RecordedLaws
 pub mod Loading
 pub mod Work
 pub mod View

@@ -4,6 +4,7 @@ ghost use Rattle.std.specs.Prelude.{◌≡◌, true, false};
 ghost use Rattle.sv8_regs.specs.Control.{packed_psr};
 ghost use Rattle.sv8_regs.specs.Ring.{read};
 ghost use Rattle.sv8_cpu.specs.Examples.{counting, spinning, tagging, returning, run};
+ghost use Rattle.sv8_cpu.specs.RecordedLaws.{AccessFrames, StepFrames, RunsAgree, TimelinesServe};
 
 /// The steps of small programs, computed from the definition of a step.
 ///
@@ -38,4 +39,29 @@ pub fn worked_traps()
     ensures user_state { packed_psr (run 8 8 returning 1).inner.processor.registers.psr (run 8 8 returning 1).inner.processor.registers.cwp ≡ 0x21 }
     ensures trap_handler { (run 8 8 returning 2).inner.processor.pc ≡ 0x800 }
     ensures trap_state { packed_psr (run 8 8 returning 2).inner.processor.registers.psr (run 8 8 returning 2).inner.processor.registers.cwp ≡ 0x80 }
+{}
+
+/// An access to memory that reads no cell of a set (bytes of RAM, waiting bytes, pending levels): in two outsides that differ in these
+/// cells alone it is answered alike and touches the same, and it leaves them alike but for those of the cells that it does not write.
+pub fn access_frames()
+    ensures { AccessFrames }
+{}
+
+/// The machine obeys the frame law of `sv8_history`, for every number of windows and pages: what its footprint does not name, a step with
+/// its event neither depends on nor changes.
+///
+/// So the laws of that theory hold of the machine's runs, from a state that is sound (`docs/HISTORY.md`).
+pub fn steps_frame()
+    ensures { StepFrames }
+{}
+
+/// A run as the theory of recorded runs sees it is the run of the machine: it has the same state before each step, and each step the
+/// footprint of what it touches.
+pub fn runs_agree()
+    ensures { RunsAgree }
+{}
+
+/// A timeline of the size of RAM, whose pokes are bytes, gives each step an event that the theory of recorded runs takes.
+pub fn timelines_serve()
+    ensures { TimelinesServe }
 {}

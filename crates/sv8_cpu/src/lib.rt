@@ -13,7 +13,9 @@ mod readers;
 mod spaces;
 mod work;
 
-pub use laws::{worked_steps, worked_traps};
+pub use laws::{
+    access_frames, runs_agree, steps_frame, timelines_serve, worked_steps, worked_traps,
+};
 pub use machine::Machine;
 pub use sv8_mmu::{Fault, MmuRegisters};
 pub use work::Work;
