@@ -1,7 +1,7 @@
 #!/usr/bin/env python3
 """Refuses each growth of memory of a script's run in turn, and looks at what the program answers.
 
-Usage: tools/refused_growths.py PROGRAM SCRIPT, as tools/refused_growths.py crates/sparc8/out/sparc8 examples/first.txt
+Usage: tools/refused_growths.py PROGRAM SCRIPT, as tools/refused_growths.py crates/sparc8/out/sparc8 crates/sv8_cases/data/examples-first-w8.txt
 
 A run may end with status 3 and the line `sparc8: out of memory`, before any command. Else one command is answered
 `refused 1 OutOfMemory`, and all other answers are those of the script without that command (an edit goes with its lines).

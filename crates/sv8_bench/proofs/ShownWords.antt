@@ -10,6 +10,12 @@ pub no_words : (ram : List ℕ) (address : ℕ) → [] ≡ words_in ram address 
 unfolding words_in
 no_words ram address = refl
 
+pub one_word : (ram : List ℕ) (address w : ℕ) → w ≡ word_of ram (address / 4) → w ∷ [] ≡ words_in ram address 1
+unfolding words_in
+one_word ram address w e =
+    let at : address / 4 ≡ address / 4 + 0 = omega arith in
+    ap (λ x. x ∷ []) (e ∙ ap (word_of ram) at)
+
 -- one word more
 pub words_more : (ram words more : List ℕ) (address i w : ℕ) → words ≡ words_in ram address i → w ≡ word_of ram ((address + 4 * i) / 4) → more ≡ words ++ w ∷ []
     → more ≡ words_in ram address (i + 1)

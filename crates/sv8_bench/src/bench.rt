@@ -1,6 +1,6 @@
 //! The workbench.
 
-ghost use Rattle.std.specs.Prelude.{◌≡◌, ℕ, ◌+◌, ◌*◌, ◌<◌, ◌≤◌, ◌⊎◌, [], length, true, None, Some, IfOk, IfErr, OnOk, OnErr, option_map};
+ghost use Rattle.std.specs.Prelude.{◌≡◌, ℕ, ◌+◌, ◌*◌, ◌<◌, ◌≤◌, ◌⊎◌, [], ◌∷◌, length, true, None, Some, IfOk, IfErr, OnOk, OnErr, option_map};
 ghost use Rattle.sv8_source.specs.Text.{texts};
 ghost use Rattle.sv8_source.specs.Listing.{listing, numbered};
 ghost use Rattle.sv8_source.specs.View.{shown_of};
@@ -204,6 +204,29 @@ impl<const NW: usize, const PAGES: usize, const K: u32> Bench<NW, PAGES, K> {
         let machine = self.machine_at(step)?;
         let words = words_of(self.alloc, &machine, address, count)?;
         Ok(words)
+    }
+
+    /// The word of RAM at an address, as the machine has it at a step: what `words_at` gives for one word.
+    ///
+    /// # Errors
+    ///
+    /// Those of `words_at`.
+    #[tactic(auto, unfolding(crate::specs::Faults::words_refusal))]
+    pub fn word_at(&mut self, step: u32, address: u32) -> Result<u32, BenchFault>
+        ensures shown { IfOk result (λ w. w ∷ [] ≡ words_shown self.old step address 1) }
+        ensures within { OnOk result (words_refusal step address 1 self.old ≡ None) }
+        ensures refused { IfErr result (IsQueryFault (words_refusal step address 1 self.old)) }
+        ensures unchanged { self.new ≡ self.old }
+    {
+        if LAST_STEP < step {
+            return Err(BenchFault::StepTooLarge);
+        }
+        let _source = &self.source;
+        if !are_words(address, 1, 4096 * PAGES as u64) {
+            return Err(BenchFault::BadAddress);
+        }
+        let machine = self.machine_at(step)?;
+        Ok(machine.word(address))
     }
 
     /// The bytes put out at the console by the steps below a step.

@@ -3,8 +3,11 @@
 ghost use Rattle.std.specs.Prelude.{◌≤◌};
 
 use super::*;
-use std::alloc::Global;
+use std::alloc::{AllocError, Global};
 use std::test::Fail;
+use sv8_cpu::Machine;
+use sv8_phys::Page;
+use sv8_source::Source;
 
 /// A loop whose branch annuls its delay slot.
 const LOOP: &[&[u8]] = &[b"loop: ba,a loop", b".word 0"];
@@ -15,6 +18,16 @@ const COUNT: &[&[u8]] = &[
     b"add %g1, 1, %g2",
     b"mov 9, %i7",
     b"ba start",
+    b"nop",
+];
+
+/// A program that puts a byte out at step 2 and stores it at step 3.
+const PRINTS: &[&[u8]] = &[
+    b"sethi 0x200000, %g1",
+    b"mov 0x48, %g2",
+    b"st %g2, [%g1+8]",
+    b"st %g2, [0x100]",
+    b"end: ba end",
     b"nop",
 ];
 
@@ -33,6 +46,8 @@ enum Question {
     FollowsEdits,
     /// Whether each edit of `EDITS` has its answer.
     EditsEvents,
+    /// Whether each query of `LOOKS` has its answer over `PRINTS`.
+    ShowsMemory,
 }
 
 /// The lines of these texts.
@@ -206,6 +221,7 @@ fn answers<const NW: usize, const K: u32>(
         }
         Question::FollowsEdits => follows_edits(bench, alloc),
         Question::EditsEvents => Ok(edits_events(bench)),
+        Question::ShowsMemory => Ok(shows_memory(bench)),
     }
 }
 
@@ -358,5 +374,123 @@ fn edits_events<const NW: usize, const K: u32>(bench: &mut Bench<NW, 1, K>) -> b
 #[test]
 fn events_are_set_and_cleared(rt: HostRuntime) -> Result<(), Fail> {
     assert!(rt; holds::<8, 256>(rt.alloc(), &[], Question::EditsEvents)?);
+    Ok(())
+}
+
+/// A query of memory, with its answer.
+#[derive(Drop, Clone, Copy)]
+enum Look {
+    /// The words at a step, from an address on.
+    Words(u32, u32, u32, Result<&'static [u32], BenchFault>),
+    /// The word at a step and an address.
+    Word(u32, u32, Result<u32, BenchFault>),
+    /// The bytes put out below a step.
+    Output(u32, Result<&'static [u8], BenchFault>),
+}
+
+/// Queries of `PRINTS` in 4,096 bytes of RAM: words before and after they are stored, the first and the last of RAM, and each refusal.
+const LOOKS: &[Look] = &[
+    Look::Words(0, 0, 2, Ok(&[0x0320_0000, 0x8410_2048])),
+    Look::Words(3, 0xfc, 3, Ok(&[0, 0, 0])),
+    Look::Words(4, 0xfc, 3, Ok(&[0, 0x48, 0])),
+    Look::Words(4, 0xffc, 1, Ok(&[0])),
+    Look::Words(4, 0xffc, 0, Ok(&[])),
+    Look::Words(4, 0xffc, 2, Err(BenchFault::BadAddress)),
+    Look::Words(4, 0x1000, 0, Err(BenchFault::BadAddress)),
+    Look::Words(4, 0x102, 1, Err(BenchFault::BadAddress)),
+    Look::Words(4, 0, u32::MAX, Err(BenchFault::BadAddress)),
+    Look::Words(1_000_001, 0x102, 1, Err(BenchFault::StepTooLarge)),
+    Look::Word(3, 0x100, Ok(0)),
+    Look::Word(4, 0x100, Ok(0x48)),
+    Look::Word(4, 0x101, Err(BenchFault::BadAddress)),
+    Look::Word(4, 0x1000, Err(BenchFault::BadAddress)),
+    Look::Word(1_000_001, 0x1000, Err(BenchFault::StepTooLarge)),
+    Look::Output(2, Ok(b"")),
+    Look::Output(3, Ok(b"H")),
+    Look::Output(1_000_001, Err(BenchFault::StepTooLarge)),
+];
+
+fn has_words<const NW: usize, const K: u32>(
+    bench: &mut Bench<NW, 1, K>,
+    step: u32,
+    address: u32,
+    count: u32,
+    answer: Result<&[u32], BenchFault>,
+) -> bool {
+    match (bench.words_at(step, address, count), answer) {
+        (Ok(words), Ok(wanted)) => words.as_slice() == wanted,
+        (Err(fault), Err(wanted)) => fault == wanted,
+        _ => false,
+    }
+}
+
+fn has_output<const NW: usize, const K: u32>(
+    bench: &mut Bench<NW, 1, K>,
+    step: u32,
+    answer: Result<&[u8], BenchFault>,
+) -> bool {
+    match (bench.output_at(step), answer) {
+        (Ok(bytes), Ok(wanted)) => bytes.as_slice() == wanted,
+        (Err(fault), Err(wanted)) => fault == wanted,
+        _ => false,
+    }
+}
+
+/// Whether a query has its answer.
+fn shows<const NW: usize, const K: u32>(bench: &mut Bench<NW, 1, K>, look: Look) -> bool {
+    match look {
+        Look::Words(step, address, count, answer) => {
+            has_words(bench, step, address, count, answer)
+        }
+        Look::Word(step, address, answer) => bench.word_at(step, address) == answer,
+        Look::Output(step, answer) => has_output(bench, step, answer),
+    }
+}
+
+/// Whether each query has its answer.
+fn shows_memory<const NW: usize, const K: u32>(bench: &mut Bench<NW, 1, K>) -> bool {
+    for look in LOOKS {
+        if !shows(bench, *look) {
+            return false;
+        }
+    }
+    true
+}
+
+#[test]
+fn memory_and_output_are_shown(rt: HostRuntime) -> Result<(), Fail> {
+    assert!(rt; holds::<8, 256>(rt.alloc(), PRINTS, Question::ShowsMemory)?);
+    Ok(())
+}
+
+/// Whether a machine shows a word that is put there with its page, and its copy does not.
+fn is_apart(
+    machine: &mut Machine<8, 1>,
+    copy: &Machine<8, 1>,
+    mut page: Page,
+    alloc: Global,
+) -> Result<bool, AllocError> {
+    page.set_word(0x100, 7)?;
+    machine.put_page(0, page);
+    Ok(machine.word(0x100) == 7 && copy.word(0x100) == 0 && copy.output(alloc)?.is_empty())
+}
+
+/// Whether a machine and its copy are kept apart.
+fn is_copied(machine: &mut Machine<8, 1>, alloc: Global) -> Result<bool, AllocError> {
+    let page = machine.page(0x100)?;
+    let copy = machine.snapshot(alloc)?;
+    is_apart(machine, &copy, page, alloc)
+}
+
+/// A machine just reset, whose RAM is zeros.
+fn blank(alloc: Global) -> Result<Machine<8, 1>, AllocError> {
+    let source = Source::new(alloc, 4_096);
+    Machine::reset(alloc, &source)
+}
+
+#[test]
+fn a_copy_keeps_its_page(rt: HostRuntime) -> Result<(), Fail> {
+    let mut machine = blank(rt.alloc())?;
+    assert!(rt; is_copied(&mut machine, rt.alloc())?);
     Ok(())
 }

@@ -1,0 +1,25 @@
+//! `sv8_cases [FOLDER]`: runs the scripts of a folder, or of the one that it is run in, and compares what they answer
+//! with the answers that are due.
+//!
+//! A case `NAME-wN` is a script `NAME-wN.txt`, run with N register windows, and the answer beside it, `NAME-wN.answer`. For each case
+//! that differs a line says where first. The exit status is 0 where none does.
+#![tactic(auto)]
+
+mod case;
+mod difference;
+mod report;
+
+use report::run_cases;
+use std::process::ExitCode;
+
+fn main(rt: HostRuntime) -> ExitCode {
+    match run_cases(&rt) {
+        Ok(0) => ExitCode::SUCCESS,
+        Ok(_) => ExitCode::FAILURE,
+        Err(error) => {
+            // Where even this line cannot be written, the status still tells.
+            let _ = eprintln!(rt; "sv8_cases: {error}");
+            ExitCode::FAILURE
+        }
+    }
+}

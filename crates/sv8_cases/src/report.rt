@@ -1,0 +1,80 @@
+//! The report: a line for each case that differs, and the counts.
+
+use crate::case::{CaseFault, read_file, run_case};
+use crate::difference::first_difference;
+use anyhow::{Context, Result};
+use std::io::{BufWriter, Write};
+use std::{env, fs};
+
+/// The folder of the cases: the word behind the program's name, or else the one that it is run in.
+fn folder_name(rt: &HostRuntime) -> Result<String> {
+    match env::args(rt)?.nth(1) {
+        Some(folder) => Ok(folder),
+        None => Ok(String::from_str(rt.alloc(), ".")?),
+    }
+}
+
+/// The names of the cases, in order: what stands before the last dot in the name of each file.
+fn case_names(rt: &HostRuntime, folder: &str) -> Result<Vec<String>> {
+    let mut names = Vec::new(rt.alloc());
+    for entry in fs::read_dir(rt, folder)? {
+        let entry = entry?;
+        if let Some((name, _)) = entry.file_name().rsplit_once('.') {
+            let name = String::from_str(rt.alloc(), name)?;
+            names.push(name)?;
+        }
+    }
+    names.sort()?;
+    names.dedup();
+    Ok(names)
+}
+
+/// Runs all cases, writes the report to standard output, and counts the cases that differ.
+pub fn run_cases(rt: &HostRuntime) -> Result<u64> {
+    let folder = folder_name(rt)?;
+    let names = case_names(rt, &folder).context("the folder cannot be read")?;
+    let mut out = BufWriter::new(rt.alloc(), rt.stdout())?;
+    let mut differing: u64 = 0;
+    for name in &names {
+        if !tell(rt, &folder, name, &mut out)? {
+            differing = differing.saturating_add(1);
+        }
+    }
+    let count = names.len();
+    writeln!(out, "{count} cases, {differing} differ")?;
+    out.flush()?;
+    Ok(differing)
+}
+
+/// Runs a case, and writes a line where its answer is not the one that is due. Tells whether it is.
+fn tell<W: Write>(rt: &HostRuntime, folder: &str, name: &str, out: &mut W) -> Result<bool> {
+    match answers(rt, folder, name) {
+        Ok((due, came)) => compare(name, &due, &came, out),
+        Err(fault) => {
+            writeln!(out, "{name}: {fault}")?;
+            Ok(false)
+        }
+    }
+}
+
+/// The answer that is due to a case, and the one that came.
+fn answers(rt: &HostRuntime, folder: &str, name: &str) -> Result<(Vec<u8>, Vec<u8>), CaseFault> {
+    let script = read_file(rt, folder, name, "txt")?;
+    let due = read_file(rt, folder, name, "answer")?;
+    let came = run_case(rt.alloc(), name, &script)?;
+    Ok((due, came))
+}
+
+/// Writes where two answers differ, if they do. Tells whether they are the same.
+fn compare<W: Write>(name: &str, due: &[u8], came: &[u8], out: &mut W) -> Result<bool> {
+    match first_difference(due, came) {
+        None => Ok(true),
+        Some(at) => {
+            let line = at.line;
+            let due = at.due.escape_ascii();
+            let came = at.came.escape_ascii();
+            writeln!(out, "{name} line {line}: due \"{due}\", came \"{came}\"")?;
+            Ok(false)
+        }
+    }
+}
