@@ -10,7 +10,7 @@ ghost use Rattle.sv8_trap.specs.Table.{taken};
 ghost use Rattle.sv8_phys.specs.Memory.{ram_size};
 ghost use Rattle.sv8_phys.specs.Contents.{arrived, outside_of};
 ghost use Rattle.sv8_cpu.specs.Instruction.{raised};
-ghost use Rattle.sv8_cpu.specs.Step.{answered, executed, fetched, instruction, continued, requested, interruptible, awake, action};
+ghost use Rattle.sv8_cpu.specs.Step.{answered, executed, carried_out, fetched, instruction, continued, requested, interruptible, awake, action};
 ghost use Rattle.sv8_cpu.specs.State.{reset_state};
 ghost use Rattle.sv8_cpu.specs.Work.{counted};
 ghost use Rattle.sv8_cpu.specs.View.{units_of};
@@ -102,6 +102,25 @@ impl<const NW: usize, const PAGES: usize> Parts<NW, PAGES> {
         }
     }
 
+    /// Carries out a word. It is a function of its own, so that a word comes in and no decoded instruction goes from one function to another.
+    #[inline(never)]
+    fn carry_out_word<T: Touches>(
+        &mut self,
+        word: u32,
+        before: u32,
+        timeline: &Timeline,
+        notes: &mut T,
+    ) -> Result<(), AllocError>
+        requires delivered { self.old.memory.phys.taken ≤ bytes_below before timeline.now.inputs }
+        ensures ok { OnOk result (Does T.KEEPS (carried_out NW (ram_size PAGES) (inner_of_parts self.old) word)
+            (outside_of self.old.memory.phys (arrived before timeline.now)) (outside_of self.new.memory.phys (arrived before timeline.now))
+            (inner_of_parts self.new) (T.noted notes.old) (T.noted notes.new)) }
+        ensures taken { OnOk result (self.new.memory.phys.taken ≤ bytes_below before timeline.now.inputs) }
+    {
+        self.execute(decode(word), before, timeline, notes)?;
+        Ok(())
+    }
+
     /// Carries out a word that was fetched, or takes the trap of its fetch.
     #[inline(always)]
     fn carry_out<T: Touches>(
@@ -123,7 +142,7 @@ impl<const NW: usize, const PAGES: usize> Parts<NW, PAGES> {
                 Ok(())
             }
             Response::Value(value) => {
-                self.execute(decode(low_word(value)), before, timeline, notes)?;
+                self.carry_out_word(low_word(value), before, timeline, notes)?;
                 Ok(())
             }
         }

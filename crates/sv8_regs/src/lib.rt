@@ -141,10 +141,8 @@ impl<const NW: usize> Regs<NW> {
         ensures { result ≡ read NW self.now r }
     {
         let i = r as usize;
-        if i == 0 {
-            0
-        } else if i < 8 {
-            self.globals[i]
+        if i < 8 {
+            if i == 0 { 0 } else { self.globals[i] }
         } else if i < 24 {
             self.rows[self.window][i - 8]
         } else if self.window + 1 == NW {
@@ -161,11 +159,10 @@ impl<const NW: usize> Regs<NW> {
         ensures { self.new ≡ write NW self.old r value }
     {
         let i = r as usize;
-        if i == 0 {
-            return;
-        }
         if i < 8 {
-            self.globals[i] = value;
+            if i != 0 {
+                self.globals[i] = value;
+            }
         } else if i < 24 {
             let row = &mut self.rows[self.window];
             row[i - 8] = value;
@@ -228,7 +225,17 @@ impl<const NW: usize> Regs<NW> {
         ensures value { result ≡ self.now.psr }
         ensures level { result.pil < 16 }
     {
-        self.psr
+        // One field after another: as a whole it is loaded as one number, which waits for each store of a field just before.
+        Psr {
+            n: self.psr.n,
+            z: self.psr.z,
+            v: self.psr.v,
+            c: self.psr.c,
+            pil: self.psr.pil,
+            s: self.psr.s,
+            ps: self.psr.ps,
+            et: self.psr.et,
+        }
     }
 
     /// Writes the fields of the PSR, but for CWP. Section 4.2.

@@ -141,7 +141,18 @@ fn has_level(word: u32, level: u8) -> bool
 }
 
 /// The highest of the levels of a word, bit l for level l from 1 to 15; 0 where there is none (section 7.5).
+#[inline(always)]
+#[tactic(auto, using(crate::proofs::Levels::no_level))]
 pub fn highest_level(word: u32) -> u8
+    ensures value { result ≡ highest word }
+    ensures most { result ≤ 15 }
+{
+    if word == 0 { 0 } else { highest_of(word) }
+}
+
+/// The highest of the levels of a word, looked for one after the other. Nearly every step asks a word that has none.
+#[inline(never)]
+fn highest_of(word: u32) -> u8
     ensures value { result ≡ highest word }
     ensures most { result ≤ 15 }
 {

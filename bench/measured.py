@@ -1,0 +1,64 @@
+"""The proved program and the plain interpreter: how they are built, asked and timed."""
+import os
+import subprocess
+from pathlib import Path
+
+from image import image
+
+BENCH = Path(__file__).resolve().parent
+INTERPRETER = BENCH / "out" / "interpreter"
+
+
+def build_interpreter():
+    """The plain interpreter, built where its source is newer."""
+    source = BENCH / "interpreter.rs"
+    if not INTERPRETER.exists() or INTERPRETER.stat().st_mtime < source.stat().st_mtime:
+        INTERPRETER.parent.mkdir(exist_ok=True)
+        subprocess.run(["rustc", "-O", "--edition", "2021", "-o", INTERPRETER, source], check=True)
+
+
+def proved_program():
+    """The file of the proved program, which `sparc8` proves and builds where that is not done yet."""
+    pipe = subprocess.PIPE
+    with subprocess.Popen([BENCH.parent / "sparc8"], stdin=pipe, stdout=pipe, text=True) as asked:
+        asked.stdin.write("regs 0\n")
+        asked.stdin.flush()
+        asked.stdout.readline()
+        return os.readlink(f"/proc/{asked.pid}/exe")
+
+
+class Pair:
+    """Both machines with the source and the events that a script leaves."""
+
+    def __init__(self, program, name, windows, lines):
+        self.words = [str(program), "--windows", str(windows)]
+        self.lines = lines
+        self.image = BENCH / "out" / f"{name}.image"
+        self.image.write_text("\n".join(image(self.words, lines)) + "\n")
+        self.interpreted = [str(INTERPRETER), str(windows), str(self.image)]
+
+    def script(self, steps):
+        return "\n".join(self.lines + [f"regs {step}" for step in steps] + [""]).encode()
+
+    def answers(self, steps):
+        """What each answers to `regs` of these steps."""
+        ours = subprocess.run(self.words, input=self.script(steps), capture_output=True, check=True).stdout.decode().splitlines()
+        words = self.interpreted + [str(step) for step in steps]
+        theirs = subprocess.run(words, capture_output=True, text=True, check=True).stdout.splitlines()
+        return ours[len(ours) - len(theirs) :], theirs
+
+    def times(self, steps):
+        """The processor seconds that each takes for `regs` of these steps, start and edit with it."""
+        words = self.interpreted + [str(step) for step in steps]
+        return processor_time(self.words, self.script(steps)), processor_time(words, b"")
+
+
+def processor_time(words, text):
+    with open("/dev/null", "w") as nowhere:
+        run = subprocess.Popen(words, stdin=subprocess.PIPE, stdout=nowhere, stderr=nowhere)
+        run.stdin.write(text)
+        run.stdin.close()
+        _, status, used = os.wait4(run.pid, 0)
+        run.returncode = os.waitstatus_to_exitcode(status)
+    assert run.returncode == 0, words
+    return used.ru_utime + used.ru_stime
