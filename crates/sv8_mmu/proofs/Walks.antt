@@ -5,7 +5,7 @@ use Rattle.lru.proofs.Splits.{Contains-head, Contains-tail, Contains-cons, Conta
 use Rattle.sv8_model.specs.declared.touch.Touch.TheVariants.{Read}
 use Rattle.sv8_model.specs.Outside.{Outside, word_of, with_word}
 use Rattle.sv8_model.specs.Action.{Action, done, load_word, store_word, load_byte, store_byte, take_input, count_waiting, emit, ask_levels, clear_levels, expire, result_of, after, touches}
-use Rattle.sv8_model.proofs.Lists.{word_other}
+use Rattle.sv8_model.proofs.Lists.{length-with_word, word_other}
 use Rattle.sv8_mmu.specs.declared.walk.Walk.{Walk}
 use Rattle.sv8_mmu.specs.declared.walk.Walked.{Walked}
 use Rattle.sv8_mmu.specs.declared.walk.Walked.TheVariants.{Fault}
@@ -133,3 +133,7 @@ pub stand_but_page : (limit : ℕ) (ram now : List ℕ) (table_pointer page : �
     → AllStand limit now table_pointer new
 stand_but_page limit ram now table_pointer page old new differs s among none k m =
     walk_same limit ram now table_pointer _ _ k.1 (λ j c. same_bytes ram now j (λ b l. differs.others (4 * j + b) (λ q. none k m (4 * j) c (omega arith)))) (s k (among k m))
+
+-- a store of a word of RAM changes its page alone
+pub stored_in_page : (ram : List ℕ) (k v page : ℕ) → 4 * k / 4096 ≡ page → DiffersInPage page ram (with_word ram k v)
+stored_in_page ram k v page e = record { size = length-with_word ram k v; others = λ i n. word_other ram k v i (λ p. n (omega arith)) }

@@ -3,3 +3,4 @@ pub mod Walk
 pub mod Translation
 pub mod Probe
 pub mod Kept
+pub mod Examples

@@ -2,8 +2,11 @@
 #![tactic(auto)]
 
 mod buffer;
+pub mod laws;
 mod probing;
 mod registers;
+#[cfg(test)]
+mod tests;
 mod translation;
 mod walk;
 

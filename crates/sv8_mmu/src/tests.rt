@@ -1,0 +1,241 @@
+//! That translations and probes answer where there is enough memory, that walks are kept then, and that the answers are the same
+//! where they are not.
+
+ghost use Rattle.sv8_phys.specs.Memory.{ram_size};
+ghost use Rattle.sv8_mmu.specs.Kept.{AllStand};
+ghost use Rattle.std.specs.Prelude.{◌≡◌, ◌≤◌};
+
+use crate::buffer::{Key, Purpose};
+use crate::*;
+use std::alloc::{AllocError, Global};
+use std::test::Fail;
+use sv8_phys::{NoTouches, Phys, Size, Touch, Touches};
+
+/// Keeps every note.
+#[derive(Drop)]
+struct Told {
+    notes: Vec<Touch>,
+}
+
+impl Touches for Told {
+    ghost use Rattle.std.specs.Prelude.{Bool, true, List};
+    ghost use Rattle.sv8_model.specs.declared.touch.Touch.{Touch};
+
+    const KEEPS: bool = true;
+
+    ghost KEEPS = { true };
+
+    ghost noted = { λ t. t.notes.items };
+
+    fn note(&mut self, touch: Touch) -> Result<(), AllocError> {
+        self.notes.push(touch)?;
+        Ok(())
+    }
+}
+
+/// Has no memory for a note.
+#[derive(Drop)]
+struct Full;
+
+impl Touches for Full {
+    ghost use Rattle.std.specs.Prelude.{Bool, true, List, []};
+
+    const KEEPS: bool = true;
+
+    ghost KEEPS = { true };
+
+    ghost noted = { λ _. [] };
+
+    fn note(&mut self, _touch: Touch) -> Result<(), AllocError> {
+        Err(AllocError)
+    }
+}
+
+/// The entries that a walk for a virtual address below 40000 (hexadecimal) reads, in page 3.
+const READ: [Touch; 4] = [
+    Touch::Read(0x100),
+    Touch::Read(0x400),
+    Touch::Read(0x800),
+    Touch::Read(0x90c),
+];
+
+/// These, and then the last is stored with other marks.
+const MARKED: [Touch; 5] = [
+    Touch::Read(0x100),
+    Touch::Read(0x400),
+    Touch::Read(0x800),
+    Touch::Read(0x90c),
+    Touch::Write(0x90c),
+];
+
+/// Translation is on, the context table is at 100 (hexadecimal), and the context is 0.
+const REGISTERS: MmuRegisters = MmuRegisters {
+    control: 1,
+    table_pointer: 0x10,
+    context: 0,
+    fault_status: 0,
+    fault_address: 0,
+};
+
+/// Tables at 100, 400, 800 and 900 (hexadecimal) that map page 3 of context 0 to page 1 of RAM, for all accesses.
+fn draw_tables(memory: &mut Phys<2>) -> Result<(), AllocError> {
+    memory.write_ram(0x100, Size::Word, 0x41, &mut NoTouches)?;
+    memory.write_ram(0x400, Size::Word, 0x81, &mut NoTouches)?;
+    memory.write_ram(0x800, Size::Word, 0x91, &mut NoTouches)?;
+    memory.write_ram(0x90c, Size::Word, 0x10e, &mut NoTouches)?;
+    Ok(())
+}
+
+/// A memory of two pages with the tables.
+fn mapped(alloc: Global) -> Result<Phys<2>, AllocError> {
+    let mut memory = Phys::new(alloc)?;
+    draw_tables(&mut memory)?;
+    Ok(memory)
+}
+
+/// An access to the virtual address 3010 (hexadecimal).
+fn access(access_type: u8) -> VirtualAccess
+    ensures { result.access_type ≡ access_type }
+{
+    VirtualAccess {
+        address: 0x3010,
+        access_type,
+        reach: Reach::Ram,
+    }
+}
+
+/// Whether an access in a context has an answer, with just these notes.
+fn answers(
+    buffer: &mut Buffer,
+    memory: &mut Phys<2>,
+    context: u32,
+    access_type: u8,
+    answer: Translated,
+    touches: &[Touch],
+    told: &mut Told,
+) -> Result<bool, AllocError>
+    requires access_type { access_type ≤ 7 }
+    requires stand { AllStand (ram_size 2) memory.old.ram 0x10 buffer.old }
+    ensures { AllStand (ram_size 2) memory.new.ram 0x10 buffer.new }
+{
+    let registers = MmuRegisters {
+        context,
+        ..REGISTERS
+    };
+    told.notes.clear();
+    let found = translate(&registers, buffer, memory, access(access_type), told)?;
+    Ok(found == answer && told.notes.as_slice() == touches)
+}
+
+/// Whether the buffer has a walk for page 3 of context 0.
+fn keeps(buffer: &mut Buffer, purpose: Purpose) -> bool {
+    let key = Key {
+        context: 0,
+        page: 3,
+    };
+    buffer.find(purpose, key).is_some()
+}
+
+/// A load sets R, whatever follows is a hit, and a store sets M.
+fn hits_are_walks(
+    buffer: &mut Buffer,
+    memory: &mut Phys<2>,
+    told: &mut Told,
+) -> Result<bool, AllocError>
+    requires { AllStand (ram_size 2) memory.old.ram 0x10 buffer.old }
+{
+    let at = Translated::At(0x1010);
+    let first = answers(buffer, memory, 0, 0, at, &MARKED, told)?;
+    let load = answers(buffer, memory, 0, 0, at, &READ, told)?;
+    let fetch = answers(buffer, memory, 0, 3, at, &READ, told)?;
+    let store = answers(buffer, memory, 0, 4, at, &MARKED, told)?;
+    let last = answers(buffer, memory, 0, 2, at, &READ, told)?;
+    Ok(first && load && fetch && store && last && memory.word(0x90c) == 0x16e)
+}
+
+/// Page 3 maps to page 0 of RAM, with R set.
+fn remap(buffer: &mut Buffer, memory: &mut Phys<2>) -> Result<(), AllocError>
+    requires { AllStand (ram_size 2) memory.old.ram 0x10 buffer.old }
+    ensures { AllStand (ram_size 2) memory.new.ram 0x10 buffer.new }
+{
+    memory.write_ram(0x90c, Size::Word, 0x2e, &mut NoTouches)?;
+    buffer.forget_page(0);
+    Ok(())
+}
+
+/// A store to a table counts at once, and another context has no walk of this one.
+fn stores_count(
+    buffer: &mut Buffer,
+    memory: &mut Phys<2>,
+    told: &mut Told,
+) -> Result<bool, AllocError>
+    requires { AllStand (ram_size 2) memory.old.ram 0x10 buffer.old }
+{
+    let at = Translated::At(0x1010);
+    let first = answers(buffer, memory, 0, 0, at, &MARKED, told)?;
+    let none = Translated::Refused { kind: 1, level: 0 };
+    let other = answers(buffer, memory, 1, 0, none, &[Touch::Read(0x104)], told)?;
+    remap(buffer, memory)?;
+    let at = Translated::At(0x10);
+    let last = answers(buffer, memory, 0, 0, at, &READ, told)?;
+    Ok(first && other && last)
+}
+
+/// A page's walk is kept, and no longer where one of its entries is written.
+fn walks_are_kept(buffer: &mut Buffer, memory: &mut Phys<2>) -> Result<bool, AllocError>
+    requires { AllStand (ram_size 2) memory.old.ram 0x10 buffer.old }
+{
+    translate(&REGISTERS, buffer, memory, access(2), &mut NoTouches)?;
+    let kept = keeps(buffer, Purpose::Data) && keeps(buffer, Purpose::Data);
+    buffer.forget_page(1);
+    let stays = keeps(buffer, Purpose::Data) && keeps(buffer, Purpose::Fetch);
+    buffer.forget_page(0);
+    Ok(kept && stays && !keeps(buffer, Purpose::Data))
+}
+
+/// Where no note can be taken, neither a translation nor a probe answers.
+fn notes_are_refused(buffer: &mut Buffer, memory: &mut Phys<2>) -> bool
+    requires { AllStand (ram_size 2) memory.old.ram 0x10 buffer.old }
+{
+    probe(&REGISTERS, memory, 0x3000, &mut Full).is_err()
+        && translate(&REGISTERS, buffer, memory, access(0), &mut Full).is_err()
+}
+
+/// Where notes can be taken, a probe finds the entry of the page.
+fn probes_answer(memory: &Phys<2>, told: &mut Told) -> Result<bool, AllocError> {
+    let page = probe(&REGISTERS, memory, 0x3000, told)?;
+    Ok(page == 0x10e && told.notes.as_slice() == READ.as_slice())
+}
+
+#[test]
+fn hits_are_as_walks(rt: HostRuntime) -> Result<(), Fail> {
+    let mut memory = mapped(rt.alloc())?;
+    let mut told = Told {
+        notes: Vec::new(rt.alloc()),
+    };
+    assert!(rt;
+        probes_answer(&memory, &mut told)?
+            && hits_are_walks(&mut Buffer::new(rt.alloc()), &mut memory, &mut told)?
+    );
+    Ok(())
+}
+
+#[test]
+fn tables_may_change(rt: HostRuntime) -> Result<(), Fail> {
+    let mut memory = mapped(rt.alloc())?;
+    let mut told = Told {
+        notes: Vec::new(rt.alloc()),
+    };
+    assert!(rt; stores_count(&mut Buffer::new(rt.alloc()), &mut memory, &mut told)?);
+    Ok(())
+}
+
+#[test]
+fn memory_is_enough(rt: HostRuntime) -> Result<(), Fail> {
+    let mut memory = mapped(rt.alloc())?;
+    assert!(rt;
+        notes_are_refused(&mut Buffer::new(rt.alloc()), &mut memory)
+            && walks_are_kept(&mut Buffer::new(rt.alloc()), &mut memory)?
+    );
+    Ok(())
+}
