@@ -1,5 +1,6 @@
 -- What an access does, from what physical memory did.
-use Rattle.std.proofs.Common.{◌≡◌, ◌∙◌, ℕ, Bool, true, false, cond, nat_lt, List, Result, refl, sym, ap, subst}
+use Rattle.std.proofs.Common.{◌≡◌, ◌∙◌, ◌<◌, ◌≤◌, ◌==◌, ◌&&◌, ℕ, Bool, true, false, cond, nat_lt, List, Result, refl, sym, ap, subst, arith}
+use Rattle.std.proofs.lemmas.Bool.Decides.{nat_tests}
 use Rattle.sv8_model.specs.Outside.{Outside}
 use Rattle.sv8_model.specs.declared.touch.Touch.{Touch}
 use Rattle.sv8_model.specs.Action.{Action, done, take_input, count_waiting, ◌>>=◌}
@@ -9,7 +10,7 @@ use Rattle.sv8_phys.specs.declared.fault.BusError.{BusError}
 use Rattle.sv8_phys.specs.declared.size.Size.{Size}
 use Rattle.sv8_phys.specs.declared.size.Size.TheVariants.{Byte, Half, Word, Double}
 use Rattle.sv8_phys.specs.declared.timer.Timer.{Timer}
-use Rattle.sv8_phys.specs.Devices.{Stored, load, store, ram_load, ram_store, stored_with}
+use Rattle.sv8_phys.specs.Devices.{input_address, waiting_address, Stored, load, store, ram_load, ram_store, stored_with}
 use Rattle.sv8_mmu.specs.declared.translation.Reach.{Reach}
 use Rattle.sv8_mmu.specs.declared.translation.Translated.{Translated}
 use Rattle.sv8_mmu.specs.declared.translation.Translated.TheVariants as translated
@@ -21,6 +22,12 @@ use Rattle.sv8_trap.specs.declared.table.Trap.{Trap}
 use Rattle.sv8_trap.specs.declared.table.Trap.TheVariants.{InstructionAccessException, DataAccessException}
 use Rattle.sv8_cpu.specs.Units.{Units, Served, served, failed}
 use Rattle.sv8_cpu.specs.Access.{load_type, store_type, bus_fault, fetched_from, load_answer, takes_byte, counts_bytes, plainly_loaded, loaded_from, store_answer, stored_at, exchanged_at, located, at_virtual, is_word, probed}
+
+no_console : (size : Size) (pa console : ℕ) → pa < console → (is_word size && pa == console) ≡ false
+no_console Byte pa console h = refl
+no_console Half pa console h = refl
+no_console Word pa console h = grind (arith, nat_tests)
+no_console Double pa console h = refl
 
 module _ (keeps : Bool) (limit : ℕ) (u : Units) (o o1 : Outside) (ts ts1 : List Touch) where
   -- a word of RAM is fetched
@@ -49,6 +56,14 @@ module _ (keeps : Bool) (limit : ℕ) (u : Units) (o o1 : Outside) (ts ts1 : Lis
   counted_bytes size asi va pa count s other input h e =
       does_if_false keeps (takes_byte size pa) _ _ o o1 s ts ts1 other
       (does_if_true keeps (counts_bytes size pa) _ _ o o1 s ts ts1 input (does_map keeps (count_waiting (λ n. done n)) (served u) o o1 count s ts ts1 h e))
+
+  -- RAM is neither the console's input nor the count of the bytes that wait
+  pub loaded_from_ram : (size : Size) (asi va pa : ℕ) (s : Served) → pa < limit → limit ≤ 0x1000_0000 → Does keeps (plainly_loaded limit u size asi va pa) o o1 s ts ts1
+      → Does keeps (loaded_from limit u size asi va pa) o o1 s ts ts1
+  unfolding loaded_from
+  loaded_from_ram size asi va pa s inside small h =
+      does_if_false keeps (takes_byte size pa) _ _ o o1 s ts ts1 (no_console size pa input_address (omega (arith, inside, small)))
+      (does_if_false keeps (counts_bytes size pa) _ _ o o1 s ts ts1 (no_console size pa waiting_address (omega (arith, inside, small))) h)
 
   -- physical memory answers a store
   pub plain_store : (size : Size) (asi value va pa : ℕ) (r : Stored) (s : Served) (o2 : Outside) → o2 ≡ o1 → Does keeps (store limit u.timer size pa value) o o1 r ts ts1

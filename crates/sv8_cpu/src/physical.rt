@@ -198,10 +198,10 @@ impl<const PAGES: usize> Physical<PAGES> {
         Ok(self.load_answer(asi, va, answer))
     }
 
-    /// Loads from RAM or a device.
-    #[inline(always)]
+    /// Loads from what is not RAM: the console's input, or another device.
+    #[cold]
     #[tactic(auto, unfolding(crate::specs::Access::loaded_from))]
-    pub fn load<T: Touches>(
+    fn load_device<T: Touches>(
         &mut self,
         size: Size,
         asi: u8,
@@ -230,6 +230,35 @@ impl<const PAGES: usize> Physical<PAGES> {
             let response = self.load_plain(size, asi, va, pa, notes)?;
             Ok(response)
         }
+    }
+
+    /// Loads from RAM or a device.
+    #[inline(always)]
+    pub fn load<T: Touches>(
+        &mut self,
+        size: Size,
+        asi: u8,
+        va: u32,
+        pa: u64,
+        before: u32,
+        timeline: &Timeline,
+        notes: &mut T,
+    ) -> Result<Response, AllocError>
+        requires aligned { pa % bytes_in size ≡ 0 }
+        requires delivered { self.old.phys.taken ≤ bytes_below before timeline.now.inputs }
+        ensures ok { IfOk result (λ r. Does T.KEEPS (loaded_from (ram_size PAGES) (units_of self.old) size asi va pa)
+            (outside_of self.old.phys (arrived before timeline.now)) (outside_of self.new.phys (arrived before timeline.now))
+            (record { response = r; units = units_of self.new }) (T.noted notes.old) (T.noted notes.new)) }
+        ensures kept { self.new.phys.ram ≡ self.old.phys.ram }
+        ensures pointer { self.new.mmu.table_pointer ≡ self.old.mmu.table_pointer }
+        ensures taken { OnOk result (self.new.phys.taken ≤ bytes_below before timeline.now.inputs) }
+    {
+        if pa < self.phys.ram_size() {
+            let response = self.load_plain(size, asi, va, pa, notes)?;
+            return Ok(response);
+        }
+        let response = self.load_device(size, asi, va, pa, before, timeline, notes)?;
+        Ok(response)
     }
 
     /// Stores to RAM or a device.

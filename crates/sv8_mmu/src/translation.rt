@@ -5,6 +5,7 @@ ghost use Rattle.sv8_model.specs.Outside.{Outside, with_word};
 ghost use Rattle.sv8_model.specs.Does.{Does, kept};
 ghost use Rattle.sv8_phys.specs.Memory.{ram_size};
 ghost use Rattle.sv8_phys.specs.Contents.{outside_of};
+ghost use Rattle.sv8_mmu.specs.Registers.{translates};
 ghost use Rattle.sv8_mmu.specs.Translation.{fault_types, permission, fault_type, is_store, with_bit, marked, physical_address, is_device, is_served, with_marks, reached, settled, translate};
 ghost use Rattle.sv8_mmu.specs.Kept.{places_of, reads_of, IsEnd, IsTranslation, IsWalk, AllStand};
 ghost use Rattle.sv8_model.specs.Action.{done, store_word};
@@ -258,6 +259,36 @@ fn settle<const PAGES: usize, T: Touches>(
     }
 }
 
+/// Translates the address of an access by the tables.
+#[inline(never)]
+#[tactic(auto, unfolding(crate::specs::Translation::translate))]
+fn translate_by_tables<const PAGES: usize, T: Touches>(
+    registers: &MmuRegisters,
+    buffer: &mut Buffer,
+    phys: &mut Phys<PAGES>,
+    access: VirtualAccess,
+    notes: &mut T,
+) -> Result<Translated, AllocError>
+    requires on { translates registers.now ≡ true }
+    requires access_type { access.access_type ≤ 7 }
+    requires stand { AllStand (ram_size PAGES) phys.old.ram registers.now.table_pointer buffer.old }
+    ensures ok { IfOk result (λ r. (bytes : List ℕ) → Does T.KEEPS (translate (ram_size PAGES) registers.now access.address access.access_type access.reach)
+        (outside_of phys.old bytes) (outside_of phys.new bytes) r (T.noted notes.old) (T.noted notes.new)) }
+    ensures answer { IfOk result (λ r. IsTranslation access.address r) }
+    ensures others { phys.new ≡ record phys.old { ram = phys.new.ram } }
+    ensures stand { AllStand (ram_size PAGES) phys.new.ram registers.now.table_pointer buffer.new }
+{
+    let key = Key {
+        context: registers.context,
+        page: access.address / 0x1000,
+    };
+    let purpose = purpose_of(access.access_type);
+    let walk = find_walk(registers.table_pointer, buffer, phys, purpose, key);
+    note_reads(&walk.trail, notes)?;
+    let answer = settle(buffer, phys, key, walk, access, notes)?;
+    Ok(answer)
+}
+
 /// Translates the address of an access. The marks that the access leaves in the entry of its page are made.
 ///
 /// What the buffer keeps never shows: neither in the answer, nor in RAM, nor in the notes. It keeps the walk of a page, where
@@ -266,6 +297,7 @@ fn settle<const PAGES: usize, T: Touches>(
 /// # Errors
 ///
 /// `AllocError` where memory for a page of RAM that is shared or for a note cannot be had.
+#[inline(always)]
 #[tactic(auto, unfolding(crate::specs::Translation::translate))]
 pub fn translate<const PAGES: usize, T: Touches>(
     registers: &MmuRegisters,
@@ -285,13 +317,6 @@ pub fn translate<const PAGES: usize, T: Touches>(
     if !registers.translates() {
         return Ok(Translated::At(access.address as u64));
     }
-    let key = Key {
-        context: registers.context,
-        page: access.address / 0x1000,
-    };
-    let purpose = purpose_of(access.access_type);
-    let walk = find_walk(registers.table_pointer, buffer, phys, purpose, key);
-    note_reads(&walk.trail, notes)?;
-    let answer = settle(buffer, phys, key, walk, access, notes)?;
+    let answer = translate_by_tables(registers, buffer, phys, access, notes)?;
     Ok(answer)
 }

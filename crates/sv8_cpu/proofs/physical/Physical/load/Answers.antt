@@ -1,9 +1,8 @@
-use Rattle.std.proofs.Common.{refl, sym}
-use Rattle.sv8_cpu.proofs.Accesses.{taken_byte, counted_bytes}
+use Rattle.std.proofs.Common.{◌≡◌, ◌<◌, ◌≤◌, sym, subst}
+use Rattle.sv8_cpu.proofs.Accesses.{loaded_from_ram}
 use Rattle.sv8_cpu.proofs.physical.Physical.load.Goals as goal
 
-pub returns-in_ok-byte-clause-ok : goal.returns-in_ok-byte-clause-ok
-returns-in_ok-byte-clause-ok g c = taken_byte _ _ _ _ _ _ _ _ _ _ _ _ _ (sym c.if-takes_byte.ensures) c.in_ok-byte.ensures.ok (rw c.in_ok-byte.ensures.others refl)
-
-pub returns-in_ok-count-clause-ok : goal.returns-in_ok-count-clause-ok
-returns-in_ok-count-clause-ok g c = counted_bytes _ _ _ _ _ _ _ _ _ _ _ _ _ (sym c.if-takes_byte.ensures) (sym c.if-counts_bytes.ensures) c.in_ok-count.ensures.ok refl
+pub returns-then-pa-ram_size-clause-ok : goal.returns-then-pa-ram_size-clause-ok
+returns-then-pa-ram_size-clause-ok g c =
+    loaded_from_ram _ _ _ _ _ _ _ c.args.size c.args.asi c.args.va c.args.pa _ (subst (λ n. c.args.pa < n) c.ram_size.ensures.value c.if-pa-ram_size.true) (subst (λ n. n ≤ 0x1000_0000) c.ram_size.ensures.value c.ram_size.ensures.most)
+    (c.in_ok-response.ensures.ok _)

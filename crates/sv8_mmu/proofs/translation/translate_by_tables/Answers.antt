@@ -1,14 +1,13 @@
-use Rattle.std.proofs.Common.{◌∙◌, sym}
 use Rattle.sv8_phys.specs.Contents.{outside_of}
 use Rattle.sv8_mmu.proofs.Translating.{walked_and_settled}
-use Rattle.sv8_mmu.proofs.translation.translate.Goals as goal
+use Rattle.sv8_mmu.proofs.translation.translate_by_tables.Goals as goal
 
 pub returns-in_err-answer-clause-stand : goal.returns-in_err-answer-clause-stand
 returns-in_err-answer-clause-stand g c = c.settle.ensures.stand _ c.find_walk-walk.ensures.walk c.find_walk-walk.ensures.stand
 
 pub returns-clause-ok : goal.returns-clause-ok
 returns-clause-ok g c = λ bytes.
-    walked_and_settled _ _ c.args.phys.now.ram c.args.registers.now c.args.access.address _ _ (outside_of c.args.phys.now bytes) _ c.find_walk-walk.result _ _ _ _ (sym c.translates.ensures ∙ c.if-not-translates.false) c.find_walk-walk.ensures.walk c.in_ok-note_reads.ensures.ok
+    walked_and_settled _ _ c.args.phys.now.ram c.args.registers.now c.args.access.address _ _ (outside_of c.args.phys.now bytes) _ c.find_walk-walk.result _ _ _ _ c.requires.on c.find_walk-walk.ensures.walk c.in_ok-note_reads.ensures.ok
     (c.in_ok-answer.ensures.ok bytes)
 
 pub returns-clause-stand : goal.returns-clause-stand
