@@ -3,7 +3,8 @@
 ghost use Rattle.std.specs.Prelude.{◌≡◌, true, false};
 ghost use Rattle.sv8_regs.specs.Control.{packed_psr};
 ghost use Rattle.sv8_regs.specs.Ring.{read};
-ghost use Rattle.sv8_cpu.specs.Examples.{counting, spinning, tagging, returning, run};
+ghost use Rattle.sv8_model.specs.Outside.{word_of};
+ghost use Rattle.sv8_cpu.specs.Examples.{counting, spinning, moving, saving, setting, calling, tagging, returning, run};
 ghost use Rattle.sv8_cpu.specs.RecordedLaws.{AccessFrames, StepFrames, RunsAgree, TimelinesServe};
 
 /// The steps of small programs, computed from the definition of a step.
@@ -19,6 +20,56 @@ pub fn worked_steps()
     ensures sum { read 2 (run 2 16 counting 3).inner.processor.registers 2 ≡ 6 }
     ensures annulled { (run 2 8 spinning 1).inner.processor.annul ≡ true }
     ensures skipped { (run 2 8 spinning 2).inner.processor.pc ≡ 0 }
+{}
+
+/// Loads and stores of a small program, computed from the definition of a step (the numbers are hexadecimal).
+///
+/// - `word`, `signed_byte`: `ld` of the word 80010203 and `ldsb` of its first byte.
+/// - `half`: `sth` of that word's low half over 11223344.
+/// - `swapped`, `swap_stored`: `swap` with what stands there then.
+/// - `tested`, `set`: `ldstub` of the first byte.
+pub fn worked_memory()
+    ensures word { read 2 (run 2 32 moving 1).inner.processor.registers 1 ≡ 0x8001_0203 }
+    ensures signed_byte { read 2 (run 2 32 moving 2).inner.processor.registers 2 ≡ 0xffff_ff80 }
+    ensures half { word_of (run 2 32 moving 3).outside.ram 7 ≡ 0x0203_3344 }
+    ensures swapped { read 2 (run 2 32 moving 4).inner.processor.registers 2 ≡ 0x0203_3344 }
+    ensures swap_stored { word_of (run 2 32 moving 4).outside.ram 7 ≡ 0xffff_ff80 }
+    ensures tested { read 2 (run 2 32 moving 5).inner.processor.registers 3 ≡ 0x80 }
+    ensures set { word_of (run 2 32 moving 5).outside.ram 6 ≡ 0xff01_0203 }
+{}
+
+/// SAVE and RESTORE of a small program on eight windows, computed from the definition of a step.
+///
+/// - `window`: after `save %o0, 1, %l0` in window 0 the current window is 7.
+/// - `sum`: register 16 of it is the sum of the old window's register 8, which is 7, and 1.
+/// - `passed`: and register 24 is that register 8.
+/// - `back`, `result`: after `restore %l0, 1, %o1` it is 0 again, and register 9 is 9.
+pub fn worked_windows()
+    ensures window { (run 8 16 saving 2).inner.processor.registers.cwp ≡ 7 }
+    ensures sum { read 8 (run 8 16 saving 2).inner.processor.registers 16 ≡ 8 }
+    ensures passed { read 8 (run 8 16 saving 2).inner.processor.registers 24 ≡ 7 }
+    ensures back { (run 8 16 saving 3).inner.processor.registers.cwp ≡ 0 }
+    ensures result { read 8 (run 8 16 saving 3).inner.processor.registers 9 ≡ 9 }
+{}
+
+/// State registers of a small program on two windows, computed from the definition of a step.
+///
+/// - `y`: `wr` of 5 to Y, which `rd` gives.
+/// - `mask`: WIM has a bit for each window alone, so of FF (hexadecimal) it keeps 3.
+pub fn worked_state_registers()
+    ensures y { read 2 (run 2 16 setting 2).inner.processor.registers 1 ≡ 5 }
+    ensures mask { read 2 (run 2 16 setting 4).inner.processor.registers 2 ≡ 3 }
+{}
+
+/// A call and a jump of a small program, computed from the definition of a step.
+///
+/// - `target`, `link`: after `call 8` at address 0 nPC is 8, and register 15 is 0.
+/// - `jumped`, `jump_link`: after `jmpl %o7, %g2` at address 8 nPC is 0, and register 2 is 8.
+pub fn worked_transfers()
+    ensures target { (run 2 16 calling 1).inner.processor.npc ≡ 8 }
+    ensures link { read 2 (run 2 16 calling 1).inner.processor.registers 15 ≡ 0 }
+    ensures jumped { (run 2 16 calling 3).inner.processor.npc ≡ 0 }
+    ensures jump_link { read 2 (run 2 16 calling 3).inner.processor.registers 2 ≡ 8 }
 {}
 
 /// Traps of small programs on eight windows, computed from the definition of a step (the numbers are hexadecimal).

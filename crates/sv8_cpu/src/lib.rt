@@ -14,7 +14,8 @@ mod spaces;
 mod work;
 
 pub use laws::{
-    access_frames, runs_agree, steps_frame, timelines_serve, worked_steps, worked_traps,
+    access_frames, runs_agree, steps_frame, timelines_serve, worked_memory, worked_state_registers,
+    worked_steps, worked_transfers, worked_traps, worked_windows,
 };
 pub use machine::Machine;
 pub use sv8_mmu::{Fault, MmuRegisters};

@@ -209,6 +209,7 @@ fn store_marks<const PAGES: usize, T: Touches>(
     ensures ok { OnOk result ((answer : Translated) (bytes : List ℕ) → Does T.KEEPS (store_word (at / 4) entry (done answer))
         (outside_of phys.old bytes) (outside_of phys.new bytes) answer (T.noted notes.old) (T.noted notes.new)) }
     ensures others { phys.new ≡ record phys.old { ram = phys.new.ram } }
+    ensures err { OnErr result (phys.new ≡ phys.old) }
     ensures stand { (table_pointer : ℕ) → IsWalk (ram_size PAGES) phys.old.ram table_pointer key.context (key.page * 4096) (record { trail = trail; end = Walked.Page old level at })
         → AllStand (ram_size PAGES) phys.old.ram table_pointer buffer.old → AllStand (ram_size PAGES) phys.new.ram table_pointer buffer.new }
 {
@@ -236,6 +237,7 @@ fn settle<const PAGES: usize, T: Touches>(
         (outside_of phys.old bytes) (outside_of phys.new bytes) r (T.noted notes.old) (T.noted notes.new)) }
     ensures answer { IfOk result (λ r. IsTranslation access.address r) }
     ensures others { phys.new ≡ record phys.old { ram = phys.new.ram } }
+    ensures err { OnErr result (phys.new ≡ phys.old) }
     ensures stand { (table_pointer : ℕ) → IsWalk (ram_size PAGES) phys.old.ram table_pointer key.context (key.page * 4096) walk
         → AllStand (ram_size PAGES) phys.old.ram table_pointer buffer.old → AllStand (ram_size PAGES) phys.new.ram table_pointer buffer.new }
 {
@@ -276,6 +278,7 @@ fn translate_by_tables<const PAGES: usize, T: Touches>(
         (outside_of phys.old bytes) (outside_of phys.new bytes) r (T.noted notes.old) (T.noted notes.new)) }
     ensures answer { IfOk result (λ r. IsTranslation access.address r) }
     ensures others { phys.new ≡ record phys.old { ram = phys.new.ram } }
+    ensures err { OnErr result (phys.new ≡ phys.old) }
     ensures stand { AllStand (ram_size PAGES) phys.new.ram registers.now.table_pointer buffer.new }
 {
     let key = Key {
@@ -296,7 +299,7 @@ fn translate_by_tables<const PAGES: usize, T: Touches>(
 ///
 /// # Errors
 ///
-/// `AllocError` where memory for a page of RAM that is shared or for a note cannot be had.
+/// `AllocError` where memory for a page of RAM that is shared or for a note cannot be had; memory is then as it was.
 #[inline(always)]
 #[tactic(auto, unfolding(crate::specs::Translation::translate))]
 pub fn translate<const PAGES: usize, T: Touches>(
@@ -312,6 +315,7 @@ pub fn translate<const PAGES: usize, T: Touches>(
         (outside_of phys.old bytes) (outside_of phys.new bytes) r (T.noted notes.old) (T.noted notes.new)) }
     ensures answer { IfOk result (λ r. IsTranslation access.address r) }
     ensures others { phys.new ≡ record phys.old { ram = phys.new.ram } }
+    ensures err { OnErr result (phys.new ≡ phys.old) }
     ensures stand { AllStand (ram_size PAGES) phys.new.ram registers.now.table_pointer buffer.new }
 {
     if !registers.translates() {
