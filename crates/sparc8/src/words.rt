@@ -12,21 +12,6 @@ use clap::error::ErrorKind;
 use clap::{Arg, Command, Error};
 use std::alloc::{AllocError, Global};
 
-/// What the help says behind the options: the commands of a script, and where the guide is.
-const COMMANDS: &str = "Commands of a script, one a line:
-  edit A B COUNT          replaces lines A to B by the COUNT lines that follow; B = A - 1 inserts before A
-  list                    shows the listing
-  regs N                  shows the registers and devices at step N
-  mem N ADDR COUNT        shows words of memory at step N
-  out N                   shows the bytes put out at the console before step N
-  poke N ADDR VALUE       sets a word of memory at step N; unpoke N ADDR takes it back
-  pokeb N ADDR VALUE      the same for a byte; unpokeb N ADDR
-  input N BYTES           bytes come in at the console at step N; uninput N
-  irq N LEVEL             an interrupt is requested at step N; unirq N LEVEL
-  quit                    ends the run
-
-The guide to the commands is docs/COMMANDS.md, the one to source lines docs/ASSEMBLER.md.";
-
 /// The command line that the program takes, without the program's name in front.
 fn command_line<'a>(alloc: Global) -> Result<Command<'a>, AllocError>
     ensures { IfOk result (λ c. IsSparc8 (app_of c)) }
@@ -42,7 +27,6 @@ fn command_line<'a>(alloc: Global) -> Result<Command<'a>, AllocError>
     );
     let command = Command::new(alloc, "sparc8")
         .about("A workbench for SPARC V8 programs: edits and queries at any step")
-        .after_help(COMMANDS)
         .no_binary_name(true)
         .arg(windows)?
         .arg(script)?;
