@@ -1,5 +1,12 @@
 -- How each run ends the program: its exit status, and its line on standard error.
-use Rattle.std.specs.Prelude.{ℕ, List, [], codes, Result, Ok, Err}
+use Rattle.std.specs.Prelude.{◌≡◌, ◌⊎◌, ℕ, Bool, true, false, IsTrue, List, [], ◌∷◌, codes, Option, IfSome, Result, Ok, Err}
+use Rattle.clap.specs.Words.{Kinds}
+use Rattle.clap.specs.declared.error.kind.ErrorKind.{ErrorKind}
+use Rattle.clap.specs.declared.error.kind.ErrorKind.TheVariants as kind
+use Rattle.sv8_bench.specs.Kept.{Kept}
+use Rattle.sv8_shell.specs.Script.{orders_in, orders_of, lines_within, IsTooLong}
+use Rattle.sv8_shell.specs.Session.{Answered, Cut}
+use Rattle.sv8_shell.specs.Run.{AnsweredGiven}
 use Rattle.sv8_shell.specs.declared.driver.RunFault.{RunFault}
 use Rattle.sv8_shell.specs.declared.driver.RunFault.TheVariants as fault
 use Rattle.sparc8.specs.declared.end.End.{End}
@@ -31,3 +38,42 @@ end_of (Ok _) = Done
 end_of (Err fault.Read) = ReadFault
 end_of (Err fault.Write) = WriteFault
 end_of (Err fault.TooManyCommands) = TooMany
+
+-- the end of a run that began with this workbench: what its reader had and has left, and what its writer had and has, say how far it came
+abbrev pub Serves : Kept → End → Option (List ℕ) → Option (List ℕ) → Option (List ℕ) → Option (List ℕ) → Type 0
+-- the whole script was answered
+Serves start Done known left old new = IfSome known (λ input. (last : Kept) × Answered old new start (orders_of input) last)
+-- what had been read was answered, up to its last whole line
+Serves start ReadFault known left old new = (last : Kept) × AnsweredGiven known left old new start last
+-- the answers to the script are cut short
+Serves start WriteFault known left old new = IfSome known (λ input. (last : Kept) × Cut old new start (orders_of input) last)
+-- the script is too long, and its lines within the bounds were answered
+Serves start TooMany known left old new = IfSome known (λ input. IsTooLong input × ((last : Kept) × Answered old new start (orders_in (lines_within input)) last))
+-- nothing was read or written
+Serves start Memory known left old new = (known ≡ left) × (old ≡ new)
+Serves start Help known left old new = ⊥
+Serves start Usage known left old new = ⊥
+Serves start NoScript known left old new = ⊥
+
+-- the end that an error of the words comes to
+abbrev pub refusal_end : ErrorKind → End
+refusal_end kind.OutOfMemory = Memory
+refusal_end kind.DisplayHelp = Help
+refusal_end kind.DisplayVersion = Help
+refusal_end _ = Usage
+
+-- an end that is not one of the words
+abbrev pub is_run_end : End → Bool
+is_run_end Help = false
+is_run_end Usage = false
+is_run_end _ = true
+
+-- the end of one of these errors
+abbrev pub IsRefusalEnd : Kinds → End → Type 0
+IsRefusalEnd [] end = ⊥
+IsRefusalEnd (k ∷ ks) end = (end ≡ refusal_end k) ⊎ IsRefusalEnd ks end
+
+-- an end where the words may have these errors: with none that of a run, else that of one of them
+abbrev pub EndsBy : Kinds → End → Type 0
+EndsBy [] end = IsTrue (is_run_end end)
+EndsBy (k ∷ ks) end = IsRefusalEnd (k ∷ ks) end

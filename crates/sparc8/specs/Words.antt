@@ -1,6 +1,8 @@
 -- What the words of the command line choose. `matches_of` of clap's definitions is what a command line makes of words.
-use Rattle.std.specs.Prelude.{◌≡◌, ℕ, List, [], ◌∷◌, Option, Some, None, map, codes, bytes_eq, if◌then◌else◌, true, false}
-use Rattle.clap.specs.Words.{App, Rule, Text, first_of, matches_of, new_rule, with_rule, takes}
+use Rattle.std.specs.Prelude.{◌≡◌, ℕ, List, [], ◌∷◌, Option, Some, None, map, codes, bytes_eq, if◌then◌else◌, true, false, ◌⊎◌, Result, Ok, Err}
+use Rattle.clap.specs.Words.{App, Rule, Text, Kinds, IsAmong, fault_of, first_of, kind_of, matches_of, new_rule, with_rule, takes}
+use Rattle.clap.specs.declared.error.Error.{Error}
+use Rattle.clap.specs.declared.error.kind.ErrorKind.TheVariants.{OutOfMemory}
 use Rattle.clap.specs.Simple.{new_shape}
 use Rattle.clap.specs.declared.builder.value_parser.ValueParser.{ValueParser}
 use Rattle.clap.specs.declared.builder.value_parser.ValueParser.TheVariants.{Names}
@@ -50,3 +52,12 @@ pub record Chooses (words : List Text) (windows : ℕ) (script : Option Text) : 
 -- the words are none that the command line takes
 abbrev pub IsNotTaken : List Text → Type 0
 IsNotTaken words = (counts : ValueParser) × IsFiveCounts counts × (takes (command_line counts) words ≡ false)
+
+-- these words may have these errors: none where the command line takes them
+abbrev pub MayFailBy : List Text → Kinds → Type 0
+MayFailBy words kinds = (counts : ValueParser) × IsFiveCounts counts × (kinds ≡ fault_of (command_line counts) words)
+
+-- an `Ok` comes only where the words have no error, and an `Err` is one of theirs, or memory could not be had
+abbrev pub IsJudged : {A : Type 0} → List Text → Result A Error → Type 0
+IsJudged words (Ok _) = MayFailBy words []
+IsJudged words (Err e) = (kind_of e ≡ OutOfMemory) ⊎ ((kinds : Kinds) × MayFailBy words kinds × IsAmong (kind_of e) kinds)

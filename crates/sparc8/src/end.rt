@@ -1,8 +1,9 @@
 //! How the program ends.
 
-ghost use Rattle.std.specs.Prelude.{◌≡◌};
-ghost use Rattle.sparc8.specs.Ends.{status_of, line_of, end_of};
+ghost use Rattle.std.specs.Prelude.{◌≡◌, IsTrue};
+ghost use Rattle.sparc8.specs.Ends.{status_of, line_of, end_of, is_run_end, refusal_end};
 
+use clap::error::ErrorKind;
 use sv8_shell::RunFault;
 
 /// How the program ends.
@@ -28,13 +29,25 @@ pub enum End {
 
 /// The end after a run.
 pub fn end_of(ran: Result<(), RunFault>) -> End
-    ensures { result ≡ end_of ran }
+    ensures end { result ≡ end_of ran }
+    ensures run { IsTrue (is_run_end result) }
 {
     match ran {
         Ok(()) => End::Done,
         Err(RunFault::Read) => End::ReadFault,
         Err(RunFault::Write) => End::WriteFault,
         Err(RunFault::TooManyCommands) => End::TooMany,
+    }
+}
+
+/// The end that an error of the words comes to. The help is told as an error too.
+pub fn refusal_end(kind: ErrorKind) -> End
+    ensures { result ≡ refusal_end kind }
+{
+    match kind {
+        ErrorKind::OutOfMemory => End::Memory,
+        ErrorKind::DisplayHelp | ErrorKind::DisplayVersion => End::Help,
+        _ => End::Usage,
     }
 }
 

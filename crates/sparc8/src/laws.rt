@@ -1,7 +1,9 @@
 //! What some words choose, computed from the definitions.
 
 ghost use Rattle.std.specs.Prelude.{◌≡◌, ℕ, List, [], ◌∷◌, Option, Some, None, codes};
-ghost use Rattle.sparc8.specs.Words.{Chooses};
+ghost use Rattle.clap.specs.Words.{Kinds};
+ghost use Rattle.clap.specs.declared.error.kind.ErrorKind.TheVariants.{DisplayHelp, UnknownArgument};
+ghost use Rattle.sparc8.specs.Words.{Chooses, MayFailBy};
 
 /// The words, and what they choose: with none 8 windows and standard input.
 pub fn worked_words()
@@ -16,4 +18,12 @@ pub fn worked_words()
         → (n ≡ 16) × (s ≡ Some (codes "x")) }
     ensures thirty_two { (n : ℕ) (s : Option (List ℕ)) → Chooses (codes "x" ∷ codes "--windows" ∷ codes "32" ∷ []) n s
         → (n ≡ 32) × (s ≡ Some (codes "x")) }
+{}
+
+/// The errors of some words. That of the help is no mistake, and ends the program as `Help`.
+pub fn worked_errors()
+    ensures help { (kinds : Kinds) → MayFailBy (codes "--help" ∷ []) kinds → kinds ≡ DisplayHelp ∷ [] }
+    ensures short { (kinds : Kinds) → MayFailBy (codes "-h" ∷ []) kinds → kinds ≡ DisplayHelp ∷ [] }
+    ensures unknown { (kinds : Kinds) → MayFailBy (codes "--window" ∷ []) kinds → kinds ≡ UnknownArgument ∷ [] }
+    ensures two { (kinds : Kinds) → MayFailBy (codes "x" ∷ codes "y" ∷ []) kinds → kinds ≡ UnknownArgument ∷ [] }
 {}

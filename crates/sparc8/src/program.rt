@@ -1,11 +1,14 @@
 //! The program's run: the words, the script, the workbench, the answers.
 
-ghost use Rattle.std.specs.Prelude.{◌≡◌, ◌≤◌, IsTrue};
+ghost use Rattle.std.specs.Prelude.{◌≡◌, ◌⊎◌, ◌≤◌, IsTrue, map};
+ghost use Rattle.clap.specs.Words.{Kinds, kind_of};
+ghost use Rattle.sv8_bench.specs.Kept.{empty};
 ghost use Rattle.sparc8.specs.Windows.{is_window_count};
+ghost use Rattle.sparc8.specs.Words.{MayFailBy};
+ghost use Rattle.sparc8.specs.Ends.{EndsBy, Serves, is_run_end, refusal_end};
 
-use crate::end::{End, end_of};
+use crate::end::{End, end_of, refusal_end};
 use crate::words::{not_text, settings};
-use clap::error::ErrorKind;
 use std::alloc::Global;
 use std::env;
 use std::fs::File;
@@ -20,7 +23,7 @@ const PAGES: usize = 256;
 const CHECKPOINT_STEPS: u32 = 256;
 
 /// Runs a script on a new workbench of so many windows.
-fn serve<const NW: usize, R: Read, W: Write>(
+pub fn serve<const NW: usize, R: Read, W: Write>(
     alloc: Global,
     windows: u32,
     reader: &mut R,
@@ -29,6 +32,9 @@ fn serve<const NW: usize, R: Read, W: Write>(
     requires some_windows { 2 ≤ NW }
     requires few_windows { NW ≤ 32 }
     requires chosen { NW ≡ windows }
+    ensures run { IsTrue (is_run_end result) }
+    ensures serves { Serves (empty NW 256) result (R.remaining reader.old) (R.remaining reader.new)
+        (W.contents writer.old) (W.contents writer.new) }
 {
     let _ = windows;
     let Ok(mut bench) = Bench::<NW, PAGES, CHECKPOINT_STEPS>::new(alloc) else {
@@ -50,6 +56,7 @@ macro_rules! serve_with {
 /// Runs what a reader gives, and writes the answers to standard output.
 fn answer<R: Read>(rt: &HostRuntime, windows: u32, reader: &mut R) -> End
     requires { IsTrue (is_window_count windows) }
+    ensures { IsTrue (is_run_end result) }
 {
     let alloc = rt.alloc();
     let Ok(mut writer) = BufWriter::new(alloc, rt.stdout()) else {
@@ -59,7 +66,10 @@ fn answer<R: Read>(rt: &HostRuntime, windows: u32, reader: &mut R) -> End
 }
 
 /// Reads the words, then opens the script.
-fn obey(rt: &HostRuntime, words: &[&str]) -> End {
+pub fn obey(rt: &HostRuntime, words: &[&str]) -> End
+    ensures { (result ≡ End.Memory)
+        ⊎ ((kinds : Kinds) × MayFailBy (map (λ w. w.now) words.now) kinds × EndsBy kinds result) }
+{
     let chosen = match settings(rt.alloc(), words) {
         Ok(chosen) => chosen,
         Err(error) => return refuse(rt, &error),
@@ -74,21 +84,21 @@ fn obey(rt: &HostRuntime, words: &[&str]) -> End {
 }
 
 /// Prints what `clap` says of the words.
-fn refuse(rt: &HostRuntime, error: &clap::Error) -> End {
-    if matches!(error.kind(), ErrorKind::OutOfMemory) {
-        return End::Memory;
+fn refuse(rt: &HostRuntime, error: &clap::Error) -> End
+    ensures { result ≡ refusal_end (kind_of error.now) }
+{
+    let end = refusal_end(error.kind());
+    if end != End::Memory {
+        // Where the text cannot be written, the status still tells.
+        let _ = error.print(rt);
     }
-    // Where the text cannot be written, the status still tells.
-    let _ = error.print(rt);
-    if error.use_stderr() {
-        End::Usage
-    } else {
-        End::Help
-    }
+    end
 }
 
 /// Prints that a word is no text.
-fn refuse_bytes(rt: &HostRuntime) -> End {
+pub fn refuse_bytes(rt: &HostRuntime) -> End
+    ensures { (result ≡ End.Memory) ⊎ (result ≡ End.Usage) }
+{
     match not_text(rt.alloc()) {
         Ok(error) => refuse(rt, &error),
         Err(_) => End::Memory,

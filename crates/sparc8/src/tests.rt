@@ -1,6 +1,8 @@
-//! Tests of the words and of the ends.
+//! Tests of the words, of the help, and of the ends.
 
+use crate::program::{obey, refuse_bytes, serve};
 use crate::{End, ending, settings};
+use std::io::{self, ErrorKind, Read, Write};
 use std::test::Fail;
 
 #[test]
@@ -27,4 +29,92 @@ fn ends_have_their_status(rt: HostRuntime) {
     assert!(rt; ending(End::TooMany) == (3, "sparc8: too many commands"));
     assert!(rt; ending(End::NoScript) == (3, "sparc8: cannot open script"));
     assert!(rt; ending(End::Memory) == (3, "sparc8: out of memory"));
+}
+
+/// What `--help` tells: the words as `clap` lays them out, and the commands of docs/COMMANDS.md.
+const HELP: &str = "A workbench for SPARC V8 programs: edits and queries at any step
+
+Usage: sparc8 [OPTIONS] [SCRIPT]
+
+Arguments:
+  [SCRIPT]  The script of commands; standard input if there is none
+
+Options:
+      --windows <N>  The number of register windows [default: 8] [possible values: 2, 4, 8, 16, 32]
+  -h, --help         Print help
+
+Commands of a script, one a line (N is a step):
+  edit A B COUNT      the COUNT lines that follow replace lines A to B of the source; B = A - 1 inserts before A
+  poke N ADDR VALUE   at step N the word at ADDR gets this value
+  unpoke N ADDR       clears what is poked at step N in the word at ADDR
+  pokeb N ADDR VALUE  at step N the byte at ADDR gets this value
+  unpokeb N ADDR      clears the poke of this byte at step N
+  input N BYTES       at step N these bytes come in at the console
+  uninput N           no bytes come in at step N
+  irq N LEVEL         at step N an interrupt of this level, 1 to 15, is requested
+  unirq N LEVEL       clears this request
+  list                shows the listing
+  regs N              shows the machine at step N
+  mem N ADDR COUNT    shows COUNT words of RAM at step N from ADDR on
+  out N               shows the bytes put out at the console below step N
+  quit                ends the run
+
+The guide to commands and answers is docs/COMMANDS.md, and to source lines docs/ASSEMBLER.md.
+";
+
+#[test]
+fn help_tells_the_commands(rt: HostRuntime) -> Result<(), Fail> {
+    let Err(error) = settings(rt.alloc(), &["--help"]) else {
+        return Err(Fail::from("the help is no script"));
+    };
+    let text = format!(in rt.alloc(); "{error}")?;
+    assert!(rt; text.as_str() == HELP, "{text}");
+    Ok(())
+}
+
+#[test]
+fn words_end_the_program(rt: HostRuntime) {
+    assert!(rt; obey(&rt, &["--help"]) == End::Help);
+    assert!(rt; obey(&rt, &["--windows", "3"]) == End::Usage);
+    assert!(rt; refuse_bytes(&rt) == End::Usage);
+    assert!(rt; obey(&rt, &["no such script"]) == End::NoScript);
+    // A folder can be opened, and not read.
+    assert!(rt; obey(&rt, &["/"]) == End::ReadFault);
+}
+
+/// Neither gives nor takes a byte.
+#[derive(Drop)]
+struct Broken;
+
+impl Read for Broken {
+    fn read(&mut self, _buf: &mut [u8]) -> io::Result<usize> {
+        Err(io::Error::from(ErrorKind::Other))
+    }
+}
+
+impl Write for Broken {
+    fn write(&mut self, _buf: &[u8]) -> io::Result<usize> {
+        Err(io::Error::from(ErrorKind::Other))
+    }
+
+    fn flush(&mut self) -> io::Result<()> {
+        Err(io::Error::from(ErrorKind::Other))
+    }
+}
+
+#[test]
+fn runs_end_the_program(rt: HostRuntime) -> Result<(), Fail> {
+    let alloc = rt.alloc();
+    let mut written = Vec::new(alloc);
+    let mut script = b"list\n".as_slice();
+    assert!(rt; serve::<8, _, _>(alloc, 8, &mut script, &mut written) == End::Done);
+    assert!(rt; written.as_slice() == b"ok\n".as_slice());
+    assert!(rt; serve::<8, _, _>(alloc, 8, &mut Broken, &mut written) == End::ReadFault);
+    let mut script = b"list\n".as_slice();
+    assert!(rt; serve::<8, _, _>(alloc, 8, &mut script, &mut Broken) == End::WriteFault);
+    let lines = vec![in alloc; b'\n'; 1_000_001]?;
+    let mut script = lines.as_slice();
+    assert!(rt; serve::<8, _, _>(alloc, 8, &mut script, &mut written) == End::TooMany);
+    assert!(rt; written.as_slice() == b"ok\n".as_slice());
+    Ok(())
 }

@@ -117,7 +117,7 @@ unfolding SameOrMany
 done_cases s first last lines kept (inl same) h = same
 done_cases s first last lines kept (inr m) h = absurd (many_refused first last lines s (is_range first last (length s.source.lines)) refl m.0 h)
 
-pub reply-edited : {A E : Type 0} (r : Result A E) (a b : Option (List ℕ)) (s l : State) (first last : ℕ) (lines kept : List (List ℕ)) → lines ≡ take 65537 kept → edit_refusal first last lines s ≡ None
+reply-edited : {A E : Type 0} (r : Result A E) (a b : Option (List ℕ)) (s l : State) (first last : ℕ) (lines kept : List (List ℕ)) → lines ≡ take 65537 kept → edit_refusal first last lines s ≡ None
     → l ≡ edited first last lines s → Puts r a b ok_line → Replies r a b s (edit_outcome first last kept s) l
 reply-edited r a b s l first last lines kept e h n put =
     let same : lines ≡ kept = done_cases s first last lines kept (kept_cases lines kept e (leb (length kept) 65537) refl) h in
@@ -130,12 +130,18 @@ not_edited s first last kept f (inl e) =
 not_edited s first last kept f (inr h) =
     subst (λ (g : Option BenchFault). Answers s (unless_refused g (changed (edited first last kept s))) (refusal_line (refusal_of f)) s) (sym h) due
 
-pub reply-not-edited : {A E : Type 0} (r : Result A E) (a b : Option (List ℕ)) (s l : State) (first last : ℕ) (lines kept : List (List ℕ)) (f : BenchFault) → lines ≡ take 65537 kept
+reply-not-edited : {A E : Type 0} (r : Result A E) (a b : Option (List ℕ)) (s l : State) (first last : ℕ) (lines kept : List (List ℕ)) (f : BenchFault) → lines ≡ take 65537 kept
     → (f ≡ OutOfMemory) ⊎ (edit_refusal first last lines s ≡ Some f) → l ≡ s → Puts r a b (refusal_line (refusal_of f)) → Replies r a b s (edit_outcome first last kept s) l
 reply-not-edited r a b s l first last lines kept f e h n put =
     let same = edit_refusal-cases first last s lines kept (kept_cases lines kept e (leb (length kept) 65537) refl) in
     let why : (f ≡ OutOfMemory) ⊎ (edit_refusal first last kept s ≡ Some f) = elim h [ inl m ↦ inl m | inr g ↦ inr (sym same ∙ g) ] in
     subst (λ (v : State). Replies r a b s (edit_outcome first last kept s) v) (sym n) (record { text = refusal_line (refusal_of f); answers = not_edited s first last kept f why; put = put })
+
+pub reply-source : {A E : Type 0} (r : Result A E) (edit : Result (Unit {0}) BenchFault) (a b : Option (List ℕ)) (s l : State) (first last : ℕ) (lines kept : List (List ℕ)) → lines ≡ take 65537 kept
+    → OnOk edit (edit_refusal first last lines s ≡ None) → OnOk edit (l ≡ edited first last lines s) → IfErr edit (λ f. (f ≡ OutOfMemory) ⊎ (edit_refusal first last lines s ≡ Some f)) → OnErr edit (l ≡ s)
+    → Puts r a b (edit_text edit) → Replies r a b s (edit_outcome first last kept s) l
+reply-source r (Ok u) a b s l first last lines kept e ok new err old put = reply-edited r a b s l first last lines kept e ok new put
+reply-source r (Err f) a b s l first last lines kept e ok new err old put = reply-not-edited r a b s l first last lines kept f e err old put
 
 -- ---- an edit of the timeline
 

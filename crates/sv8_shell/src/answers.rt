@@ -70,13 +70,10 @@ pub fn answer_edit<const NW: usize, const PAGES: usize, const K: u32, W: Write>(
     ensures { (kept : List (List ℕ)) → texts lines.now ≡ take 65537 kept →
         Replies result (W.contents writer.old) (W.contents writer.new) bench.old (edit_outcome first last kept bench.old) bench.new }
 {
-    match bench.replace_lines(first, last, lines) {
-        Ok(()) => done(writer),
-        Err(fault) => refuse(writer, refusal_of(fault)),
-    }
+    tell_edit(writer, bench.replace_lines(first, last, lines))
 }
 
-/// The answer to an edit of the timeline.
+/// The answer to an edit.
 fn tell_edit<W: Write>(writer: &mut W, edit: Result<(), BenchFault>) -> Result<(), WriteFault>
     ensures { Puts result (W.contents writer.old) (W.contents writer.new) (edit_text edit) }
 {

@@ -1,7 +1,10 @@
 //! Readers and writers that fail, at each of their calls.
 
+ghost use Rattle.std.specs.Prelude.{◌<◌};
+
 use crate::ends::{Endless, Giver, Log, NotingTaker, Taker, WatchingGiver, due};
 use crate::scripts::{FIRST, FIRST_ANSWERS};
+use std::alloc::Global;
 use std::cell::Cell;
 use std::test::Fail;
 use sv8_bench::Bench;
@@ -12,29 +15,76 @@ type Small = Bench<8, 1, 256>;
 /// Each command of the first run: where its last line ends in the script, and where its answer ends in the answers.
 const COMMANDS: [(usize, usize); 4] = [(58, 3), (63, 137), (70, 619), (75, 622)];
 
+/// Commands that are refused: by their words, by the workbench, by their lines, and for lines that are not there.
+const REFUSED: &[u8] = b"frob\nunirq 0 0\nedit 1 0 1\nfrob\nedit 1 0 2\nnop\n";
+
+const REFUSED_ANSWERS: &[u8] =
+    b"refused 18 BadCommand\nrefused 15 BadLevel\nrefused 6 Syntax line 1\nrefused 18 BadCommand\n";
+
+/// Each of them but the last, whose lines are not there: it is answered at the end of the script.
+const REFUSED_COMMANDS: [(usize, usize); 3] = [(5, 22), (15, 42), (31, 66)];
+
+/// Whether a script in pieces of at most `most` bytes has these answers, and each of them was flushed when the next piece was read.
+fn is_flushed_in_time(
+    alloc: Global,
+    script: &[u8],
+    answers: &[u8],
+    commands: &[(usize, usize)],
+    most: usize,
+) -> Result<bool, Fail>
+    requires { 0 < most }
+{
+    let mut bench = Small::new(alloc)?;
+    let log = Log {
+        given: Cell::new(0),
+        flushed: Cell::new(0),
+    };
+    let mut reader = WatchingGiver {
+        rest: script,
+        most,
+        log: &log,
+        commands,
+    };
+    let mut writer = NotingTaker {
+        bytes: Vec::new(alloc),
+        log: &log,
+    };
+    let ended = run(alloc, &mut bench, &mut reader, &mut writer);
+    Ok(ended == Ok(()) && writer.bytes.as_slice() == answers && log.flushed.get() == answers.len())
+}
+
 #[test]
 fn answers_are_flushed_before_the_next_read(rt: HostRuntime) -> Result<(), Fail> {
     for most in [1, 7, 58, 64] {
-        let mut bench = Small::new(rt.alloc())?;
-        let log = Log {
-            given: Cell::new(0),
-            flushed: Cell::new(0),
-        };
-        let mut reader = WatchingGiver {
-            rest: FIRST,
-            most,
-            log: &log,
-            commands: &COMMANDS,
-        };
-        let mut writer = NotingTaker {
-            bytes: Vec::new(rt.alloc()),
-            log: &log,
-        };
-        let ended = run(rt.alloc(), &mut bench, &mut reader, &mut writer);
-        assert!(rt; ended == Ok(()));
-        assert!(rt; writer.bytes.as_slice() == FIRST_ANSWERS);
-        assert!(rt; log.flushed.get() == FIRST_ANSWERS.len());
+        assert!(rt; is_flushed_in_time(rt.alloc(), FIRST, FIRST_ANSWERS, &COMMANDS, most)?);
     }
+    for most in [1, 5, 16, 99] {
+        assert!(rt;
+            is_flushed_in_time(
+                rt.alloc(),
+                REFUSED,
+                REFUSED_ANSWERS,
+                &REFUSED_COMMANDS,
+                most
+            )?
+        );
+    }
+    Ok(())
+}
+
+#[test]
+fn nothing_is_read_after_quit(rt: HostRuntime) -> Result<(), Fail> {
+    let mut bench = Small::new(rt.alloc())?;
+    let mut reader = Giver {
+        rest: b"quit\nlist\n",
+        most: 5,
+        calls: 9,
+    };
+    let mut written = Vec::new(rt.alloc());
+    let ended = run(rt.alloc(), &mut bench, &mut reader, &mut written);
+    assert!(rt; ended == Ok(()));
+    assert!(rt; reader.rest == b"list\n".as_slice());
+    assert!(rt; written.as_slice() == b"ok\n".as_slice());
     Ok(())
 }
 

@@ -15,7 +15,7 @@ returns c =
     let five : IsFiveCounts counts = subst IsFiveCounts (sym given.2) names_are in
     let windows_is : rule_of c.default_value-windows.result ≡ windows_rule counts = search rules in
     let script_is : rule_of c.help-script.result ≡ script_rule = search rules in
-    let bare_is = ap app_of_fields c.no_binary_name.ensures ∙ ap (λ f. nameless (app_of_fields f)) c.about.ensures ∙ ap nameless c.new-3.ensures.app in
+    let bare_is = ap app_of_fields c.no_binary_name.ensures ∙ ap (λ f. nameless (app_of_fields f)) c.after_help.ensures ∙ ap (λ f. nameless (app_of_fields f)) c.about.ensures ∙ ap nameless c.new-3.ensures.app in
     let app_is =
     c.in_ok-command.ensures.shape (search rules) ∙ ap₂ with_rule (c.in_ok-arg.ensures.shape (search rules) ∙ ap₂ with_rule bare_is windows_is) script_is in
     (counts, five, app_is)

@@ -1,10 +1,11 @@
-use Rattle.std.proofs.Common.{ap, refl, codes, Bool, true, false, List, map, ◌≡◌, ◌∙◌, ◌⊎◌, inl, inr}
-use Rattle.clap.specs.Words.{Text, first_of, found_of, is_simple, kind_of, matches_of, rows_of, takes}
+use Rattle.std.proofs.Common.{ap, refl, sym, codes, Bool, true, false, List, map, ◌≡◌, ◌∙◌, ◌⊎◌, inl, inr}
+use Rattle.clap.specs.Words.{Text, Kinds, IsAmong, app_of, first_of, found_of, fault_of, is_simple, is_simple_and_free, kind_of, matches_of, rows_of, takes}
 use Rattle.clap.specs.declared.error.Error.{Error}
 use Rattle.clap.specs.declared.error.kind.ErrorKind.TheVariants.{OutOfMemory}
 use Rattle.clap.specs.declared.builder.value_parser.ValueParser.{ValueParser}
 use Rattle.clap.proofs.WalkLemmas.{first_value-rows}
-use Rattle.sparc8.specs.Words.{IsFiveCounts, IsNotTaken, command_line, windows_of}
+use Rattle.clap.proofs.OnLiterals.{clap_on_literals}
+use Rattle.sparc8.specs.Words.{IsFiveCounts, IsNotTaken, MayFailBy, command_line, windows_of}
 use Rattle.sparc8.proofs.words.settings.Goals as goal
 
 is_plain : (counts : ValueParser) → is_simple (command_line counts) ≡ true
@@ -34,3 +35,23 @@ returns-in-Err-clause-refused c =
     let is = c.in_ok-command.ensures in
     let words = map (λ w. w.now) c.args.words.now in
     not_taken (takes (command_line is.0) words) words is.0 c.in-Err.error is.1 refl (λ h. c.in-Err.ensures.passes (ap (λ a. takes a words) is.2 ∙ h))
+
+is_free : (counts : ValueParser) → is_simple_and_free (command_line counts) ≡ true
+unfolding clap_on_literals
+is_free counts = refl
+
+pub returns-clause-judged : goal.returns-clause-judged
+returns-clause-judged c =
+    let is = c.in_ok-command.ensures in
+    let words = map (λ w. w.now) c.args.words.now in
+    (is.0, is.1, sym (c.in-Ok.ensures.kinds (ap is_simple_and_free is.2 ∙ is_free is.0)) ∙ ap (λ a. fault_of a words) is.2)
+
+among : (words : List Text) (kinds : Kinds) (e : Error) → MayFailBy words kinds → (kind_of e ≡ OutOfMemory) ⊎ IsAmong (kind_of e) kinds → (kind_of e ≡ OutOfMemory) ⊎ ((ks : Kinds) × MayFailBy words ks × IsAmong (kind_of e) ks)
+among words kinds e may (inl h) = inl h
+among words kinds e may (inr h) = inr (kinds, may, h)
+
+pub returns-in-Err-clause-judged : goal.returns-in-Err-clause-judged
+returns-in-Err-clause-judged c =
+    let is = c.in_ok-command.ensures in
+    let words = map (λ w. w.now) c.args.words.now in
+    among words (fault_of (app_of c.in_ok-command.command) words) c.in-Err.error (is.0, is.1, ap (λ a. fault_of a words) is.2) (c.in-Err.ensures.kinds (ap is_simple_and_free is.2 ∙ is_free is.0))
