@@ -7,3 +7,4 @@ pub mod InOrder
 pub mod Encodes
 pub mod Ranges
 pub mod Fields
+pub mod OnLiterals

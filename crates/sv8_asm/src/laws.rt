@@ -40,6 +40,7 @@ pub fn agreeing_names_decide()
 {}
 
 /// Instructions in line 2, with their words as another assembler gives them.
+#[tactic(auto, unfolding(crate::proofs::OnLiterals::line_on_literals))]
 pub fn worked_lines()
     ensures mov { line_bytes (codes "start: mov 5, %g1") 2 0 no_names ≡ Ok (0x82 ∷ 0x10 ∷ 0x20 ∷ 0x05 ∷ []) }
     ensures back { line_bytes (codes "ba start") 2 8 (with_name (codes "start") (pos 0) (with_name (codes "x") (pos 1) no_names)) ≡ Ok (0x10 ∷ 0xBF ∷ 0xFF ∷ 0xFE ∷ []) }
@@ -56,6 +57,7 @@ pub fn worked_lines()
 {}
 
 /// `set`, which is one instruction or two.
+#[tactic(auto, unfolding(crate::proofs::OnLiterals::line_on_literals))]
 pub fn worked_sets()
     ensures set_both { line_bytes (codes "set 0x12345678, %g1") 2 0 (with_name (codes "start") (pos 0) (with_name (codes "x") (pos 1) no_names)) ≡ Ok (0x03 ∷ 0x04 ∷ 0x8D ∷ 0x15 ∷ 0x82 ∷ 0x10 ∷ 0x62 ∷ 0x78 ∷ []) }
     ensures set_short { line_bytes (codes "set 4095, %g1") 2 0 (with_name (codes "start") (pos 0) (with_name (codes "x") (pos 1) no_names)) ≡ Ok (0x82 ∷ 0x10 ∷ 0x2F ∷ 0xFF ∷ []) }
@@ -64,6 +66,7 @@ pub fn worked_sets()
 {}
 
 /// Data of each width, the most significant byte first.
+#[tactic(auto, unfolding(crate::proofs::OnLiterals::line_on_literals))]
 pub fn worked_data()
     ensures halves { line_bytes (codes ".half -1, 65535") 2 0 (with_name (codes "start") (pos 0) (with_name (codes "x") (pos 1) no_names)) ≡ Ok (0xFF ∷ 0xFF ∷ 0xFF ∷ 0xFF ∷ []) }
     ensures bytes { line_bytes (codes ".byte -128, 255") 2 0 (with_name (codes "start") (pos 0) (with_name (codes "x") (pos 1) no_names)) ≡ Ok (0x80 ∷ 0xFF ∷ []) }
@@ -71,6 +74,7 @@ pub fn worked_data()
 {}
 
 /// Lines of each fault; of several in one line the least.
+#[tactic(auto, unfolding(crate::proofs::OnLiterals::line_on_literals))]
 pub fn worked_faults()
     ensures unknown { line_bytes (codes ".word x+4294967295, nowhere") 2 0 (with_name (codes "start") (pos 0) (with_name (codes "x") (pos 1) no_names)) ≡ Err UnknownName }
     ensures no_label { line_bytes (codes "ba 1f") 4 4 (with_mark 1 4 12 (with_mark 1 1 0 no_names)) ≡ Err UnknownName }
@@ -81,6 +85,7 @@ pub fn worked_faults()
 {}
 
 /// How far directives move the location, and where they may not stand.
+#[tactic(auto, unfolding(crate::proofs::OnLiterals::line_on_literals))]
 pub fn worked_sizes()
     ensures word { line_size (codes ".word 1") 2 ≡ Err BadAlignment }
     ensures text { line_size (9 ∷ codes ".skip 5") 3 ≡ Ok 5 }

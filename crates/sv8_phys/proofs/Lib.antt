@@ -11,3 +11,4 @@ pub mod PendingLevels
 pub mod ChunkLemmas
 pub mod Access
 pub mod Arrivals
+pub mod OnLiterals

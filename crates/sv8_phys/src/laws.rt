@@ -36,6 +36,7 @@ pub fn bits_are_pending()
 /// - `asks`: of levels 1, 3 and 15 pending, those of 0x8008 are 3 and 15.
 /// - `clears`: with levels 15 and 2 cleared, 1 and 3 are left.
 /// - `tells`: a word that is written and read is told as read alone, and all levels at once.
+#[tactic(auto, unfolding(crate::proofs::OnLiterals::phys_on_literals))]
 pub fn worked_steps()
     ensures counts { result_of (tick (timer 2 3)) small ≡ timer 1 3 }
     ensures expires { result_of (tick (timer 1 3)) small ≡ timer 3 3 }
@@ -55,6 +56,7 @@ pub fn worked_steps()
 /// - `part`: and its word counts as read.
 /// - `whole`: a doubleword is two words stored whole.
 /// - `console`: of a word stored to the console its low byte is put out.
+#[tactic(auto, unfolding(crate::proofs::OnLiterals::phys_on_literals))]
 pub fn worked_accesses()
     ensures word { result_of (load 8 (timer 0 0) Size.Word 4) small ≡ Ok 0x55667788 }
     ensures half { result_of (load 8 (timer 0 0) Size.Half 2) small ≡ Ok 0x3344 }

@@ -28,6 +28,7 @@ pub fn least_fault_is_named()
 {}
 
 /// Sources that are refused, with the line at fault.
+#[tactic(auto, unfolding(crate::proofs::OnLiterals::source_on_literals))]
 pub fn worked_faults()
     ensures duplicate { fault (record { limit = 0x100000; lines = codes "x: nop" ∷ codes "x: nop" ∷ [] }) ≡ Some (DuplicateLabel 2) }
     ensures range { fault (record { limit = 0x100000; lines = codes "add %g0, 4096, %g1" ∷ [] }) ≡ Some (OutOfRange 1) }
@@ -40,6 +41,7 @@ pub fn worked_faults()
 {}
 
 /// What the lines of sources place, with their bytes as another assembler gives them.
+#[tactic(auto, unfolding(crate::proofs::OnLiterals::source_on_literals))]
 pub fn worked_listings()
     ensures program { map (λ l. l.bytes) (listing (record { limit = 0x100000; lines = codes "start: mov 5, %g1" ∷ codes "add %g1, 1, %g2" ∷ codes "ba start" ∷ codes "nop" ∷ [] })) ≡ (0x82 ∷ 0x10 ∷ 0x20 ∷ 0x05 ∷ []) ∷ (0x84 ∷ 0x00 ∷ 0x60 ∷ 0x01 ∷ []) ∷ (0x10 ∷ 0xBF ∷ 0xFF ∷ 0xFE ∷ []) ∷ (0x01 ∷ 0x00 ∷ 0x00 ∷ 0x00 ∷ []) ∷ [] }
     ensures local { map (λ l. l.bytes) (listing (record { limit = 0x100000; lines = codes "1: nop" ∷ codes "ba 1f" ∷ codes "nop" ∷ codes "1: ba 1b" ∷ codes "nop" ∷ [] })) ≡ (0x01 ∷ 0x00 ∷ 0x00 ∷ 0x00 ∷ []) ∷ (0x10 ∷ 0x80 ∷ 0x00 ∷ 0x02 ∷ []) ∷ (0x01 ∷ 0x00 ∷ 0x00 ∷ 0x00 ∷ []) ∷ (0x10 ∷ 0x80 ∷ 0x00 ∷ 0x00 ∷ []) ∷ (0x01 ∷ 0x00 ∷ 0x00 ∷ 0x00 ∷ []) ∷ [] }

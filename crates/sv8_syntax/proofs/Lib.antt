@@ -9,3 +9,4 @@ pub mod Read
 pub mod Written
 pub mod Lines
 pub mod Defined
+pub mod OnLiterals

@@ -36,6 +36,24 @@ of_registers o rd rs1 rs2 = instruction.Format3 o rd rs1 (source.Register rs2)
 abbrev pub small : ℕ → RegOrImm
 small n = source.Immediate (imm.Value (expr.Number n))
 
+-- with the second source that an operand is
+unfoldable pub with_source : Operation → Register → Register → Operand → Option Instruction
+with_source op rd rs1 c = do
+  x ← source_in c
+  Some (instruction.Format3 op rd rs1 x)
+
+-- with the address that an operand is, without brackets
+unfoldable pub with_place : Operation → Register → Operand → Option Instruction
+with_place op rd a = do
+  x ← place_in a
+  Some (instruction.Format3 op rd x.0 x.1)
+
+-- with the address that an operand is, in brackets
+unfoldable pub with_bracketed : Operation → Register → Operand → Option Instruction
+with_bracketed op rd a = do
+  x ← bracketed_in a
+  Some (instruction.Format3 op rd x.0 x.1)
+
 unfoldable pub none_of : Shape → Option Instruction
 none_of (shape.Three operation.Save) = Some (of_registers operation.Save r.G0 r.G0 r.G0)
 none_of (shape.Three operation.Restore) = Some (of_registers operation.Restore r.G0 r.G0 r.G0)
@@ -44,26 +62,15 @@ none_of (shape.Return a) = Some (instruction.Format3 operation.Jmpl r.G0 a (smal
 none_of shape.Stbar = Some (of_registers operation.Stbar r.G0 r.G0 r.G0)
 none_of _ = None
 
--- call addr, where addr begins with a register
-unfoldable pub linked : Operand → Option Instruction
-linked o = do
-  x ← place_in o
-  Some (instruction.Format3 operation.Jmpl r.O7 x.0 x.1)
-
 -- call expr
 unfoldable pub called : Operand → Option Instruction
 called o = do
   e ← expr_in o
   Some (instruction.Call e)
 
+-- call addr, where addr begins with a register, or call expr
 unfoldable pub call_of : Operand → Option Instruction
-call_of o = if starts_with_register o then linked o else called o
-
--- clr [addr], clrb [addr], clrh [addr]
-unfoldable pub cleared_at : MemoryOp → Operand → Option Instruction
-cleared_at m o = do
-  x ← bracketed_in o
-  Some (instruction.Format3 (operation.Memory m) r.G0 x.0 x.1)
+call_of o = if starts_with_register o then with_place operation.Jmpl r.O7 o else called o
 
 -- clr reg
 unfoldable pub cleared : Operand → Option Instruction
@@ -71,8 +78,9 @@ cleared o = do
   rd ← register_in o
   Some (of_registers (operation.Arith arith.Or false) rd r.G0 r.G0)
 
+-- clr [addr], clr reg
 unfoldable pub clear_of : Operand → Option Instruction
-clear_of o = if is_bracketed o then cleared_at memory.St o else cleared o
+clear_of o = if is_bracketed o then with_bracketed (operation.Memory memory.St) r.G0 o else cleared o
 
 -- op expr, perhaps one that annuls
 unfoldable pub branch_of : Cond → Bool → Operand → Option Instruction
@@ -84,12 +92,6 @@ unfoldable pub trap_of : Cond → Operand → Option Instruction
 trap_of c o = do
   x ← trap_in o
   Some (instruction.Format3 (operation.Trap c) r.G0 x.0 x.1)
-
--- jmp addr, rett addr, flush addr
-unfoldable pub address_of : Operation → Operand → Option Instruction
-address_of op o = do
-  x ← place_in o
-  Some (instruction.Format3 op r.G0 x.0 x.1)
 
 unfoldable pub unimp_of : Operand → Option Instruction
 unimp_of o = do
@@ -122,18 +124,18 @@ step_by_one op o = do
   rd ← register_in o
   Some (instruction.Format3 op rd rd (small 1))
 
--- not and neg with one operand take it for both
+-- not and neg with one operand take it for both; jmp, rett and flush have an address, clrb and clrh one in brackets
 unfoldable pub one_of : Shape → Operand → Option Instruction
 one_of (shape.Branch c f) a = branch_of c f a
 one_of (shape.Trap c) a = trap_of c a
 one_of shape.Call a = call_of a
-one_of (shape.To op) a = address_of op a
+one_of (shape.To op) a = with_place op r.G0 a
 one_of shape.Unimp a = unimp_of a
 one_of (shape.Test op) a = test_of op a
 one_of (shape.Not op) a = not_of op a a
 one_of (shape.Negate op) a = negate_of op a a
 one_of (shape.Step op) a = step_by_one op a
-one_of (shape.ClearAt m) a = cleared_at m a
+one_of (shape.ClearAt m) a = with_bracketed (operation.Memory m) r.G0 a
 one_of shape.Clear a = clear_of a
 one_of _ a = None
 
@@ -141,8 +143,7 @@ one_of _ a = None
 unfoldable pub access : MemoryOp → Operand → Operand → Option Instruction
 access m d a = do
   rd ← register_in d
-  x ← bracketed_in a
-  Some (instruction.Format3 (operation.Memory m) rd x.0 x.1)
+  with_bracketed (operation.Memory m) rd a
 
 unfoldable pub alternate_access : MemoryOp → Operand → Operand → Option Instruction
 alternate_access m d a = do
@@ -161,14 +162,12 @@ from_state c d = do
 unfoldable pub to_state : Operand → Operand → Option Instruction
 to_state c d = do
   s ← state_in d
-  x ← source_in c
-  Some (instruction.Format3 (operation.Write s) r.G0 r.G0 x)
+  with_source (operation.Write s) r.G0 r.G0 c
 
 unfoldable pub moved : Operand → Operand → Option Instruction
 moved c d = do
   rd ← register_in d
-  x ← source_in c
-  Some (instruction.Format3 (operation.Arith arith.Or false) rd r.G0 x)
+  with_source (operation.Arith arith.Or false) rd r.G0 c
 
 unfoldable pub mov_of : Operand → Operand → Option Instruction
 mov_of c d = if is_state c then from_state c d else (if is_state d then to_state c d else moved c d)
@@ -177,8 +176,7 @@ mov_of c d = if is_state c then from_state c d else (if is_state d then to_state
 unfoldable pub compared : Operation → Operand → Operand → Option Instruction
 compared o a c = do
   rs1 ← register_in a
-  x ← source_in c
-  Some (instruction.Format3 o r.G0 rs1 x)
+  with_source o r.G0 rs1 c
 
 unfoldable pub sethi_of : Operand → Operand → Option Instruction
 sethi_of a d = do
@@ -189,8 +187,7 @@ sethi_of a d = do
 unfoldable pub jmpl_of : Operand → Operand → Option Instruction
 jmpl_of a d = do
   rd ← register_in d
-  x ← place_in a
-  Some (instruction.Format3 operation.Jmpl rd x.0 x.1)
+  with_place operation.Jmpl rd a
 
 -- call with a number behind its target, which is ignored
 unfoldable pub call_with_number : Operand → Operand → Option Instruction
@@ -209,8 +206,7 @@ step_of op a d = do
 unfoldable pub update_of : Operation → Operand → Operand → Option Instruction
 update_of op c d = do
   rd ← register_in d
-  x ← source_in c
-  Some (instruction.Format3 op rd rd x)
+  with_source op rd rd c
 
 unfoldable pub two_of : Shape → Operand → Operand → Option Instruction
 two_of (shape.Load m) a d = access m d a
@@ -235,8 +231,7 @@ unfoldable pub three_fields : Operation → Operand → Operand → Operand → 
 three_fields op a c d = do
   rs1 ← register_in a
   rd ← register_in d
-  x ← source_in c
-  Some (instruction.Format3 op rd rs1 x)
+  with_source op rd rs1 c
 
 unfoldable pub shift_of : ShiftOp → Operand → Operand → Operand → Option Instruction
 shift_of op a c d = do
@@ -250,8 +245,7 @@ unfoldable pub write_of : Operand → Operand → Operand → Option Instruction
 write_of a c d = do
   rs1 ← register_in a
   s ← state_in d
-  x ← source_in c
-  Some (instruction.Format3 (operation.Write s) r.G0 rs1 x)
+  with_source (operation.Write s) r.G0 rs1 c
 
 unfoldable pub three_of : Shape → Operand → Operand → Operand → Option Instruction
 three_of (shape.Three op) a c d = three_fields op a c d

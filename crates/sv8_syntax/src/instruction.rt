@@ -5,7 +5,7 @@ ghost use Rattle.sv8_syntax.specs.declared.statement.Instruction.TheVariants as 
 ghost use Rattle.sv8_syntax.specs.Operand.{source_view, operand_view, operand_views};
 ghost use Rattle.sv8_syntax.specs.Outcome.{Gives};
 ghost use Rattle.sv8_syntax.specs.Taking.{upper_in};
-ghost use Rattle.sv8_syntax.specs.Forms.{of_registers, small, none_of, linked, called, call_of, cleared_at, cleared, clear_of, branch_of, trap_of, address_of, unimp_of, test_of, not_of, negate_of, step_by_one, one_of, access, alternate_access, from_state, to_state, moved, mov_of, compared, sethi_of, jmpl_of, call_with_number, step_of, update_of, two_of, three_fields, shift_of, write_of, three_of, instruction_of};
+ghost use Rattle.sv8_syntax.specs.Forms.{of_registers, small, with_source, with_place, with_bracketed, none_of, called, call_of, cleared, clear_of, branch_of, trap_of, unimp_of, test_of, not_of, negate_of, step_by_one, one_of, access, alternate_access, from_state, to_state, moved, mov_of, compared, sethi_of, jmpl_of, call_with_number, step_of, update_of, two_of, three_fields, shift_of, write_of, three_of, instruction_of};
 
 use crate::fault::LineFault::{self, Syntax};
 use crate::mnemonic::Shape;
@@ -41,6 +41,49 @@ fn format3(
         rs1,
         source,
     })
+}
+
+/// An instruction with the second source that an operand is.
+#[tactic(auto, unfolding(crate::specs::Forms::with_source))]
+fn with_source(
+    alloc: Global,
+    op: Operation,
+    rd: Register,
+    rs1: Register,
+    operand: Operand<'_>,
+) -> Result<Instruction, LineFault>
+    ensures { Gives (λ i. i) result (with_source op rd rs1 (operand_view operand.entry)) }
+{
+    let source = source_in(operand).ok_or(Syntax)?;
+    format3(alloc, op, rd, rs1, source)
+}
+
+/// An instruction with the address that an operand is, without brackets.
+#[tactic(auto, unfolding(crate::specs::Forms::with_place))]
+fn with_place(
+    alloc: Global,
+    op: Operation,
+    rd: Register,
+    place: Operand<'_>,
+) -> Result<Instruction, LineFault>
+    ensures { Gives (λ i. i) result (with_place op rd (operand_view place.entry)) }
+{
+    let (rs1, source) = place_in(place).ok_or(Syntax)?;
+    format3(alloc, op, rd, rs1, source)
+}
+
+/// The same with an address in brackets.
+#[tactic(auto, unfolding(crate::specs::Forms::with_bracketed))]
+fn with_bracketed(
+    alloc: Global,
+    op: Operation,
+    rd: Register,
+    place: Operand<'_>,
+) -> Result<Instruction, LineFault>
+    ensures { Gives (λ i. i) result (with_bracketed op rd (operand_view place.entry)) }
+{
+    let (base, source) = bracketed_in(place).ok_or(Syntax)?;
+    format3(alloc, op, rd, base, source)
 }
 
 /// An instruction of registers alone.
@@ -99,15 +142,6 @@ fn none(shape: Shape) -> Result<Instruction, LineFault>
     }
 }
 
-/// `call`, to an address that begins with a register.
-#[tactic(auto, unfolding(crate::specs::Forms::linked))]
-fn linked(alloc: Global, target: Operand<'_>) -> Result<Instruction, LineFault>
-    ensures { Gives (λ i. i) result (linked (operand_view target.entry)) }
-{
-    let (rs1, source) = place_in(target).ok_or(Syntax)?;
-    format3(alloc, Operation::Jmpl, Register::O7, rs1, source)
-}
-
 /// `call`, to an expression.
 #[tactic(auto, unfolding(crate::specs::Forms::called))]
 fn called(alloc: Global, target: Operand<'_>) -> Result<Instruction, LineFault>
@@ -117,24 +151,16 @@ fn called(alloc: Global, target: Operand<'_>) -> Result<Instruction, LineFault>
     Ok(Instruction::Call(target))
 }
 
+/// `call`, to an address that begins with a register, or to an expression.
 #[tactic(auto, unfolding(crate::specs::Forms::call_of))]
 fn call(alloc: Global, target: Operand<'_>) -> Result<Instruction, LineFault>
     ensures { Gives (λ i. i) result (call_of (operand_view target.entry)) }
 {
     if starts_with_register(target) {
-        linked(alloc, target)
+        with_place(alloc, Operation::Jmpl, Register::O7, target)
     } else {
         called(alloc, target)
     }
-}
-
-/// `clr`, `clrh` or `clrb` of an address.
-#[tactic(auto, unfolding(crate::specs::Forms::cleared_at))]
-fn cleared_at(alloc: Global, op: MemoryOp, place: Operand<'_>) -> Result<Instruction, LineFault>
-    ensures { Gives (λ i. i) result (cleared_at op (operand_view place.entry)) }
-{
-    let (rs1, source) = bracketed_in(place).ok_or(Syntax)?;
-    format3(alloc, Operation::Memory(op), Register::G0, rs1, source)
 }
 
 /// `clr` of a register.
@@ -146,12 +172,18 @@ fn cleared(to: Operand<'_>) -> Result<Instruction, LineFault>
     Ok(of_registers(OR, rd, Register::G0, Register::G0))
 }
 
+/// `clr` of an address or of a register.
 #[tactic(auto, unfolding(crate::specs::Forms::clear_of))]
 fn clear(alloc: Global, operand: Operand<'_>) -> Result<Instruction, LineFault>
     ensures { Gives (λ i. i) result (clear_of (operand_view operand.entry)) }
 {
     if is_bracketed(operand) {
-        cleared_at(alloc, MemoryOp::St, operand)
+        with_bracketed(
+            alloc,
+            Operation::Memory(MemoryOp::St),
+            Register::G0,
+            operand,
+        )
     } else {
         cleared(operand)
     }
@@ -180,15 +212,6 @@ fn trap(alloc: Global, cond: Cond, operand: Operand<'_>) -> Result<Instruction, 
 {
     let (rs1, source) = trap_in(operand).ok_or(Syntax)?;
     format3(alloc, Operation::Trap(cond), Register::G0, rs1, source)
-}
-
-/// `jmp`, `rett` and `flush`.
-#[tactic(auto, unfolding(crate::specs::Forms::address_of))]
-fn address(alloc: Global, op: Operation, operand: Operand<'_>) -> Result<Instruction, LineFault>
-    ensures { Gives (λ i. i) result (address_of op (operand_view operand.entry)) }
-{
-    let (rs1, source) = place_in(operand).ok_or(Syntax)?;
-    format3(alloc, op, Register::G0, rs1, source)
 }
 
 #[tactic(auto, unfolding(crate::specs::Forms::unimp_of))]
@@ -223,13 +246,13 @@ fn one(alloc: Global, shape: Shape, operand: Operand<'_>) -> Result<Instruction,
         Shape::Branch { cond, annul } => branch(alloc, cond, annul, operand),
         Shape::Trap(cond) => trap(alloc, cond, operand),
         Shape::Call => call(alloc, operand),
-        Shape::To(op) => address(alloc, op, operand),
+        Shape::To(op) => with_place(alloc, op, Register::G0, operand),
         Shape::Unimp => unimp(operand),
         Shape::Test(op) => test(op, operand),
         Shape::Not(op) => not(op, operand, operand),
         Shape::Negate(op) => negate(op, operand, operand),
         Shape::Step(op) => step_by_one(op, operand),
-        Shape::ClearAt(op) => cleared_at(alloc, op, operand),
+        Shape::ClearAt(op) => with_bracketed(alloc, Operation::Memory(op), Register::G0, operand),
         Shape::Clear => clear(alloc, operand),
         _ => Err(Syntax),
     }
@@ -246,8 +269,7 @@ fn access(
     ensures { Gives (λ i. i) result (access op (operand_view register.entry) (operand_view place.entry)) }
 {
     let rd = register_in(register).ok_or(Syntax)?;
-    let (rs1, source) = bracketed_in(place).ok_or(Syntax)?;
-    format3(alloc, Operation::Memory(op), rd, rs1, source)
+    with_bracketed(alloc, Operation::Memory(op), rd, place)
 }
 
 /// The same in an alternate space.
@@ -295,13 +317,12 @@ fn to_state(alloc: Global, from: Operand<'_>, to: Operand<'_>) -> Result<Instruc
     ensures { Gives (λ i. i) result (to_state (operand_view from.entry) (operand_view to.entry)) }
 {
     let state = state_in(to).ok_or(Syntax)?;
-    let source = source_in(from).ok_or(Syntax)?;
-    format3(
+    with_source(
         alloc,
         Operation::Write(state),
         Register::G0,
         Register::G0,
-        source,
+        from,
     )
 }
 
@@ -311,8 +332,7 @@ fn moved(alloc: Global, from: Operand<'_>, to: Operand<'_>) -> Result<Instructio
     ensures { Gives (λ i. i) result (moved (operand_view from.entry) (operand_view to.entry)) }
 {
     let rd = register_in(to).ok_or(Syntax)?;
-    let source = source_in(from).ok_or(Syntax)?;
-    format3(alloc, OR, rd, Register::G0, source)
+    with_source(alloc, OR, rd, Register::G0, from)
 }
 
 #[tactic(auto, unfolding(crate::specs::Forms::mov_of))]
@@ -333,8 +353,7 @@ fn jmpl(alloc: Global, target: Operand<'_>, to: Operand<'_>) -> Result<Instructi
     ensures { Gives (λ i. i) result (jmpl_of (operand_view target.entry) (operand_view to.entry)) }
 {
     let rd = register_in(to).ok_or(Syntax)?;
-    let (rs1, source) = place_in(target).ok_or(Syntax)?;
-    format3(alloc, Operation::Jmpl, rd, rs1, source)
+    with_place(alloc, Operation::Jmpl, rd, target)
 }
 
 /// `call` with a number behind it, which is ignored.
@@ -394,8 +413,7 @@ fn compared(
     ensures { Gives (λ i. i) result (compared op (operand_view first.entry) (operand_view second.entry)) }
 {
     let rs1 = register_in(first).ok_or(Syntax)?;
-    let source = source_in(second).ok_or(Syntax)?;
-    format3(alloc, op, Register::G0, rs1, source)
+    with_source(alloc, op, Register::G0, rs1, second)
 }
 
 /// `bset`, `bclr` and `btog`.
@@ -409,8 +427,7 @@ fn update(
     ensures { Gives (λ i. i) result (update_of op (operand_view by.entry) (operand_view to.entry)) }
 {
     let rd = register_in(to).ok_or(Syntax)?;
-    let source = source_in(by).ok_or(Syntax)?;
-    format3(alloc, op, rd, rd, source)
+    with_source(alloc, op, rd, rd, by)
 }
 
 #[tactic(auto, unfolding(crate::specs::Forms::two_of))]
@@ -454,8 +471,7 @@ fn three_fields(
 {
     let rs1 = register_in(first).ok_or(Syntax)?;
     let rd = register_in(to).ok_or(Syntax)?;
-    let source = source_in(second).ok_or(Syntax)?;
-    format3(alloc, op, rd, rs1, source)
+    with_source(alloc, op, rd, rs1, second)
 }
 
 #[tactic(auto, unfolding(crate::specs::Forms::shift_of))]
@@ -485,8 +501,7 @@ fn write_state(
 {
     let rs1 = register_in(first).ok_or(Syntax)?;
     let state = state_in(to).ok_or(Syntax)?;
-    let source = source_in(second).ok_or(Syntax)?;
-    format3(alloc, Operation::Write(state), Register::G0, rs1, source)
+    with_source(alloc, Operation::Write(state), Register::G0, rs1, second)
 }
 
 #[tactic(auto, unfolding(crate::specs::Forms::three_of))]

@@ -40,6 +40,7 @@ pub fn reading_is_the_grammar()
 {}
 
 /// Each kind of operand.
+#[tactic(auto, unfolding(crate::proofs::OnLiterals::reading_on_literals))]
 pub fn worked_operands()
     ensures registers { reading (codes "xorcc%i7 , %l3,%sp ! any gap") ≡ instructs (instruction.Format3 (operation.Arith arith.Xor true) r.O6 r.I7 (source.Register r.L3)) }
     ensures low { reading (codes "or %g1, %lo(x+4), %r30") ≡ instructs (instruction.Format3 (operation.Arith arith.Or false) r.I6 r.G1 (source.Immediate (imm.Low (expr.Plus (codes "x") 4)))) }
@@ -52,6 +53,7 @@ pub fn worked_operands()
 {}
 
 /// Branches, and forms that stand for others.
+#[tactic(auto, unfolding(crate::proofs::OnLiterals::reading_on_literals))]
 pub fn worked_instructions()
     ensures annulled { reading (codes "bne , a x") ≡ instructs (instruction.Branch condition.NotEqual true (expr.Name (codes "x"))) }
     ensures named_a { reading (codes "ba a") ≡ instructs (instruction.Branch condition.Always false (expr.Name (codes "a"))) }
@@ -66,6 +68,7 @@ pub fn worked_instructions()
 {}
 
 /// Labels and directives.
+#[tactic(auto, unfolding(crate::proofs::OnLiterals::reading_on_literals))]
 pub fn worked_lines()
     ensures label { reading (codes "ret: ret") ≡ Ok (line (Some (label.Name (codes "ret"))) (Some (statement.Instruction (instruction.Format3 operation.Jmpl r.G0 r.I7 (value (expr.Number 8)))))) }
     ensures local { reading (9 ∷ codes "2 : nop") ≡ Ok (line (Some (label.Local 2)) (Some (statement.Instruction (instruction.Sethi (upper.Value (expr.Number 0)) r.G0)))) }
@@ -77,6 +80,7 @@ pub fn worked_lines()
 {}
 
 /// Lines that are refused: for a token, a label, an annul bit, an operand, an escape, and a byte that is no text.
+#[tactic(auto, unfolding(crate::proofs::OnLiterals::reading_on_literals))]
 pub fn worked_refusals()
     ensures tokens { AreRefused (codes "mov 5x, %g1" ∷ codes "mov 01, %g1" ∷ codes "mov 0x, %g1" ∷ codes "mov 0X1, %g1" ∷ codes "mov 4294967296, %g1" ∷ codes "mov 5, % g1" ∷ codes "mov 5, %r01" ∷ codes "NOP" ∷ codes "nop 1fx" ∷ []) }
     ensures labels { AreRefused (codes "10: nop" ∷ codes "0x1: nop" ∷ codes "01: nop" ∷ codes "1f: nop" ∷ codes "1: 2: nop" ∷ codes ".equ 1f, 3" ∷ codes "mov %g1-1f, %g2" ∷ []) }

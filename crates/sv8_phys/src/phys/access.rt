@@ -164,12 +164,7 @@ fn note_store<T: Touches>(pa: u32, size: Size, notes: &mut T) -> Result<(), Allo
     ensures err { OnErr result (T.KEEPS ≡ true) }
 {
     match size {
-        Size::Byte => notes.note(Touch::Read(word_address(pa)))?,
-        Size::Half => note_both(
-            Touch::Read(word_address(pa)),
-            Touch::Read(word_address(pa + 1)),
-            notes,
-        )?,
+        Size::Byte | Size::Half => note_load(pa, size, notes)?,
         Size::Word => notes.note(Touch::Write(word_address(pa)))?,
         Size::Double => note_both(
             Touch::Write(word_address(pa)),
