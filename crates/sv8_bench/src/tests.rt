@@ -475,11 +475,20 @@ fn is_apart(
     Ok(machine.word(0x100) == 7 && copy.word(0x100) == 0 && copy.output(alloc)?.is_empty())
 }
 
+/// Whether levels 3 and 15 become pending in a machine and not in its copy, and level 3 is then taken back.
+fn has_own_levels(machine: &mut Machine<8, 1>, copy: &Machine<8, 1>) -> bool {
+    machine.set_pending(3, true);
+    machine.set_pending(15, true);
+    let both = machine.pending();
+    machine.set_pending(3, false);
+    (both, machine.pending(), copy.pending()) == (0x8008, 0x8000, 0)
+}
+
 /// Whether a machine and its copy are kept apart.
 fn is_copied(machine: &mut Machine<8, 1>, alloc: Global) -> Result<bool, AllocError> {
     let page = machine.page(0x100)?;
     let copy = machine.snapshot(alloc)?;
-    is_apart(machine, &copy, page, alloc)
+    Ok(is_apart(machine, &copy, page, alloc)? && has_own_levels(machine, &copy))
 }
 
 /// A machine just reset, whose RAM is zeros.
@@ -489,7 +498,7 @@ fn blank(alloc: Global) -> Result<Machine<8, 1>, AllocError> {
 }
 
 #[test]
-fn a_copy_keeps_its_page(rt: HostRuntime) -> Result<(), Fail> {
+fn a_copy_keeps_its_page_and_levels(rt: HostRuntime) -> Result<(), Fail> {
     let mut machine = blank(rt.alloc())?;
     assert!(rt; is_copied(&mut machine, rt.alloc())?);
     Ok(())

@@ -91,28 +91,32 @@ exchanged_word keeps limit u o o1 o2 ts ts1 ts2 size asi value va pa old x y s i
 
 -- ---- at a virtual address
 
-module _ (keeps : Bool) (limit : ℕ) (u u1 : Units) (trap : Trap) (asi access_type given : ℕ) (reach given_reach : Reach) (va : ℕ) (use_address : Units → ℕ → Action Served) (o o1 o2 : Outside) (t : Translated) (s : Served) (ts ts1 : List Touch)
-    (same : u1 ≡ u) (type_is : given ≡ access_type) (reach_is : given_reach ≡ reach) (d : Does keeps (translate limit u.mmu va given given_reach) o o1 t ts ts1) where
-  translated_first : Does keeps (translate limit u.mmu va access_type reach) o o1 t ts ts1
-  translated_first = subst (λ k. Does keeps (translate limit u.mmu va k reach) o o1 t ts ts1) type_is (subst (λ r. Does keeps (translate limit u.mmu va given r) o o1 t ts ts1) reach_is d)
+module _ (keeps : Bool) (limit : ℕ) (u : Units) (trap : Trap) (asi access_type : ℕ) (reach : Reach) (va : ℕ) (use_address : Units → ℕ → Action Served) (o o2 : Outside) (s : Served) (ts ts2 : List Touch) where
+  -- it is made as the type and the reach are that the code has found
+  pub made_as : (given : ℕ) (given_reach : Reach) → given ≡ access_type → given_reach ≡ reach → Does keeps (at_virtual limit u trap asi given given_reach va (use_address u)) o o2 s ts ts2
+      → Does keeps (at_virtual limit u trap asi access_type reach va (use_address u)) o o2 s ts ts2
+  made_as given given_reach type_is reach_is made =
+      subst (λ k. Does keeps (at_virtual limit u trap asi k reach va (use_address u)) o o2 s ts ts2) type_is
+      (subst (λ r. Does keeps (at_virtual limit u trap asi given r va (use_address u)) o o2 s ts ts2) reach_is made)
 
-  -- it is translated, and the access is made at the physical address
-  pub made_at : (pa : ℕ) (ts2 : List Touch) → t ≡ At pa → Does keeps (use_address u1 pa) o1 o2 s ts1 ts2 → Does keeps (at_virtual limit u trap asi access_type reach va (use_address u)) o o2 s ts ts2
-  unfolding at_virtual
-  made_at pa ts2 e made =
-      does_then keeps (translate limit u.mmu va access_type reach) (located u trap asi access_type va (use_address u)) o o1 o2 t s ts ts1 ts2 translated_first
-      (rw e (subst (λ v. Does keeps (use_address v pa) o1 o2 s ts1 ts2) same made))
+  module _ (u1 : Units) (o1 : Outside) (t : Translated) (ts1 : List Touch) (same : u1 ≡ u) (d : Does keeps (translate limit u.mmu va access_type reach) o o1 t ts ts1) where
+    -- it is translated, and the access is made at the physical address
+    pub made_at : (pa : ℕ) → t ≡ At pa → Does keeps (use_address u1 pa) o1 o2 s ts1 ts2 → Does keeps (at_virtual limit u trap asi access_type reach va (use_address u)) o o2 s ts ts2
+    unfolding at_virtual
+    made_at pa e made =
+        does_then keeps (translate limit u.mmu va access_type reach) (located u trap asi access_type va (use_address u)) o o1 o2 t s ts ts1 ts2 d
+        (rw e (subst (λ v. Does keeps (use_address v pa) o1 o2 s ts1 ts2) same made))
 
-  -- its translation meets a fault
-  pub refused_at : (kind level : ℕ) → t ≡ translated.Refused kind level → o2 ≡ o1 → s ≡ failed u1 trap asi (record { level = level; access_type = given; fault_type = kind; address = va })
-      → Does keeps (at_virtual limit u trap asi access_type reach va (use_address u)) o o2 s ts ts1
-  unfolding at_virtual
-  refused_at kind level e outside answer =
-      rw outside
-      (does_then keeps (translate limit u.mmu va access_type reach) (located u trap asi access_type va (use_address u)) o o1 o1 t s ts ts1 ts1 translated_first
-      (rw e (does_done keeps (failed u trap asi (record { level = level; access_type = access_type; fault_type = kind; address = va })) s o1 ts1
-      (answer ∙ ap (λ k. failed u1 trap asi (record { level = level; access_type = k; fault_type = kind; address = va })) type_is
-      ∙ ap (λ v. failed v trap asi (record { level = level; access_type = access_type; fault_type = kind; address = va })) same))))
+    -- its translation meets a fault, and nothing more is done
+    pub refused_at : (kind level : ℕ) (answer : Served) (o3 : Outside) → t ≡ translated.Refused kind level → o3 ≡ o1
+        → answer ≡ failed u1 trap asi (record { level = level; access_type = access_type; fault_type = kind; address = va }) → Does keeps (done answer) o3 o2 s ts1 ts2
+        → Does keeps (at_virtual limit u trap asi access_type reach va (use_address u)) o o2 s ts ts2
+    unfolding at_virtual
+    refused_at kind level answer o3 e outside is made =
+        does_then keeps (translate limit u.mmu va access_type reach) (located u trap asi access_type va (use_address u)) o o1 o2 t s ts ts1 ts2 d
+        (rw e (subst (λ a. Does keeps (done a) o1 o2 s ts1 ts2)
+        (is ∙ ap (λ v. failed v trap asi (record { level = level; access_type = access_type; fault_type = kind; address = va })) same)
+        (subst (λ p. Does keeps (done answer) p o2 s ts1 ts2) outside made)))
 
 -- what is kept goes on standing where neither RAM nor the table pointer changes
 pub stand_on : (limit : ℕ) (ram now : List ℕ) (p q : ℕ) (ks : List Kept) → now ≡ ram → q ≡ p → AllStand limit ram p ks → AllStand limit now q ks

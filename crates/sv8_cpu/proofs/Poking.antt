@@ -6,7 +6,8 @@ use Rattle.sv8_time.specs.Order.{Each}
 use Rattle.sv8_time.specs.Schedule.{BytePoke}
 use Rattle.sv8_time.specs.Words.{IsWordIn, poked_from, poked_bytes, bytes_of_words}
 use Rattle.sv8_phys.specs.Memory.{ram_size}
-use Rattle.sv8_cpu.specs.Events.{poked, byte_poked, word_poked, words_poked, AreInside}
+use Rattle.sv8_cpu.specs.Events.{poked}
+use Rattle.sv8_cpu.specs.WordPokes.{byte_poked, word_poked, words_poked, AreInside}
 
 poked_append : (ps qs : List BytePoke) (ram : List ℕ) → poked (ps ++ qs) ram ≡ poked qs (poked ps ram)
 poked_append [] qs ram = refl

@@ -11,8 +11,8 @@ use Rattle.sv8_phys.specs.Devices.{tick}
 use Rattle.sv8_trap.specs.declared.table.Trap.{Trap}
 use Rattle.sv8_trap.specs.Processor.{Processor}
 use Rattle.sv8_trap.specs.Interrupt.{unmasked}
-use Rattle.sv8_cpu.specs.declared.access.Request.{Request}
-use Rattle.sv8_cpu.specs.declared.access.Request.TheVariants.{Fetch}
+use Rattle.sv8_cpu.specs.declared.access.AccessRequest.{AccessRequest}
+use Rattle.sv8_cpu.specs.declared.access.AccessRequest.TheVariants.{Fetch}
 use Rattle.sv8_cpu.specs.declared.access.Response.{Response}
 use Rattle.sv8_cpu.specs.Units.{Units, Served}
 use Rattle.sv8_cpu.specs.Access.{access}
@@ -27,7 +27,7 @@ module _ (keeps : Bool) (windows limit : ℕ) (m : Inner) where
   trap_taken o ts i raised t y e f = rw e (does_done keeps (record m { processor = trapped windows m.processor i t }) y o ts f)
 
   -- an instruction's access is answered
-  pub access_answered : (o o1 : Outside) (ts ts1 : List Touch) (i : Instr) (q : Request) (s : Served) (y : Inner) → q ≡ asked windows m.processor i
+  pub access_answered : (o o1 : Outside) (ts ts1 : List Touch) (i : Instr) (q : AccessRequest) (s : Served) (y : Inner) → q ≡ asked windows m.processor i
       → Does keeps (access limit m.units q) o o1 s ts ts1 → y ≡ finished_access windows m.processor i s → Does keeps (executed windows limit m i None) o o1 y ts ts1
   unfolding executed
   access_answered o o1 ts ts1 i q s y e h f =
@@ -35,7 +35,7 @@ module _ (keeps : Bool) (windows limit : ℕ) (m : Inner) where
 
   module _ (o o1 o2 : Outside) (ts ts1 ts2 : List Touch) (y : Inner) where
     -- a fetch is answered, and what follows
-    pub instruction_by : (q : Request) (s : Served) → q ≡ Fetch m.processor.registers.psr.s m.processor.pc
+    pub instruction_by : (q : AccessRequest) (s : Served) → q ≡ Fetch m.processor.registers.psr.s m.processor.pc
         → Does keeps (access limit m.units q) o o1 s ts ts1 → Does keeps (fetched windows limit m.processor s.response s.units) o1 o2 y ts1 ts2
         → Does keeps (instruction windows limit m) o o2 y ts ts2
     unfolding instruction

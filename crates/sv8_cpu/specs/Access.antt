@@ -18,8 +18,8 @@ use Rattle.sv8_mmu.specs.Probe.{probe}
 use Rattle.sv8_trap.specs.declared.table.Trap.{Trap}
 use Rattle.sv8_trap.specs.declared.table.Trap.TheVariants.{InstructionAccessException, DataAccessException}
 use Rattle.sv8_cpu.specs.Units.{Units, Served, served, failed}
-use Rattle.sv8_cpu.specs.declared.access.Request.{Request}
-use Rattle.sv8_cpu.specs.declared.access.Request.TheVariants as request
+use Rattle.sv8_cpu.specs.declared.access.AccessRequest.{AccessRequest}
+use Rattle.sv8_cpu.specs.declared.access.AccessRequest.TheVariants as request
 use Rattle.sv8_cpu.specs.declared.access.Response.TheVariants.{Refused}
 use Rattle.sv8_cpu.specs.declared.access.Space.{Space}
 use Rattle.sv8_cpu.specs.declared.access.Space.TheVariants as space
@@ -176,7 +176,7 @@ exchanged_in limit u size asi at value space.Unassigned = done (no_such_access u
 abbrev pub fetched_in : ℕ → Units → ℕ → ℕ → Action Served
 fetched_in limit u asi at = at_virtual limit u InstructionAccessException asi (load_type asi) Ram at (fetched_from limit u asi at)
 
-unfoldable pub access : ℕ → Units → Request → Action Served
+unfoldable pub access : ℕ → Units → AccessRequest → Action Served
 access limit u request.Nothing = done (served u 0)
 access limit u (request.Fetch supervisor at) = fetched_in limit u (instruction_space supervisor) at
 access limit u (request.Load size asi at) = loaded_in limit u size asi at (space_of asi)
@@ -184,7 +184,7 @@ access limit u (request.Store size asi at value) = stored_in limit u size asi at
 access limit u (request.Exchange size asi at value) = exchanged_in limit u size asi at value (space_of asi)
 
 -- the address is a multiple of the size
-abbrev pub IsAligned : Request → Type 0
+abbrev pub IsAligned : AccessRequest → Type 0
 IsAligned request.Nothing = Unit {0}
 IsAligned (request.Fetch supervisor at) = at % 4 ≡ 0
 IsAligned (request.Load size asi at) = at % bytes_in size ≡ 0

@@ -10,8 +10,8 @@ use Rattle.sv8_trap.specs.declared.table.Trap.{Trap}
 use Rattle.sv8_trap.specs.declared.table.Trap.TheVariants.{PrivilegedInstruction, IllegalInstruction, FpDisabled, CpDisabled}
 use Rattle.sv8_trap.specs.Entry.{with_trap, with_return_trap, returned}
 use Rattle.sv8_trap.specs.Processor.{Processor, advanced}
-use Rattle.sv8_cpu.specs.declared.access.Request.{Request}
-use Rattle.sv8_cpu.specs.declared.access.Request.TheVariants.{Nothing}
+use Rattle.sv8_cpu.specs.declared.access.AccessRequest.{AccessRequest}
+use Rattle.sv8_cpu.specs.declared.access.AccessRequest.TheVariants.{Nothing}
 use Rattle.sv8_cpu.specs.Operands.{sum_of_sources, when}
 use Rattle.sv8_cpu.specs.Arithmetic.{arithmetic, arithmetic_traps, tagged, tagged_traps, multiply_step, shifted, upper_set}
 use Rattle.sv8_cpu.specs.Control.{branched, called, jump_traps, jumped, return_traps, number_traps}
@@ -75,7 +75,7 @@ abbrev pub data_space : Processor → ℕ
 data_space p = if p.registers.psr.s then 0x0b else 0x0a
 
 -- the access to memory that an instruction asks for
-abbrev pub asked : ℕ → Processor → Instr → Request
+abbrev pub asked : ℕ → Processor → Instr → AccessRequest
 asked windows p (row.Memory op rd rs1 operand) = access_of windows p op (data_space p) rd (sum_of_sources windows p rs1 operand)
 asked windows p (row.Alternate op rd rs1 rs2 asi) = access_of windows p op asi rd (sum_of_sources windows p rs1 (Register rs2))
 asked windows p i = Nothing

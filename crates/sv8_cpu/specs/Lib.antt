@@ -15,6 +15,8 @@ pub mod Recorded
 pub mod RecordedLaws
 pub mod Loading
 pub mod Work
+pub mod WordPokes
 pub mod View
+pub mod Locating
 pub mod Whole
 pub mod Examples

@@ -11,8 +11,8 @@ use Rattle.sv8_trap.specs.declared.table.Trap.{Trap}
 use Rattle.sv8_trap.specs.declared.table.Trap.TheVariants.{IllegalInstruction, MemAddressNotAligned}
 use Rattle.sv8_trap.specs.Processor.{Processor, advanced, with_register, with_result}
 use Rattle.sv8_cpu.specs.Operands.{when}
-use Rattle.sv8_cpu.specs.declared.access.Request.{Request}
-use Rattle.sv8_cpu.specs.declared.access.Request.TheVariants.{Load, Store, Exchange}
+use Rattle.sv8_cpu.specs.declared.access.AccessRequest.{AccessRequest}
+use Rattle.sv8_cpu.specs.declared.access.AccessRequest.TheVariants.{Load, Store, Exchange}
 
 -- how much it loads or stores
 abbrev pub size_of : MemoryOp → Size
@@ -48,7 +48,7 @@ abbrev pub pair : ℕ → Processor → ℕ → ℕ
 pair windows p rd = read windows p.registers rd * 2 ^ 32 + read windows p.registers (odd_register rd)
 
 -- the access in an address space
-unfoldable pub access_of : ℕ → Processor → MemoryOp → ℕ → ℕ → ℕ → Request
+unfoldable pub access_of : ℕ → Processor → MemoryOp → ℕ → ℕ → ℕ → AccessRequest
 access_of windows p memory.Ld asi rd address = Load Word asi address
 access_of windows p memory.Ldub asi rd address = Load Byte asi address
 access_of windows p memory.Ldsb asi rd address = Load Byte asi address

@@ -11,13 +11,13 @@ use Rattle.sv8_phys.specs.Memory.{ram_size}
 use Rattle.sv8_source.specs.Text.{Text}
 use Rattle.sv8_cpu.specs.Units.{Units}
 use Rattle.sv8_cpu.specs.Access.{access}
-use Rattle.sv8_cpu.specs.declared.access.Request.{Request}
+use Rattle.sv8_cpu.specs.declared.access.AccessRequest.{AccessRequest}
 use Rattle.sv8_cpu.specs.Run.{state_at, footprint}
 use Rattle.sv8_cpu.specs.Recorded.{machine, footprint_of, AreEvents, run_of}
 
 -- the frame law of an access: one that reads no cell of a set does the same whatever these cells hold, and leaves those of them that it does not write
 abbrev pub AccessFrames : Type 0
-AccessFrames = (limit : ℕ) (u : Units) (request : Request) (cells : Cells) (o o' : Outside) → Alike cells o o' → Unread cells (touches (access limit u request) o)
+AccessFrames = (limit : ℕ) (u : Units) (request : AccessRequest) (cells : Cells) (o o' : Outside) → Alike cells o o' → Unread cells (touches (access limit u request) o)
     → Framed cells (access limit u request) o o'
 
 -- THE FRAME LAW of a step with its event, for every number of windows and pages

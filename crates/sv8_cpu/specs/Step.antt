@@ -10,7 +10,7 @@ use Rattle.sv8_trap.specs.Table.{taken}
 use Rattle.sv8_trap.specs.Processor.{Processor, slot_skipped}
 use Rattle.sv8_trap.specs.Entry.{with_trap, interrupted}
 use Rattle.sv8_trap.specs.Interrupt.{unmasked, highest}
-use Rattle.sv8_cpu.specs.declared.access.Request.TheVariants.{Fetch}
+use Rattle.sv8_cpu.specs.declared.access.AccessRequest.TheVariants.{Fetch}
 use Rattle.sv8_cpu.specs.declared.access.Response.{Response}
 use Rattle.sv8_cpu.specs.declared.access.Response.TheVariants.{Value, Refused}
 use Rattle.sv8_cpu.specs.Memory.{low_word}

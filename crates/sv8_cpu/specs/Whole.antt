@@ -1,5 +1,9 @@
--- What the parts of a machine stand for.
-use Rattle.std.specs.Prelude.{ℕ}
+-- What the parts of a machine stand for, and what it means that they did an action.
+use Rattle.std.specs.Prelude.{ℕ, Bool, List}
+use Rattle.sv8_model.specs.declared.touch.Touch.{Touch}
+use Rattle.sv8_model.specs.Action.{Action}
+use Rattle.sv8_model.specs.Does.{Does}
+use Rattle.sv8_phys.specs.Contents.{outside_of}
 use Rattle.sv8_cpu.specs.declared.machine.Parts.{Parts}
 use Rattle.sv8_cpu.specs.Step.{Inner}
 use Rattle.sv8_cpu.specs.State.{State}
@@ -12,3 +16,7 @@ inner_of_parts p = record { processor = p.processor; units = units_of p.memory }
 -- the whole state
 abbrev pub state_of : {windows pages : ℕ} → Parts windows pages → State
 state_of p = record { processor = p.processor; mmu = p.memory.mmu; memory = p.memory.phys }
+
+-- once some bytes have come in, a machine p became p' as the action does, and its touches were noted behind the notes ts, if notes are kept at all
+abbrev pub MachineDoes : {windows pages : ℕ} → Bool → List ℕ → Action Inner → Parts windows pages → Parts windows pages → List Touch → List Touch → Type 0
+MachineDoes keeps bytes a p p' ts ts' = Does keeps a (outside_of p.memory.phys bytes) (outside_of p'.memory.phys bytes) (inner_of_parts p') ts ts'

@@ -8,7 +8,7 @@ use sv8_trap::Trap;
 
 /// The one access that an instruction makes, or none. Addresses are virtual, and multiples of the size.
 #[derive(Clone, Copy)]
-pub enum Request {
+pub enum AccessRequest {
     Nothing,
     /// Fetches an instruction.
     Fetch {

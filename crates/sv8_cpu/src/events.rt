@@ -6,7 +6,8 @@ ghost use Rattle.sv8_time.specs.Schedule.{IsRequestPlace, bytes_below};
 ghost use Rattle.sv8_phys.specs.Memory.{ram_size};
 ghost use Rattle.sv8_phys.specs.Contents.{arrived};
 ghost use Rattle.sv8_mmu.specs.Kept.{AllStand};
-ghost use Rattle.sv8_cpu.specs.Events.{marked, with_events, byte_poked, word_poked, words_poked, AreInside};
+ghost use Rattle.sv8_cpu.specs.Events.{marked, with_events};
+ghost use Rattle.sv8_cpu.specs.WordPokes.{byte_poked, word_poked, words_poked, AreInside};
 
 use std::alloc::AllocError;
 use sv8_mmu::Buffer;

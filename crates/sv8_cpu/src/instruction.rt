@@ -16,7 +16,7 @@ mod memory;
 mod state_registers;
 mod windows;
 
-use crate::access::Request;
+use crate::access::AccessRequest;
 use arithmetic::{
     arithmetic, arithmetic_trap, multiply_step, set_upper, shift, tagged, tagged_trap,
 };
@@ -162,7 +162,7 @@ fn data_space<const NW: usize>(p: &Processor<NW>) -> u8
 /// The access that an instruction asks for where it raises no trap.
 #[inline(always)]
 #[tactic(auto, using(crate::proofs::Choices::aligned_request, crate::proofs::Choices::aligned_alternate))]
-pub fn asked<const NW: usize>(p: &Processor<NW>, instr: Instr) -> Request
+pub fn asked<const NW: usize>(p: &Processor<NW>, instr: Instr) -> AccessRequest
     requires registers { HasRegisters instr }
     requires no_trap { taken (raised NW p.now instr) ≡ None }
     ensures value { result ≡ asked NW p.now instr }
@@ -188,7 +188,7 @@ pub fn asked<const NW: usize>(p: &Processor<NW>, instr: Instr) -> Request
             rd,
             sum_of_sources(p, rs1, Operand::Register(rs2)),
         ),
-        _ => Request::Nothing,
+        _ => AccessRequest::Nothing,
     }
 }
 

@@ -2,21 +2,21 @@
 
 ghost use Rattle.std.specs.Prelude.{◌≡◌, ℕ, ◌+◌, ◌<◌, ◌≤◌, ◌%◌, ◌/◌, ◌++◌, None, length, IfOk, OnOk, OnErr};
 ghost use Rattle.sv8_isa.specs.Registers.{HasRegisters};
-ghost use Rattle.sv8_model.specs.Does.{Does, kept};
+ghost use Rattle.sv8_model.specs.Does.{kept};
 ghost use Rattle.sv8_phys.specs.Notes.{told};
 ghost use Rattle.sv8_cpu.specs.Run.{acted_on, eventful, step_action, touched, step, footprint};
 ghost use Rattle.sv8_time.specs.Schedule.{bytes_below};
 ghost use Rattle.sv8_trap.specs.Table.{taken};
 ghost use Rattle.sv8_phys.specs.Memory.{ram_size};
-ghost use Rattle.sv8_phys.specs.Contents.{arrived, outside_of};
+ghost use Rattle.sv8_phys.specs.Contents.{arrived};
 ghost use Rattle.sv8_cpu.specs.Instruction.{raised};
 ghost use Rattle.sv8_cpu.specs.Step.{answered, executed, carried_out, fetched, instruction, continued, requested, interruptible, awake, action};
 ghost use Rattle.sv8_cpu.specs.State.{reset_state};
 ghost use Rattle.sv8_cpu.specs.Work.{counted};
 ghost use Rattle.sv8_cpu.specs.View.{units_of};
-ghost use Rattle.sv8_cpu.specs.Whole.{inner_of_parts, state_of};
+ghost use Rattle.sv8_cpu.specs.Whole.{inner_of_parts, state_of, MachineDoes};
 
-use crate::access::{Request, Response};
+use crate::access::{AccessRequest, Response};
 use crate::events::end_of;
 use crate::instruction::{asked, complete, low_word, raised_by, take};
 use crate::loading::load;
@@ -63,9 +63,8 @@ impl<const NW: usize, const PAGES: usize> Parts<NW, PAGES> {
         requires registers { HasRegisters instr }
         requires no_trap { taken (raised NW self.old.processor instr) ≡ None }
         requires delivered { self.old.memory.phys.taken ≤ bytes_below before timeline.now.inputs }
-        ensures ok { OnOk result (Does T.KEEPS (executed NW (ram_size PAGES) (inner_of_parts self.old) instr None)
-            (outside_of self.old.memory.phys (arrived before timeline.now)) (outside_of self.new.memory.phys (arrived before timeline.now))
-            (inner_of_parts self.new) (T.noted notes.old) (T.noted notes.new)) }
+        ensures ok { OnOk result (MachineDoes T.KEEPS (arrived before timeline.now) (executed NW (ram_size PAGES) (inner_of_parts self.old) instr None)
+            self.old self.new (T.noted notes.old) (T.noted notes.new)) }
         ensures taken { OnOk result (self.new.memory.phys.taken ≤ bytes_below before timeline.now.inputs) }
     {
         let request = asked(&self.processor, instr);
@@ -85,9 +84,8 @@ impl<const NW: usize, const PAGES: usize> Parts<NW, PAGES> {
     ) -> Result<(), AllocError>
         requires registers { HasRegisters instr }
         requires delivered { self.old.memory.phys.taken ≤ bytes_below before timeline.now.inputs }
-        ensures ok { OnOk result (Does T.KEEPS (executed NW (ram_size PAGES) (inner_of_parts self.old) instr (taken (raised NW self.old.processor instr)))
-            (outside_of self.old.memory.phys (arrived before timeline.now)) (outside_of self.new.memory.phys (arrived before timeline.now))
-            (inner_of_parts self.new) (T.noted notes.old) (T.noted notes.new)) }
+        ensures ok { OnOk result (MachineDoes T.KEEPS (arrived before timeline.now) (executed NW (ram_size PAGES) (inner_of_parts self.old) instr (taken (raised NW self.old.processor instr)))
+            self.old self.new (T.noted notes.old) (T.noted notes.new)) }
         ensures taken { OnOk result (self.new.memory.phys.taken ≤ bytes_below before timeline.now.inputs) }
     {
         match raised_by(&self.processor, instr) {
@@ -112,9 +110,8 @@ impl<const NW: usize, const PAGES: usize> Parts<NW, PAGES> {
         notes: &mut T,
     ) -> Result<(), AllocError>
         requires delivered { self.old.memory.phys.taken ≤ bytes_below before timeline.now.inputs }
-        ensures ok { OnOk result (Does T.KEEPS (carried_out NW (ram_size PAGES) (inner_of_parts self.old) word)
-            (outside_of self.old.memory.phys (arrived before timeline.now)) (outside_of self.new.memory.phys (arrived before timeline.now))
-            (inner_of_parts self.new) (T.noted notes.old) (T.noted notes.new)) }
+        ensures ok { OnOk result (MachineDoes T.KEEPS (arrived before timeline.now) (carried_out NW (ram_size PAGES) (inner_of_parts self.old) word)
+            self.old self.new (T.noted notes.old) (T.noted notes.new)) }
         ensures taken { OnOk result (self.new.memory.phys.taken ≤ bytes_below before timeline.now.inputs) }
     {
         self.execute(decode(word), before, timeline, notes)?;
@@ -131,9 +128,8 @@ impl<const NW: usize, const PAGES: usize> Parts<NW, PAGES> {
         notes: &mut T,
     ) -> Result<(), AllocError>
         requires delivered { self.old.memory.phys.taken ≤ bytes_below before timeline.now.inputs }
-        ensures ok { OnOk result (Does T.KEEPS (fetched NW (ram_size PAGES) self.old.processor response (units_of self.old.memory))
-            (outside_of self.old.memory.phys (arrived before timeline.now)) (outside_of self.new.memory.phys (arrived before timeline.now))
-            (inner_of_parts self.new) (T.noted notes.old) (T.noted notes.new)) }
+        ensures ok { OnOk result (MachineDoes T.KEEPS (arrived before timeline.now) (fetched NW (ram_size PAGES) self.old.processor response (units_of self.old.memory))
+            self.old self.new (T.noted notes.old) (T.noted notes.new)) }
         ensures taken { OnOk result (self.new.memory.phys.taken ≤ bytes_below before timeline.now.inputs) }
     {
         match response {
@@ -157,12 +153,11 @@ impl<const NW: usize, const PAGES: usize> Parts<NW, PAGES> {
         notes: &mut T,
     ) -> Result<(), AllocError>
         requires delivered { self.old.memory.phys.taken ≤ bytes_below before timeline.now.inputs }
-        ensures ok { OnOk result (Does T.KEEPS (instruction NW (ram_size PAGES) (inner_of_parts self.old))
-            (outside_of self.old.memory.phys (arrived before timeline.now)) (outside_of self.new.memory.phys (arrived before timeline.now))
-            (inner_of_parts self.new) (T.noted notes.old) (T.noted notes.new)) }
+        ensures ok { OnOk result (MachineDoes T.KEEPS (arrived before timeline.now) (instruction NW (ram_size PAGES) (inner_of_parts self.old))
+            self.old self.new (T.noted notes.old) (T.noted notes.new)) }
         ensures taken { OnOk result (self.new.memory.phys.taken ≤ bytes_below before timeline.now.inputs) }
     {
-        let request = Request::Fetch {
+        let request = AccessRequest::Fetch {
             supervisor: self.processor.registers().psr().s,
             at: self.processor.pc(),
         };
@@ -181,9 +176,8 @@ impl<const NW: usize, const PAGES: usize> Parts<NW, PAGES> {
         notes: &mut T,
     ) -> Result<(), AllocError>
         requires delivered { self.old.memory.phys.taken ≤ bytes_below before timeline.now.inputs }
-        ensures ok { OnOk result (Does T.KEEPS (continued NW (ram_size PAGES) (inner_of_parts self.old))
-            (outside_of self.old.memory.phys (arrived before timeline.now)) (outside_of self.new.memory.phys (arrived before timeline.now))
-            (inner_of_parts self.new) (T.noted notes.old) (T.noted notes.new)) }
+        ensures ok { OnOk result (MachineDoes T.KEEPS (arrived before timeline.now) (continued NW (ram_size PAGES) (inner_of_parts self.old))
+            self.old self.new (T.noted notes.old) (T.noted notes.new)) }
         ensures taken { OnOk result (self.new.memory.phys.taken ≤ bytes_below before timeline.now.inputs) }
     {
         if self.processor.annul() {
@@ -206,9 +200,8 @@ impl<const NW: usize, const PAGES: usize> Parts<NW, PAGES> {
         notes: &mut T,
     ) -> Result<(), AllocError>
         requires delivered { self.old.memory.phys.taken ≤ bytes_below before timeline.now.inputs }
-        ensures ok { OnOk result (Does T.KEEPS (requested NW (ram_size PAGES) (inner_of_parts self.old) levels)
-            (outside_of self.old.memory.phys (arrived before timeline.now)) (outside_of self.new.memory.phys (arrived before timeline.now))
-            (inner_of_parts self.new) (T.noted notes.old) (T.noted notes.new)) }
+        ensures ok { OnOk result (MachineDoes T.KEEPS (arrived before timeline.now) (requested NW (ram_size PAGES) (inner_of_parts self.old) levels)
+            self.old self.new (T.noted notes.old) (T.noted notes.new)) }
         ensures taken { OnOk result (self.new.memory.phys.taken ≤ bytes_below before timeline.now.inputs) }
     {
         let level = highest_level(levels);
@@ -231,9 +224,8 @@ impl<const NW: usize, const PAGES: usize> Parts<NW, PAGES> {
         notes: &mut T,
     ) -> Result<(), AllocError>
         requires delivered { self.old.memory.phys.taken ≤ bytes_below before timeline.now.inputs }
-        ensures ok { OnOk result (Does T.KEEPS (interruptible NW (ram_size PAGES) (inner_of_parts self.old))
-            (outside_of self.old.memory.phys (arrived before timeline.now)) (outside_of self.new.memory.phys (arrived before timeline.now))
-            (inner_of_parts self.new) (T.noted notes.old) (T.noted notes.new)) }
+        ensures ok { OnOk result (MachineDoes T.KEEPS (arrived before timeline.now) (interruptible NW (ram_size PAGES) (inner_of_parts self.old))
+            self.old self.new (T.noted notes.old) (T.noted notes.new)) }
         ensures taken { OnOk result (self.new.memory.phys.taken ≤ bytes_below before timeline.now.inputs) }
     {
         if self.processor.registers().psr().et {
@@ -257,9 +249,8 @@ impl<const NW: usize, const PAGES: usize> Parts<NW, PAGES> {
         notes: &mut T,
     ) -> Result<(), AllocError>
         requires delivered { self.old.memory.phys.taken ≤ bytes_below before timeline.now.inputs }
-        ensures ok { OnOk result (Does T.KEEPS (awake NW (ram_size PAGES) (inner_of_parts self.old))
-            (outside_of self.old.memory.phys (arrived before timeline.now)) (outside_of self.new.memory.phys (arrived before timeline.now))
-            (inner_of_parts self.new) (T.noted notes.old) (T.noted notes.new)) }
+        ensures ok { OnOk result (MachineDoes T.KEEPS (arrived before timeline.now) (awake NW (ram_size PAGES) (inner_of_parts self.old))
+            self.old self.new (T.noted notes.old) (T.noted notes.new)) }
         ensures taken { OnOk result (self.new.memory.phys.taken ≤ bytes_below before timeline.now.inputs) }
     {
         self.memory.tick(notes)?;
@@ -277,9 +268,8 @@ impl<const NW: usize, const PAGES: usize> Parts<NW, PAGES> {
         notes: &mut T,
     ) -> Result<(), AllocError>
         requires delivered { self.old.memory.phys.taken ≤ bytes_below before timeline.now.inputs }
-        ensures ok { OnOk result (Does T.KEEPS (action NW (ram_size PAGES) (inner_of_parts self.old))
-            (outside_of self.old.memory.phys (arrived before timeline.now)) (outside_of self.new.memory.phys (arrived before timeline.now))
-            (inner_of_parts self.new) (T.noted notes.old) (T.noted notes.new)) }
+        ensures ok { OnOk result (MachineDoes T.KEEPS (arrived before timeline.now) (action NW (ram_size PAGES) (inner_of_parts self.old))
+            self.old self.new (T.noted notes.old) (T.noted notes.new)) }
         ensures taken { OnOk result (self.new.memory.phys.taken ≤ bytes_below before timeline.now.inputs) }
     {
         if !self.processor.is_running() {

@@ -10,9 +10,9 @@ ghost use Rattle.sv8_phys.specs.Devices.{tick};
 ghost use Rattle.sv8_mmu.specs.Registers.{registers_at_reset};
 ghost use Rattle.sv8_cpu.specs.Events.{with_events};
 ghost use Rattle.sv8_cpu.specs.Access.{access, IsAligned};
-ghost use Rattle.sv8_cpu.specs.View.{units_of};
+ghost use Rattle.sv8_cpu.specs.View.{MemoryDoes, units_of};
 
-use crate::access::{Request, Response};
+use crate::access::{AccessRequest, Response};
 use crate::events::happen;
 use crate::physical::Physical;
 use crate::spaces::access;
@@ -121,16 +121,15 @@ impl<const PAGES: usize> Memory<PAGES> {
     #[inline(always)]
     pub fn access<T: Touches>(
         &mut self,
-        request: Request,
+        request: AccessRequest,
         before: u32,
         timeline: &Timeline,
         notes: &mut T,
     ) -> Result<Response, AllocError>
         requires aligned { IsAligned request }
         requires delivered { self.old.phys.taken ≤ bytes_below before timeline.now.inputs }
-        ensures ok { IfOk result (λ r. Does T.KEEPS (access (ram_size PAGES) (units_of self.old) request)
-            (outside_of self.old.phys (arrived before timeline.now)) (outside_of self.new.phys (arrived before timeline.now))
-            (record { response = r; units = units_of self.new }) (T.noted notes.old) (T.noted notes.new)) }
+        ensures ok { IfOk result (λ r. MemoryDoes T.KEEPS (arrived before timeline.now) (access (ram_size PAGES) (units_of self.old) request)
+            self.old self.new r (T.noted notes.old) (T.noted notes.new)) }
         ensures taken { OnOk result (self.new.phys.taken ≤ bytes_below before timeline.now.inputs) }
     {
         let response = access(

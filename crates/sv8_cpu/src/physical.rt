@@ -1,15 +1,14 @@
 //! Accesses at a physical address: RAM, the devices, and the registers of the memory management unit, which record faults.
 
 ghost use Rattle.std.specs.Prelude.{◌≡◌, ℕ, ◌+◌, ◌*◌, ◌%◌, ◌/◌, ◌≤◌, ◌<◌, ◌∷◌, List, true, IfOk, OnOk, OnErr};
-ghost use Rattle.sv8_model.specs.Does.{Does};
 ghost use Rattle.sv8_time.specs.Schedule.{bytes_below};
 ghost use Rattle.sv8_phys.specs.declared.timer.Timer.{Timer};
 ghost use Rattle.sv8_phys.specs.Memory.{bytes_in, ram_size};
-ghost use Rattle.sv8_phys.specs.Contents.{arrived, outside_of};
+ghost use Rattle.sv8_phys.specs.Contents.{arrived};
 ghost use Rattle.sv8_mmu.specs.Kept.{DiffersInPage};
 ghost use Rattle.sv8_cpu.specs.Units.{served, failed, is_hidden};
 ghost use Rattle.sv8_cpu.specs.Access.{load_type, store_type, bus_fault, fetched_from, load_answer, is_word, takes_byte, counts_bytes, plainly_loaded, loaded_from, answer_to_store, stored_at, exchanged_at};
-ghost use Rattle.sv8_cpu.specs.View.{units_of};
+ghost use Rattle.sv8_cpu.specs.View.{MemoryDoes, units_of};
 
 use crate::access::Response;
 use std::alloc::AllocError;
@@ -163,8 +162,8 @@ impl<const PAGES: usize> Physical<PAGES> {
         notes: &mut T,
     ) -> Result<Response, AllocError>
         requires { pa % 4 ≡ 0 }
-        ensures ok { IfOk result (λ r. (bytes : List ℕ) → Does T.KEEPS (fetched_from (ram_size PAGES) (units_of self.old) asi va pa)
-            (outside_of self.old.phys bytes) (outside_of self.new.phys bytes) (record { response = r; units = units_of self.new }) (T.noted notes.old) (T.noted notes.new)) }
+        ensures ok { IfOk result (λ r. (bytes : List ℕ) → MemoryDoes T.KEEPS bytes (fetched_from (ram_size PAGES) (units_of self.old) asi va pa)
+            self.old self.new r (T.noted notes.old) (T.noted notes.new)) }
         ensures kept { self.new.phys.ram ≡ self.old.phys.ram }
         ensures pointer { self.new.mmu.table_pointer ≡ self.old.mmu.table_pointer }
         ensures taken { OnOk result (self.new.phys.taken ≡ self.old.phys.taken) }
@@ -188,8 +187,8 @@ impl<const PAGES: usize> Physical<PAGES> {
         notes: &mut T,
     ) -> Result<Response, AllocError>
         requires { pa % bytes_in size ≡ 0 }
-        ensures ok { IfOk result (λ r. (bytes : List ℕ) → Does T.KEEPS (plainly_loaded (ram_size PAGES) (units_of self.old) size asi va pa)
-            (outside_of self.old.phys bytes) (outside_of self.new.phys bytes) (record { response = r; units = units_of self.new }) (T.noted notes.old) (T.noted notes.new)) }
+        ensures ok { IfOk result (λ r. (bytes : List ℕ) → MemoryDoes T.KEEPS bytes (plainly_loaded (ram_size PAGES) (units_of self.old) size asi va pa)
+            self.old self.new r (T.noted notes.old) (T.noted notes.new)) }
         ensures kept { self.new.phys.ram ≡ self.old.phys.ram }
         ensures pointer { self.new.mmu.table_pointer ≡ self.old.mmu.table_pointer }
         ensures taken { OnOk result (self.new.phys.taken ≡ self.old.phys.taken) }
@@ -213,9 +212,8 @@ impl<const PAGES: usize> Physical<PAGES> {
     ) -> Result<Response, AllocError>
         requires aligned { pa % bytes_in size ≡ 0 }
         requires delivered { self.old.phys.taken ≤ bytes_below before timeline.now.inputs }
-        ensures ok { IfOk result (λ r. Does T.KEEPS (loaded_from (ram_size PAGES) (units_of self.old) size asi va pa)
-            (outside_of self.old.phys (arrived before timeline.now)) (outside_of self.new.phys (arrived before timeline.now))
-            (record { response = r; units = units_of self.new }) (T.noted notes.old) (T.noted notes.new)) }
+        ensures ok { IfOk result (λ r. MemoryDoes T.KEEPS (arrived before timeline.now) (loaded_from (ram_size PAGES) (units_of self.old) size asi va pa)
+            self.old self.new r (T.noted notes.old) (T.noted notes.new)) }
         ensures kept { self.new.phys.ram ≡ self.old.phys.ram }
         ensures pointer { self.new.mmu.table_pointer ≡ self.old.mmu.table_pointer }
         ensures taken { OnOk result (self.new.phys.taken ≤ bytes_below before timeline.now.inputs) }
@@ -246,9 +244,8 @@ impl<const PAGES: usize> Physical<PAGES> {
     ) -> Result<Response, AllocError>
         requires aligned { pa % bytes_in size ≡ 0 }
         requires delivered { self.old.phys.taken ≤ bytes_below before timeline.now.inputs }
-        ensures ok { IfOk result (λ r. Does T.KEEPS (loaded_from (ram_size PAGES) (units_of self.old) size asi va pa)
-            (outside_of self.old.phys (arrived before timeline.now)) (outside_of self.new.phys (arrived before timeline.now))
-            (record { response = r; units = units_of self.new }) (T.noted notes.old) (T.noted notes.new)) }
+        ensures ok { IfOk result (λ r. MemoryDoes T.KEEPS (arrived before timeline.now) (loaded_from (ram_size PAGES) (units_of self.old) size asi va pa)
+            self.old self.new r (T.noted notes.old) (T.noted notes.new)) }
         ensures kept { self.new.phys.ram ≡ self.old.phys.ram }
         ensures pointer { self.new.mmu.table_pointer ≡ self.old.mmu.table_pointer }
         ensures taken { OnOk result (self.new.phys.taken ≤ bytes_below before timeline.now.inputs) }
@@ -274,8 +271,8 @@ impl<const PAGES: usize> Physical<PAGES> {
         notes: &mut T,
     ) -> Result<Response, AllocError>
         requires { pa % bytes_in size ≡ 0 }
-        ensures ok { IfOk result (λ r. (bytes : List ℕ) → Does T.KEEPS (stored_at (ram_size PAGES) (units_of self.old) size asi value va pa)
-            (outside_of self.old.phys bytes) (outside_of self.new.phys bytes) (record { response = r; units = units_of self.new }) (T.noted notes.old) (T.noted notes.new)) }
+        ensures ok { IfOk result (λ r. (bytes : List ℕ) → MemoryDoes T.KEEPS bytes (stored_at (ram_size PAGES) (units_of self.old) size asi value va pa)
+            self.old self.new r (T.noted notes.old) (T.noted notes.new)) }
         ensures kept { OnErr result (self.new.phys.ram ≡ self.old.phys.ram) }
         ensures page { DiffersInPage (pa / 4096) self.old.phys.ram self.new.phys.ram }
         ensures pointer { self.new.mmu.table_pointer ≡ self.old.mmu.table_pointer }
@@ -297,8 +294,8 @@ impl<const PAGES: usize> Physical<PAGES> {
         notes: &mut T,
     ) -> Result<Response, AllocError>
         requires { pa % bytes_in size ≡ 0 }
-        ensures ok { IfOk result (λ r. (bytes : List ℕ) → Does T.KEEPS (exchanged_at (ram_size PAGES) (units_of self.old) size asi value va pa)
-            (outside_of self.old.phys bytes) (outside_of self.new.phys bytes) (record { response = r; units = units_of self.new }) (T.noted notes.old) (T.noted notes.new)) }
+        ensures ok { IfOk result (λ r. (bytes : List ℕ) → MemoryDoes T.KEEPS bytes (exchanged_at (ram_size PAGES) (units_of self.old) size asi value va pa)
+            self.old self.new r (T.noted notes.old) (T.noted notes.new)) }
         ensures kept { OnErr result (self.new.phys.ram ≡ self.old.phys.ram) }
         ensures page { DiffersInPage (pa / 4096) self.old.phys.ram self.new.phys.ram }
         ensures pointer { self.new.mmu.table_pointer ≡ self.old.mmu.table_pointer }

@@ -1,16 +1,16 @@
 //! Accesses by address space (Appendices H and I).
 
 ghost use Rattle.std.specs.Prelude.{◌≡◌, ℕ, ◌+◌, ◌*◌, ◌%◌, ◌/◌, ◌^◌, ◌≤◌, ◌<◌, List, true, IfOk, OnOk, OnErr};
-ghost use Rattle.sv8_model.specs.Does.{Does};
 ghost use Rattle.sv8_time.specs.Schedule.{bytes_below};
 ghost use Rattle.sv8_phys.specs.declared.size.Size.{Size};
 ghost use Rattle.sv8_phys.specs.Memory.{bytes_in, ram_size};
-ghost use Rattle.sv8_phys.specs.Contents.{arrived, outside_of};
+ghost use Rattle.sv8_phys.specs.Contents.{arrived};
 ghost use Rattle.sv8_cpu.specs.Units.{served, failed};
 ghost use Rattle.sv8_cpu.specs.Access.{load_type, store_type, physical_place, fetched_in, loaded_in, stored_in, exchanged_in, stored_at, exchanged_at, reach_of, space_of, instruction_space, is_word, no_such_access, answer_of_register, register_loaded, register_stored, probed, access, IsAligned};
-ghost use Rattle.sv8_cpu.specs.View.{units_of, Serves};
+ghost use Rattle.sv8_cpu.specs.View.{MemoryDoes, units_of, Serves};
+ghost use Rattle.sv8_cpu.specs.Locating.{Locates, IsPlace};
 
-use crate::access::{Request, Response, Space, space_of};
+use crate::access::{AccessRequest, Response, Space, space_of};
 use crate::physical::{Physical, is_word, load_type, store_type};
 use std::alloc::AllocError;
 use sv8_mmu::{Buffer, Fault, Reach, Translated, VirtualAccess, probe, translate, write_register};
@@ -48,6 +48,15 @@ fn physical_place(high: u8, at: u32) -> u64
     high as u64 * 0x1_0000_0000 + at as u64
 }
 
+/// Where an access to a virtual address goes on.
+#[derive(Clone, Copy)]
+enum Place {
+    /// At a physical address.
+    At(u64),
+    /// Nowhere: its translation met a fault, and it is answered so.
+    Failed(Response),
+}
+
 /// Fails an access whose translation meets a fault.
 #[cold]
 fn refuse<const PAGES: usize>(
@@ -75,6 +84,33 @@ fn refuse<const PAGES: usize>(
     physical.fail(trap, asi, fault)
 }
 
+/// Translates the address of an access. A fault of the translation fails the access.
+#[inline(always)]
+fn locate<const PAGES: usize, T: Touches>(
+    physical: &mut Physical<PAGES>,
+    buffer: &mut Buffer,
+    trap: Trap,
+    asi: u8,
+    access: VirtualAccess,
+    notes: &mut T,
+) -> Result<Place, AllocError>
+    requires access_type { access.access_type ≤ 7 }
+    requires serves { Serves physical.old buffer.old }
+    ensures ok { IfOk result (λ place. (bytes : List ℕ) → Locates T.KEEPS bytes (ram_size PAGES) trap asi access
+        physical.old physical.new place (T.noted notes.old) (T.noted notes.new)) }
+    ensures address { IfOk result (λ place. IsPlace access.address place) }
+    ensures taken { OnOk result (physical.new.phys.taken ≡ physical.old.phys.taken) }
+    ensures serves { Serves physical.new buffer.new }
+{
+    match translate(&physical.mmu, buffer, &mut physical.phys, access, notes)? {
+        Translated::At(pa) => Ok(Place::At(pa)),
+        Translated::Refused { kind, level } => {
+            let response = refuse(physical, trap, asi, access, kind, level);
+            Ok(Place::Failed(response))
+        }
+    }
+}
+
 /// Fetches an instruction.
 #[inline(always)]
 fn fetch<const PAGES: usize, T: Touches>(
@@ -86,8 +122,8 @@ fn fetch<const PAGES: usize, T: Touches>(
 ) -> Result<Response, AllocError>
     requires aligned { at % 4 ≡ 0 }
     requires serves { Serves physical.old buffer.old }
-    ensures ok { IfOk result (λ r. (bytes : List ℕ) → Does T.KEEPS (fetched_in (ram_size PAGES) (units_of physical.old) asi at)
-        (outside_of physical.old.phys bytes) (outside_of physical.new.phys bytes) (record { response = r; units = units_of physical.new }) (T.noted notes.old) (T.noted notes.new)) }
+    ensures ok { IfOk result (λ r. (bytes : List ℕ) → MemoryDoes T.KEEPS bytes (fetched_in (ram_size PAGES) (units_of physical.old) asi at)
+        physical.old physical.new r (T.noted notes.old) (T.noted notes.new)) }
     ensures taken { OnOk result (physical.new.phys.taken ≡ physical.old.phys.taken) }
     ensures serves { Serves physical.new buffer.new }
 {
@@ -96,19 +132,19 @@ fn fetch<const PAGES: usize, T: Touches>(
         access_type: load_type(asi),
         reach: Reach::Ram,
     };
-    match translate(&physical.mmu, buffer, &mut physical.phys, access, notes)? {
-        Translated::At(pa) => {
+    match locate(
+        physical,
+        buffer,
+        Trap::InstructionAccessException,
+        asi,
+        access,
+        notes,
+    )? {
+        Place::Failed(response) => Ok(response),
+        Place::At(pa) => {
             let response = physical.fetch(asi, at, pa, notes)?;
             Ok(response)
         }
-        Translated::Refused { kind, level } => Ok(refuse(
-            physical,
-            Trap::InstructionAccessException,
-            asi,
-            access,
-            kind,
-            level,
-        )),
     }
 }
 
@@ -127,9 +163,8 @@ fn load_virtual<const PAGES: usize, T: Touches>(
     requires aligned { at % bytes_in size ≡ 0 }
     requires delivered { physical.old.phys.taken ≤ bytes_below before timeline.now.inputs }
     requires serves { Serves physical.old buffer.old }
-    ensures ok { IfOk result (λ r. Does T.KEEPS (loaded_in (ram_size PAGES) (units_of physical.old) size asi at Space.Virtual)
-        (outside_of physical.old.phys (arrived before timeline.now)) (outside_of physical.new.phys (arrived before timeline.now))
-        (record { response = r; units = units_of physical.new }) (T.noted notes.old) (T.noted notes.new)) }
+    ensures ok { IfOk result (λ r. MemoryDoes T.KEEPS (arrived before timeline.now) (loaded_in (ram_size PAGES) (units_of physical.old) size asi at Space.Virtual)
+        physical.old physical.new r (T.noted notes.old) (T.noted notes.new)) }
     ensures taken { OnOk result (physical.new.phys.taken ≤ bytes_below before timeline.now.inputs) }
     ensures serves { Serves physical.new buffer.new }
 {
@@ -138,19 +173,19 @@ fn load_virtual<const PAGES: usize, T: Touches>(
         access_type: load_type(asi),
         reach: reach_of(size),
     };
-    match translate(&physical.mmu, buffer, &mut physical.phys, access, notes)? {
-        Translated::At(pa) => {
+    match locate(
+        physical,
+        buffer,
+        Trap::DataAccessException,
+        asi,
+        access,
+        notes,
+    )? {
+        Place::Failed(response) => Ok(response),
+        Place::At(pa) => {
             let response = physical.load(size, asi, at, pa, before, timeline, notes)?;
             Ok(response)
         }
-        Translated::Refused { kind, level } => Ok(refuse(
-            physical,
-            Trap::DataAccessException,
-            asi,
-            access,
-            kind,
-            level,
-        )),
     }
 }
 
@@ -175,8 +210,8 @@ fn load_probe<const PAGES: usize, T: Touches>(
     at: u32,
     notes: &mut T,
 ) -> Result<Response, AllocError>
-    ensures ok { IfOk result (λ r. (bytes : List ℕ) → Does T.KEEPS (probed (ram_size PAGES) (units_of physical.now) size at)
-        (outside_of physical.now.phys bytes) (outside_of physical.now.phys bytes) (record { response = r; units = units_of physical.now }) (T.noted notes.old) (T.noted notes.new)) }
+    ensures ok { IfOk result (λ r. (bytes : List ℕ) → MemoryDoes T.KEEPS bytes (probed (ram_size PAGES) (units_of physical.now) size at)
+        physical.now physical.now r (T.noted notes.old) (T.noted notes.new)) }
 {
     if !is_word(size) {
         return Ok(Response::Refused(Trap::DataAccessException));
@@ -186,7 +221,7 @@ fn load_probe<const PAGES: usize, T: Touches>(
 }
 
 /// Loads from an address space.
-#[inline(always)]
+#[inline(never)]
 fn load<const PAGES: usize, T: Touches>(
     physical: &mut Physical<PAGES>,
     buffer: &mut Buffer,
@@ -200,9 +235,8 @@ fn load<const PAGES: usize, T: Touches>(
     requires aligned { at % bytes_in size ≡ 0 }
     requires delivered { physical.old.phys.taken ≤ bytes_below before timeline.now.inputs }
     requires serves { Serves physical.old buffer.old }
-    ensures ok { IfOk result (λ r. Does T.KEEPS (loaded_in (ram_size PAGES) (units_of physical.old) size asi at (space_of asi))
-        (outside_of physical.old.phys (arrived before timeline.now)) (outside_of physical.new.phys (arrived before timeline.now))
-        (record { response = r; units = units_of physical.new }) (T.noted notes.old) (T.noted notes.new)) }
+    ensures ok { IfOk result (λ r. MemoryDoes T.KEEPS (arrived before timeline.now) (loaded_in (ram_size PAGES) (units_of physical.old) size asi at (space_of asi))
+        physical.old physical.new r (T.noted notes.old) (T.noted notes.new)) }
     ensures taken { OnOk result (physical.new.phys.taken ≤ bytes_below before timeline.now.inputs) }
     ensures serves { Serves physical.new buffer.new }
 {
@@ -246,8 +280,8 @@ fn store_physical<const PAGES: usize, T: Touches>(
     requires aligned { pa % bytes_in size ≡ 0 }
     requires small { pa < 2 ^ 44 }
     requires serves { Serves physical.old buffer.old }
-    ensures ok { IfOk result (λ r. (bytes : List ℕ) → Does T.KEEPS (stored_at (ram_size PAGES) (units_of physical.old) size asi value at pa)
-        (outside_of physical.old.phys bytes) (outside_of physical.new.phys bytes) (record { response = r; units = units_of physical.new }) (T.noted notes.old) (T.noted notes.new)) }
+    ensures ok { IfOk result (λ r. (bytes : List ℕ) → MemoryDoes T.KEEPS bytes (stored_at (ram_size PAGES) (units_of physical.old) size asi value at pa)
+        physical.old physical.new r (T.noted notes.old) (T.noted notes.new)) }
     ensures taken { OnOk result (physical.new.phys.taken ≡ physical.old.phys.taken) }
     ensures serves { Serves physical.new buffer.new }
 {
@@ -269,8 +303,8 @@ fn store_virtual<const PAGES: usize, T: Touches>(
 ) -> Result<Response, AllocError>
     requires aligned { at % bytes_in size ≡ 0 }
     requires serves { Serves physical.old buffer.old }
-    ensures ok { IfOk result (λ r. (bytes : List ℕ) → Does T.KEEPS (stored_in (ram_size PAGES) (units_of physical.old) size asi at value Space.Virtual)
-        (outside_of physical.old.phys bytes) (outside_of physical.new.phys bytes) (record { response = r; units = units_of physical.new }) (T.noted notes.old) (T.noted notes.new)) }
+    ensures ok { IfOk result (λ r. (bytes : List ℕ) → MemoryDoes T.KEEPS bytes (stored_in (ram_size PAGES) (units_of physical.old) size asi at value Space.Virtual)
+        physical.old physical.new r (T.noted notes.old) (T.noted notes.new)) }
     ensures taken { OnOk result (physical.new.phys.taken ≡ physical.old.phys.taken) }
     ensures serves { Serves physical.new buffer.new }
 {
@@ -279,19 +313,19 @@ fn store_virtual<const PAGES: usize, T: Touches>(
         access_type: store_type(asi),
         reach: reach_of(size),
     };
-    match translate(&physical.mmu, buffer, &mut physical.phys, access, notes)? {
-        Translated::At(pa) => {
+    match locate(
+        physical,
+        buffer,
+        Trap::DataAccessException,
+        asi,
+        access,
+        notes,
+    )? {
+        Place::Failed(response) => Ok(response),
+        Place::At(pa) => {
             let response = store_physical(physical, buffer, size, asi, at, pa, value, notes)?;
             Ok(response)
         }
-        Translated::Refused { kind, level } => Ok(refuse(
-            physical,
-            Trap::DataAccessException,
-            asi,
-            access,
-            kind,
-            level,
-        )),
     }
 }
 
@@ -326,7 +360,7 @@ fn flush<const PAGES: usize>(physical: &Physical<PAGES>, buffer: &mut Buffer) ->
 }
 
 /// Stores to an address space.
-#[inline(always)]
+#[inline(never)]
 fn store<const PAGES: usize, T: Touches>(
     physical: &mut Physical<PAGES>,
     buffer: &mut Buffer,
@@ -338,8 +372,8 @@ fn store<const PAGES: usize, T: Touches>(
 ) -> Result<Response, AllocError>
     requires aligned { at % bytes_in size ≡ 0 }
     requires serves { Serves physical.old buffer.old }
-    ensures ok { IfOk result (λ r. (bytes : List ℕ) → Does T.KEEPS (stored_in (ram_size PAGES) (units_of physical.old) size asi at value (space_of asi))
-        (outside_of physical.old.phys bytes) (outside_of physical.new.phys bytes) (record { response = r; units = units_of physical.new }) (T.noted notes.old) (T.noted notes.new)) }
+    ensures ok { IfOk result (λ r. (bytes : List ℕ) → MemoryDoes T.KEEPS bytes (stored_in (ram_size PAGES) (units_of physical.old) size asi at value (space_of asi))
+        physical.old physical.new r (T.noted notes.old) (T.noted notes.new)) }
     ensures taken { OnOk result (physical.new.phys.taken ≡ physical.old.phys.taken) }
     ensures serves { Serves physical.new buffer.new }
 {
@@ -386,8 +420,8 @@ fn exchange_physical<const PAGES: usize, T: Touches>(
     requires aligned { pa % bytes_in size ≡ 0 }
     requires small { pa < 2 ^ 44 }
     requires serves { Serves physical.old buffer.old }
-    ensures ok { IfOk result (λ r. (bytes : List ℕ) → Does T.KEEPS (exchanged_at (ram_size PAGES) (units_of physical.old) size asi value at pa)
-        (outside_of physical.old.phys bytes) (outside_of physical.new.phys bytes) (record { response = r; units = units_of physical.new }) (T.noted notes.old) (T.noted notes.new)) }
+    ensures ok { IfOk result (λ r. (bytes : List ℕ) → MemoryDoes T.KEEPS bytes (exchanged_at (ram_size PAGES) (units_of physical.old) size asi value at pa)
+        physical.old physical.new r (T.noted notes.old) (T.noted notes.new)) }
     ensures taken { OnOk result (physical.new.phys.taken ≡ physical.old.phys.taken) }
     ensures serves { Serves physical.new buffer.new }
 {
@@ -408,8 +442,8 @@ fn exchange_virtual<const PAGES: usize, T: Touches>(
 ) -> Result<Response, AllocError>
     requires aligned { at % bytes_in size ≡ 0 }
     requires serves { Serves physical.old buffer.old }
-    ensures ok { IfOk result (λ r. (bytes : List ℕ) → Does T.KEEPS (exchanged_in (ram_size PAGES) (units_of physical.old) size asi at value Space.Virtual)
-        (outside_of physical.old.phys bytes) (outside_of physical.new.phys bytes) (record { response = r; units = units_of physical.new }) (T.noted notes.old) (T.noted notes.new)) }
+    ensures ok { IfOk result (λ r. (bytes : List ℕ) → MemoryDoes T.KEEPS bytes (exchanged_in (ram_size PAGES) (units_of physical.old) size asi at value Space.Virtual)
+        physical.old physical.new r (T.noted notes.old) (T.noted notes.new)) }
     ensures taken { OnOk result (physical.new.phys.taken ≡ physical.old.phys.taken) }
     ensures serves { Serves physical.new buffer.new }
 {
@@ -418,23 +452,24 @@ fn exchange_virtual<const PAGES: usize, T: Touches>(
         access_type: store_type(asi),
         reach: Reach::Ram,
     };
-    match translate(&physical.mmu, buffer, &mut physical.phys, access, notes)? {
-        Translated::At(pa) => {
+    match locate(
+        physical,
+        buffer,
+        Trap::DataAccessException,
+        asi,
+        access,
+        notes,
+    )? {
+        Place::Failed(response) => Ok(response),
+        Place::At(pa) => {
             let response = exchange_physical(physical, buffer, size, asi, at, pa, value, notes)?;
             Ok(response)
         }
-        Translated::Refused { kind, level } => Ok(refuse(
-            physical,
-            Trap::DataAccessException,
-            asi,
-            access,
-            kind,
-            level,
-        )),
     }
 }
 
 /// Loads from an address space, and stores in the same place.
+#[inline(never)]
 fn exchange<const PAGES: usize, T: Touches>(
     physical: &mut Physical<PAGES>,
     buffer: &mut Buffer,
@@ -446,8 +481,8 @@ fn exchange<const PAGES: usize, T: Touches>(
 ) -> Result<Response, AllocError>
     requires aligned { at % bytes_in size ≡ 0 }
     requires serves { Serves physical.old buffer.old }
-    ensures ok { IfOk result (λ r. (bytes : List ℕ) → Does T.KEEPS (exchanged_in (ram_size PAGES) (units_of physical.old) size asi at value (space_of asi))
-        (outside_of physical.old.phys bytes) (outside_of physical.new.phys bytes) (record { response = r; units = units_of physical.new }) (T.noted notes.old) (T.noted notes.new)) }
+    ensures ok { IfOk result (λ r. (bytes : List ℕ) → MemoryDoes T.KEEPS bytes (exchanged_in (ram_size PAGES) (units_of physical.old) size asi at value (space_of asi))
+        physical.old physical.new r (T.noted notes.old) (T.noted notes.new)) }
     ensures taken { OnOk result (physical.new.phys.taken ≡ physical.old.phys.taken) }
     ensures serves { Serves physical.new buffer.new }
 {
@@ -473,7 +508,7 @@ fn exchange<const PAGES: usize, T: Touches>(
 pub fn access<const PAGES: usize, T: Touches>(
     physical: &mut Physical<PAGES>,
     buffer: &mut Buffer,
-    request: Request,
+    request: AccessRequest,
     before: u32,
     timeline: &Timeline,
     notes: &mut T,
@@ -481,23 +516,22 @@ pub fn access<const PAGES: usize, T: Touches>(
     requires aligned { IsAligned request }
     requires delivered { physical.old.phys.taken ≤ bytes_below before timeline.now.inputs }
     requires serves { Serves physical.old buffer.old }
-    ensures ok { IfOk result (λ r. Does T.KEEPS (access (ram_size PAGES) (units_of physical.old) request)
-        (outside_of physical.old.phys (arrived before timeline.now)) (outside_of physical.new.phys (arrived before timeline.now))
-        (record { response = r; units = units_of physical.new }) (T.noted notes.old) (T.noted notes.new)) }
+    ensures ok { IfOk result (λ r. MemoryDoes T.KEEPS (arrived before timeline.now) (access (ram_size PAGES) (units_of physical.old) request)
+        physical.old physical.new r (T.noted notes.old) (T.noted notes.new)) }
     ensures taken { OnOk result (physical.new.phys.taken ≤ bytes_below before timeline.now.inputs) }
     ensures serves { Serves physical.new buffer.new }
 {
     match request {
-        Request::Nothing => Ok(Response::Value(0)),
-        Request::Fetch { supervisor, at } => {
+        AccessRequest::Nothing => Ok(Response::Value(0)),
+        AccessRequest::Fetch { supervisor, at } => {
             let response = fetch(physical, buffer, instruction_space(supervisor), at, notes)?;
             Ok(response)
         }
-        Request::Load { size, asi, at } => {
+        AccessRequest::Load { size, asi, at } => {
             let response = load(physical, buffer, size, asi, at, before, timeline, notes)?;
             Ok(response)
         }
-        Request::Store {
+        AccessRequest::Store {
             size,
             asi,
             at,
@@ -506,7 +540,7 @@ pub fn access<const PAGES: usize, T: Touches>(
             let response = store(physical, buffer, size, asi, at, value, notes)?;
             Ok(response)
         }
-        Request::Exchange {
+        AccessRequest::Exchange {
             size,
             asi,
             at,

@@ -1,4 +1,3 @@
-pub mod Field
 pub mod Operands
 pub mod Registers
 pub mod Table

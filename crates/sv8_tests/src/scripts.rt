@@ -1,5 +1,7 @@
 //! Scripts and their answers, worked out by hand from the manual and the encodings of an outside assembler.
 
+ghost use Rattle.std.specs.Prelude.{◌≤◌};
+
 use crate::ends::{Giver, Taker};
 use std::alloc::Global;
 use std::test::Fail;
@@ -9,13 +11,21 @@ use sv8_shell::run;
 /// A small machine, so that a reset takes little.
 type Small = Bench<8, 1, 256>;
 
-/// Whether a script on a new workbench has these answers.
-fn answers(alloc: Global, script: &[u8], wanted: &[u8]) -> Result<bool, Fail> {
-    let mut bench = Small::new(alloc)?;
+/// Whether a script on a new workbench, of a small machine with `NW` windows, has these answers.
+fn answers_of<const NW: usize>(alloc: Global, script: &[u8], wanted: &[u8]) -> Result<bool, Fail>
+    requires some_windows { 2 ≤ NW }
+    requires few_windows { NW ≤ 32 }
+{
+    let mut bench = Bench::<NW, 1, 256>::new(alloc)?;
     let mut rest = script;
     let mut written = Vec::new(alloc);
     let ended = run(alloc, &mut bench, &mut rest, &mut written);
     Ok(ended.is_ok() && written.as_slice() == wanted)
+}
+
+/// Whether a script on a new workbench has these answers.
+fn answers(alloc: Global, script: &[u8], wanted: &[u8]) -> Result<bool, Fail> {
+    answers_of::<8>(alloc, script, wanted)
 }
 
 /// The first run: four lines, their listing, and the machine at step 3.
@@ -105,5 +115,27 @@ fn words_are_listed_in_groups(rt: HostRuntime) -> Result<(), Fail> {
     let wanted =
         b"ok\n1 00000000 |! nothing\n2 00000000 ABCDEF01 00000000 FFFFFFFE |x: .word 0xABCDEF01, x, -2\n3 0000000C 0000000C |y: .word y\nok\nok\n1 00000000 |! nothing\n2 00000000 01000000 |nop\n3 00000004 ABCDEF01 00000004 FFFFFFFE |x: .word 0xABCDEF01, x, -2\n4 00000010 00000010 |y: .word y\nok\n";
     assert!(rt; answers(rt.alloc(), script, wanted)?);
+    Ok(())
+}
+
+/// Window 0 of three again after three SAVEs, with its local register; then a RESTORE to window 1, and one to window 2, whose ins are the outs of window 0.
+const ROUND: &[u8] =
+    b"edit 1 0 6\nmov 1, %l0\nsave %g0, 2, %l0\nsave %g0, 3, %l0\nsave %g0, 4, %o0\nrestore %l0, %g0, %l1\nrestore %g0, %g0, %g0\nregs 4\nregs 5\nregs 6\n";
+
+const ROUND_ANSWERS: &[u8] =
+    b"ok\nstep 4 run\npc 00000010 npc 00000014 annul 0\npsr 00000080 wim 00000000 tbr 00000000 y 00000000\ng 00000000 00000000 00000000 00000000 00000000 00000000 00000000 00000000\no 00000004 00000000 00000000 00000000 00000000 00000000 00000000 00000000\nl 00000001 00000000 00000000 00000000 00000000 00000000 00000000 00000000\ni 00000000 00000000 00000000 00000000 00000000 00000000 00000000 00000000\nmmu 00000000 00000000 00000000 00000000 00000000\ndev 00000000 00000000 00000000 00000000\nok\nstep 5 run\npc 00000014 npc 00000018 annul 0\npsr 00000081 wim 00000000 tbr 00000000 y 00000000\ng 00000000 00000000 00000000 00000000 00000000 00000000 00000000 00000000\no 00000000 00000000 00000000 00000000 00000000 00000000 00000000 00000000\nl 00000003 00000001 00000000 00000000 00000000 00000000 00000000 00000000\ni 00000000 00000000 00000000 00000000 00000000 00000000 00000000 00000000\nmmu 00000000 00000000 00000000 00000000 00000000\ndev 00000000 00000000 00000000 00000000\nok\nstep 6 run\npc 00000018 npc 0000001C annul 0\npsr 00000082 wim 00000000 tbr 00000000 y 00000000\ng 00000000 00000000 00000000 00000000 00000000 00000000 00000000 00000000\no 00000000 00000000 00000000 00000000 00000000 00000000 00000000 00000000\nl 00000002 00000000 00000000 00000000 00000000 00000000 00000000 00000000\ni 00000004 00000000 00000000 00000000 00000000 00000000 00000000 00000000\nmmu 00000000 00000000 00000000 00000000 00000000\ndev 00000000 00000000 00000000 00000000\nok\n";
+
+/// WIM has a bit for each of three windows, and there is no window 3: WRPSR of it is an illegal instruction, and with ET = 0 the machine stops.
+const NO_WINDOW: &[u8] =
+    b"edit 1 0 3\nwr %g0, 0xff, %wim\nrd %wim, %g1\nwr %g0, 0x83, %psr\nregs 2\nregs 3\n";
+
+const NO_WINDOW_ANSWERS: &[u8] =
+    b"ok\nstep 2 run\npc 00000008 npc 0000000C annul 0\npsr 00000080 wim 00000007 tbr 00000000 y 00000000\ng 00000000 00000007 00000000 00000000 00000000 00000000 00000000 00000000\no 00000000 00000000 00000000 00000000 00000000 00000000 00000000 00000000\nl 00000000 00000000 00000000 00000000 00000000 00000000 00000000 00000000\ni 00000000 00000000 00000000 00000000 00000000 00000000 00000000 00000000\nmmu 00000000 00000000 00000000 00000000 00000000\ndev 00000000 00000000 00000000 00000000\nok\nstep 3 error\npc 00000008 npc 0000000C annul 0\npsr 00000080 wim 00000007 tbr 00000000 y 00000000\ng 00000000 00000007 00000000 00000000 00000000 00000000 00000000 00000000\no 00000000 00000000 00000000 00000000 00000000 00000000 00000000 00000000\nl 00000000 00000000 00000000 00000000 00000000 00000000 00000000 00000000\ni 00000000 00000000 00000000 00000000 00000000 00000000 00000000 00000000\nmmu 00000000 00000000 00000000 00000000 00000000\ndev 00000000 00000000 00000000 00000000\nok\n";
+
+#[test]
+fn three_windows(rt: HostRuntime) -> Result<(), Fail> {
+    let alloc = rt.alloc();
+    assert!(rt; answers_of::<3>(alloc, ROUND, ROUND_ANSWERS)?);
+    assert!(rt; answers_of::<3>(alloc, NO_WINDOW, NO_WINDOW_ANSWERS)?);
     Ok(())
 }

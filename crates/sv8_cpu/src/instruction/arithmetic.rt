@@ -71,7 +71,7 @@ fn finish_quotient<const NW: usize>(
 }
 
 /// An operation on the values of both sources.
-#[inline(always)]
+#[inline(never)]
 #[tactic(auto, unfolding(crate::specs::Arithmetic::operated))]
 fn operate<const NW: usize>(p: &mut Processor<NW>, op: ArithOp, cc: bool, rd: u8, x: u32, y: u32)
     requires { rd < 32 }
@@ -166,7 +166,7 @@ fn tagged_answer<const NW: usize>(
     }
 }
 
-#[inline(always)]
+#[inline(never)]
 pub fn tagged<const NW: usize>(
     p: &mut Processor<NW>,
     op: TaggedOp,
@@ -219,7 +219,7 @@ fn finish_step<const NW: usize>(p: &mut Processor<NW>, rd: u8, step: Step)
 }
 
 /// MULScc.
-#[inline(always)]
+#[inline(never)]
 #[tactic(auto, unfolding(crate::specs::Arithmetic::multiply_step))]
 pub fn multiply_step<const NW: usize>(p: &mut Processor<NW>, rd: u8, rs1: u8, operand: Operand)
     requires rd { rd < 32 }

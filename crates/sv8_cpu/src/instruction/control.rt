@@ -164,7 +164,7 @@ pub fn return_trap<const NW: usize>(p: &Processor<NW>, rs1: u8, operand: Operand
 }
 
 /// RETT, where it raises no trap.
-#[inline(always)]
+#[inline(never)]
 #[tactic(auto, using(crate::proofs::Choices::aligned_return))]
 pub fn go_back<const NW: usize>(p: &mut Processor<NW>, rs1: u8, operand: Operand)
     requires rs1 { rs1 < 32 }

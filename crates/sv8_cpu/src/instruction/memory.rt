@@ -8,7 +8,7 @@ ghost use Rattle.sv8_cpu.specs.Memory.{size_of, odd_register, takes_pair, memory
 ghost use Rattle.sv8_cpu.specs.Instruction.{alternate_traps};
 
 use super::word_of;
-use crate::access::Request;
+use crate::access::AccessRequest;
 use sv8_isa::MemoryOp;
 use sv8_phys::Size;
 use sv8_trap::{Processor, Trap};
@@ -120,7 +120,7 @@ pub fn access_of<const NW: usize>(
     asi: u8,
     rd: u8,
     at: u32,
-) -> Request
+) -> AccessRequest
     requires { rd < 32 }
     ensures { result ≡ access_of NW p.now op asi rd at }
 {
@@ -132,26 +132,26 @@ pub fn access_of<const NW: usize>(
         | MemoryOp::Ldsb
         | MemoryOp::Lduh
         | MemoryOp::Ldsh
-        | MemoryOp::Ldd => Request::Load { size, asi, at },
-        MemoryOp::St | MemoryOp::Stb | MemoryOp::Sth => Request::Store {
+        | MemoryOp::Ldd => AccessRequest::Load { size, asi, at },
+        MemoryOp::St | MemoryOp::Stb | MemoryOp::Sth => AccessRequest::Store {
             size,
             asi,
             at,
             value: word,
         },
-        MemoryOp::Std => Request::Store {
+        MemoryOp::Std => AccessRequest::Store {
             size,
             asi,
             at,
             value: pair(p, rd),
         },
-        MemoryOp::Ldstub => Request::Exchange {
+        MemoryOp::Ldstub => AccessRequest::Exchange {
             size,
             asi,
             at,
             value: 0xff,
         },
-        MemoryOp::Swap => Request::Exchange {
+        MemoryOp::Swap => AccessRequest::Exchange {
             size,
             asi,
             at,

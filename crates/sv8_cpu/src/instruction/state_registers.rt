@@ -52,7 +52,7 @@ fn state_word<const NW: usize>(registers: &Regs<NW>, register: StateRegister) ->
 }
 
 /// RDY, RDPSR, RDWIM, RDTBR.
-#[inline(always)]
+#[inline(never)]
 #[tactic(auto, unfolding(crate::specs::StateRegisters::state_read))]
 pub fn read_state<const NW: usize>(p: &mut Processor<NW>, register: StateRegister, rd: u8)
     requires { rd < 32 }
@@ -118,7 +118,7 @@ fn set_state<const NW: usize>(p: &mut Processor<NW>, register: StateRegister, wo
 }
 
 /// WRY, WRPSR, WRWIM, WRTBR, where they raise no trap.
-#[inline(always)]
+#[inline(never)]
 #[tactic(auto, using(crate::proofs::Choices::present_window), unfolding(crate::specs::StateRegisters::state_written))]
 pub fn write_state<const NW: usize>(
     p: &mut Processor<NW>,

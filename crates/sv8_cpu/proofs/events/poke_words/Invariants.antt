@@ -1,6 +1,6 @@
 use Rattle.std.proofs.Common.{◌≡◌, length}
 use Rattle.sv8_phys.specs.Memory.{ram_size}
-use Rattle.sv8_cpu.specs.Events.{words_poked, AreInside}
+use Rattle.sv8_cpu.specs.WordPokes.{words_poked, AreInside}
 use Rattle.sv8_cpu.proofs.events.poke_words.Given as goal
 
 abbrev pub invariant-loop-rest : goal.invariant-loop-rest

@@ -1,25 +1,23 @@
-use Rattle.std.proofs.Common.{ap}
-use Rattle.sv8_phys.specs.Contents.{arrived, outside_of}
+use Rattle.std.proofs.Common.{refl}
+use Rattle.sv8_model.proofs.Deeds.{does_done}
+use Rattle.sv8_phys.specs.Contents.{arrived}
 use Rattle.sv8_phys.specs.Memory.{ram_size}
 use Rattle.sv8_cpu.specs.Access.{loaded_from}
-use Rattle.sv8_cpu.proofs.Accesses.{made_at, refused_at, stand_on}
+use Rattle.sv8_cpu.proofs.Accesses.{made_as, stand_on}
 use Rattle.sv8_cpu.proofs.spaces.load_virtual.Goals as goal
 
-pub returns-in_err-response-in-At-clause-serves : goal.returns-in_err-response-in-At-clause-serves
-returns-in_err-response-in-At-clause-serves g c = stand_on _ _ _ _ _ _ c.load.ensures.kept c.load.ensures.pointer c.translate.ensures.stand
+pub returns-in-Failed-clause-ok : goal.returns-in-Failed-clause-ok
+returns-in-Failed-clause-ok g c =
+    made_as _ _ _ _ c.args.asi _ _ _ (λ u. loaded_from (ram_size g.row.PAGES) u c.args.size c.args.asi c.args.at) _ _ _ _ _ _ _ c.load_type.ensures.value c.reach_of.ensures
+    (c.in_ok-response.ensures.ok (arrived c.args.before c.args.timeline.now) (λ u. loaded_from (ram_size g.row.PAGES) u c.args.size c.args.asi c.args.at) _ _ _ (rw c.in-Failed.is (does_done _ _ _ _ _ refl)))
 
 pub returns-in_ok-response-in-At-clause-ok : goal.returns-in_ok-response-in-At-clause-ok
 returns-in_ok-response-in-At-clause-ok g c =
-    made_at _ _ _ _ _ c.args.asi _ c.load_type.result _ _ c.args.at (λ u. loaded_from (ram_size g.row.PAGES) u c.args.size c.args.asi c.args.at) _ _ _ c.in_ok-pa.field-0 _ _ _ (ap (λ m. record { mmu = c.args.physical.now.mmu; timer = m.timer }) c.translate.ensures.others) c.load_type.ensures.value c.reach_of.ensures (c.in_ok-pa.ensures.ok (arrived c.args.before c.args.timeline.now)) c.in-At.pa _ c.in-At.is
-    c.in_ok-response-in-At.ensures.ok
+    made_as _ _ _ _ c.args.asi _ _ _ (λ u. loaded_from (ram_size g.row.PAGES) u c.args.size c.args.asi c.args.at) _ _ _ _ _ _ _ c.load_type.ensures.value c.reach_of.ensures
+    (c.in_ok-response.ensures.ok (arrived c.args.before c.args.timeline.now) (λ u. loaded_from (ram_size g.row.PAGES) u c.args.size c.args.asi c.args.at) _ _ _ (rw c.in-At.is (c.in_ok-response-in-At.ensures.ok)))
+
+pub returns-in_err-response-in-At-clause-serves : goal.returns-in_err-response-in-At-clause-serves
+returns-in_err-response-in-At-clause-serves g c = stand_on _ _ _ _ _ _ c.load.ensures.kept c.load.ensures.pointer c.locate.ensures.serves
 
 pub returns-in_ok-response-in-At-clause-serves : goal.returns-in_ok-response-in-At-clause-serves
-returns-in_ok-response-in-At-clause-serves g c = stand_on _ _ _ _ _ _ c.load.ensures.kept c.load.ensures.pointer c.translate.ensures.stand
-
-pub returns-in-Refused-clause-ok : goal.returns-in-Refused-clause-ok
-returns-in-Refused-clause-ok g c =
-    refused_at _ _ _ _ _ c.args.asi _ c.load_type.result _ _ c.args.at (λ u. loaded_from (ram_size g.row.PAGES) u c.args.size c.args.asi c.args.at) _ _ _ c.in_ok-pa.field-0 _ _ _ (ap (λ m. record { mmu = c.args.physical.now.mmu; timer = m.timer }) c.translate.ensures.others) c.load_type.ensures.value c.reach_of.ensures (c.in_ok-pa.ensures.ok (arrived c.args.before c.args.timeline.now))
-    c.in-Refused.kind c.in-Refused.level c.in-Refused.is (ap (λ m. outside_of m (arrived c.args.before c.args.timeline.now)) c.refuse.ensures.memory) c.refuse.ensures.served
-
-pub returns-in-Refused-clause-serves : goal.returns-in-Refused-clause-serves
-returns-in-Refused-clause-serves g c = stand_on _ _ _ _ _ _ (ap (λ m. m.ram) c.refuse.ensures.memory) c.refuse.ensures.pointer c.translate.ensures.stand
+returns-in_ok-response-in-At-clause-serves g c = stand_on _ _ _ _ _ _ c.load.ensures.kept c.load.ensures.pointer c.locate.ensures.serves
