@@ -1,10 +1,11 @@
 //! What is read of a machine, and what its keeper does with its state.
 
-ghost use Rattle.std.specs.Prelude.{◌≡◌, ◌<◌, ◌≤◌, ◌%◌, ◌/◌, length, drop, IfOk, slice_set};
+ghost use Rattle.std.specs.Prelude.{◌≡◌, ◌<◌, ◌≤◌, ◌%◌, ◌/◌, length, drop, false, IfOk, slice_index_or, slice_set};
 ghost use Rattle.sv8_model.specs.Levels.{levels_word};
 ghost use Rattle.sv8_model.specs.Outside.{word_of};
 ghost use Rattle.sv8_time.specs.Schedule.{bytes_below};
 ghost use Rattle.sv8_phys.specs.Memory.{ram_size, page_of, with_page};
+ghost use Rattle.sv8_phys.specs.Contents.{AreContents};
 ghost use Rattle.sv8_cpu.specs.State.{waiting};
 
 use crate::machine::{Machine, Parts};
@@ -107,6 +108,31 @@ impl<const NW: usize, const PAGES: usize> Machine<NW, PAGES> {
         ensures { result ≡ word_of self.now.memory.ram (at / 4) }
     {
         self.parts.memory.phys().word(at)
+    }
+
+    /// The byte of RAM at a physical address.
+    pub fn byte(&self, at: u32) -> u8
+        requires { at < ram_size PAGES }
+        ensures { result ≡ slice_index_or self.now.memory.ram at 0 }
+    {
+        self.parts.memory.phys().byte(at)
+    }
+
+    /// The size of RAM in bytes. Its clauses also say what every machine's memory is: RAM has that size, its bytes are below 256,
+    /// and its levels are 1 to 15.
+    pub fn ram_size(&self) -> u64
+        ensures value { result ≡ ram_size PAGES }
+        ensures contents { AreContents PAGES self.now.memory }
+    {
+        self.parts.memory.phys().ram_size()
+    }
+
+    /// Whether an interrupt level is pending (section 7.3).
+    pub fn is_pending(&self, level: u32) -> bool
+        requires { level ≤ 15 }
+        ensures { result ≡ slice_index_or self.now.memory.pending level false }
+    {
+        self.parts.memory.phys().is_pending(level)
     }
 
     /// Makes an interrupt level pending, or no longer pending; nothing else changes.

@@ -1,6 +1,6 @@
 //! The pending interrupt levels.
 
-ghost use Rattle.std.specs.Prelude.{◌≡◌, ◌≤◌, true, false, replicate, slice_set};
+ghost use Rattle.std.specs.Prelude.{◌≡◌, ◌≤◌, true, false, replicate, slice_index_or, slice_set};
 ghost use Rattle.sv8_model.specs.Levels.{levels_word, asked, cleared};
 ghost use Rattle.sv8_phys.specs.Pending.{AreLevels};
 
@@ -48,6 +48,14 @@ impl Pending {
         ensures { result ≡ levels_word self.now }
     {
         u32::from(self.levels)
+    }
+
+    /// Whether a level is pending.
+    pub(crate) fn is_pending(&self, level: u32) -> bool
+        requires { level ≤ 15 }
+        ensures { result ≡ slice_index_or self.now level false }
+    {
+        (self.levels >> level) % 2 == 1
     }
 
     /// Makes a level pending.

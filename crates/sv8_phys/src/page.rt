@@ -1,6 +1,6 @@
 //! A page of RAM.
 
-ghost use Rattle.std.specs.Prelude.{◌≡◌, ◌<◌, ◌%◌, ◌/◌, ◌^◌, length, replicate, true, IfOk, OnOk, OnErr, MatchBool};
+ghost use Rattle.std.specs.Prelude.{◌≡◌, ◌<◌, ◌%◌, ◌/◌, ◌^◌, length, replicate, true, slice_index_or, slice_set, IfOk, OnOk, OnErr, MatchBool};
 ghost use Rattle.sv8_model.specs.Outside.{word_of, with_word};
 ghost use Rattle.sv8_phys.specs.Bytes.{are_bytes};
 ghost use Rattle.sv8_phys.specs.Memory.{bytes_in, value_at, with_value};
@@ -181,5 +181,34 @@ impl Page {
         let bytes = Rc::make_mut(&mut self.bytes)?;
         bytes.set_word(pa as usize % PAGE_SIZE, value);
         Ok(())
+    }
+
+    /// The byte at a physical address in the page.
+    pub fn byte(&self, pa: u32) -> u8
+        ensures { result ≡ slice_index_or self.now (pa % 4096) 0 }
+    {
+        let bytes = &*self.bytes;
+        bytes.bytes[pa as usize % PAGE_SIZE]
+    }
+
+    /// Writes the byte at a physical address in the page; a shared page is copied first.
+    ///
+    /// # Errors
+    ///
+    /// `AllocError` where memory for the copy cannot be had; the page is then as it was.
+    pub fn set_byte(&mut self, pa: u32, value: u8) -> Result<(), AllocError>
+        ensures ok { OnOk result (self.new ≡ slice_set self.old (pa % 4096) value) }
+        ensures err { OnErr result (self.new ≡ self.old) }
+    {
+        let at = pa as usize % PAGE_SIZE;
+        write_copying(&mut self.bytes, at, Size::Byte, u64::from(value))?;
+        Ok(())
+    }
+
+    /// Whether the page has the same bytes as another.
+    pub fn is_same(&self, other: &Page) -> bool
+        ensures { MatchBool result (self.now ≡ other.now) (self.now ≡ other.now → ⊥) }
+    {
+        self.bytes.bytes == other.bytes.bytes
     }
 }

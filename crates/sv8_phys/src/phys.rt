@@ -1,6 +1,6 @@
 //! Physical memory and the devices.
 
-ghost use Rattle.std.specs.Prelude.{◌≡◌, ℕ, ◌/◌, ◌%◌, ◌≤◌, ◌<◌, true, slice_set, nat_lt, IfOk, OnOk, OnErr};
+ghost use Rattle.std.specs.Prelude.{◌≡◌, ℕ, ◌/◌, ◌%◌, ◌≤◌, ◌<◌, true, false, slice_index_or, slice_set, nat_lt, IfOk, OnOk, OnErr};
 ghost use Rattle.sv8_model.specs.Outside.{word_of};
 ghost use Rattle.sv8_model.specs.Levels.{levels_word};
 ghost use Rattle.sv8_phys.specs.Memory.{ram_size, page_of, with_page};
@@ -101,6 +101,15 @@ impl<const PAGES: usize> Phys<PAGES> {
         self.ram.read(pa as usize, Size::Word) as u32
     }
 
+    /// The byte of RAM at an address.
+    #[tactic(auto, unfolding(crate::specs::Memory::value_at))]
+    pub fn byte(&self, pa: u32) -> u8
+        requires { pa < ram_size PAGES }
+        ensures { result ≡ slice_index_or self.now.ram pa 0 }
+    {
+        self.ram.read(pa as usize, Size::Byte) as u8
+    }
+
     /// Sets a byte of RAM from outside: no access of the processor, so nothing is noted.
     ///
     /// # Errors
@@ -131,6 +140,14 @@ impl<const PAGES: usize> Phys<PAGES> {
         ensures levels { AreLevels self.now.pending }
     {
         self.pending.word()
+    }
+
+    /// Whether an interrupt level is pending.
+    pub fn is_pending(&self, level: u32) -> bool
+        requires { level ≤ 15 }
+        ensures { result ≡ slice_index_or self.now.pending level false }
+    {
+        self.pending.is_pending(level)
     }
 
     /// Makes an interrupt level pending, or no longer pending; the other levels stay.

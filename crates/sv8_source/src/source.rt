@@ -74,6 +74,13 @@ impl Plan {
     {
         &self.words
     }
+
+    /// The source that the edit leads to.
+    pub fn source(&self) -> &Source
+        ensures { result.now ≡ self.now.to }
+    {
+        &self.source
+    }
 }
 
 /// Whether lines first to last may be replaced, of so many.

@@ -1,10 +1,11 @@
 -- The poked bytes of one word, among all.
-use Rattle.std.proofs.Common.{◌≡◌, ◌∙◌, refl, ap, subst, arith, ℕ, zero, suc, ◌+◌, ◌<◌, ◌≤◌, Bool, true, false, not, ◌&&◌, ◌||◌, ◌==◌, List, [], ◌∷◌, ◌++◌, length, set, Option, Some, None, is_some}
+use Rattle.std.proofs.Common.{◌≡◌, ◌∙◌, refl, ap, subst, arith, ℕ, zero, suc, ◌+◌, ◌<◌, ◌≤◌, Bool, true, false, not, ◌&&◌, ◌||◌, ◌==◌, List, [], ◌∷◌, ◌++◌, length, get_or, set, Option, Some, None, is_some, option_map}
 use Rattle.std.specs.List.{filter}
+use Rattle.std.specs.Prelude.{find}
 use Rattle.std.proofs.lemmas.Bool.Decides.{nat_tests}
 use Rattle.std.proofs.lemmas.List.Folds.{list_any-append}
 use Rattle.sv8_time.specs.Order.{Each, place_before, passes_at}
-use Rattle.sv8_time.specs.Schedule.{BytePoke, poke_of, poke_before, is_poke_at, has_poke, put_poke, cut_poke}
+use Rattle.sv8_time.specs.Schedule.{BytePoke, poke_of, poke_before, is_poke_at, has_poke, poked_at, put_poke, cut_poke}
 use Rattle.sv8_time.specs.Words.{poked_from, with_bytes, is_poked}
 use Rattle.sv8_time.proofs.Orders.{key_order}
 use Rattle.sv8_time.proofs.Parts.{each_map, each_passes, filter_all, filter_none, any_none}
@@ -129,6 +130,33 @@ has_whole step address n k bytes all w e m =
     ap (has_poke step n) w ∙ (list_any-append (is_poke_at step n) (filter (low step address) all) (poked_from step address bytes ++ filter (high step address) all)
     ∙ rw (any_none (is_poke_at step n) (filter (low step address) all) before, list_any-append (is_poke_at step n) (poked_from step address bytes) (filter (high step address) all), any_none (is_poke_at step n) (filter (high step address) all) after, or_false (has_poke step n (poked_from step address bytes)))
     (has_in step address n k bytes e))
+
+-- what byte k of a word is poked with
+find_skip : (p : BytePoke → Bool) (xs ys : List BytePoke) → Each (λ y. p y ≡ false) xs → find p (xs ++ ys) ≡ find p ys
+find_skip p [] ys h = refl
+find_skip p (x ∷ xs) ys h = rw h.0 (find_skip p xs ys h.1)
+
+find_absent : (p : BytePoke → Bool) (xs : List BytePoke) → Each (λ y. p y ≡ false) xs → find p xs ≡ None
+find_absent p [] h = refl
+find_absent p (x ∷ xs) h = rw h.0 (find_absent p xs h.1)
+
+value_in : (step address n k : ℕ) (bytes : List (Option ℕ)) (later : List BytePoke) → Each (λ y. is_poke_at step n y ≡ false) later → n ≡ address + k
+    → poked_at step n (poked_from step address bytes ++ later) ≡ get_or bytes k None
+value_in step address n k [] later h e = ap (option_map (λ (p : BytePoke). p.value)) (find_absent (is_poke_at step n) later h)
+value_in step address n zero (None ∷ bytes) later h e =
+    let f : n ≡ address = omega arith in
+    let p : poked_at step n (poked_from step (address + 1) bytes ++ later) ≡ poked_at step n later = rw f (ap (option_map (λ (p : BytePoke). p.value)) (find_skip (is_poke_at step address) (poked_from step (address + 1) bytes) later (rest_elsewhere step address bytes))) in
+    p ∙ ap (option_map (λ (p : BytePoke). p.value)) (find_absent (is_poke_at step n) later h)
+value_in step address n zero (Some v ∷ bytes) later h e = let f : n ≡ address = omega arith in rw (f, at_place step address) refl
+value_in step address n (suc k) (None ∷ bytes) later h e = value_in step (address + 1) n k bytes later h (omega arith)
+value_in step address n (suc k) (Some v ∷ bytes) later h e = rw (lt_other step address n (omega arith)) (value_in step (address + 1) n k bytes later h (omega arith))
+
+pub value_whole : (step address n k : ℕ) (bytes : List (Option ℕ)) (all : List BytePoke) → all ≡ with_bytes step address bytes all → n ≡ address + k → k < 4 → poked_at step n all ≡ get_or bytes k None
+value_whole step address n k bytes all w e m =
+    let before = each_map (λ y. low step address y ≡ true) (λ y. is_poke_at step n y ≡ false) (λ y h. not_true (is_poke_at step n y) (low_elsewhere y.step y.address step address n h (omega arith))) (filter (low step address) all) (each_passes (low step address) all) in
+    let after = each_map (λ y. high step address y ≡ true) (λ y. is_poke_at step n y ≡ false) (λ y h. not_true (is_poke_at step n y) (high_elsewhere y.step y.address step address n h (omega arith))) (filter (high step address) all) (each_passes (high step address) all) in
+    ap (poked_at step n) w ∙ (ap (option_map (λ (p : BytePoke). p.value)) (find_skip (is_poke_at step n) (filter (low step address) all) (poked_from step address bytes ++ filter (high step address) all) before)
+    ∙ value_in step address n k bytes (filter (high step address) all) after e)
 
 -- all four bytes of a word
 pub put_four : (step address a b c d : ℕ) (bytes : List (Option ℕ)) (all : List BytePoke) → length bytes ≡ 4 → all ≡ with_bytes step address bytes all

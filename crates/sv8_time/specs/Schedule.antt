@@ -52,6 +52,10 @@ pokes_of_step step pokes = of_major (λ p. p.step) step pokes
 abbrev pub poke_after : ℕ → ℕ → List BytePoke → Option ℕ
 poke_after address after pokes = option_map (λ p. p.step) (find (λ p. p.address == address && nat_lt after p.step) pokes)
 
+-- what a byte is poked with at a step, if it is
+abbrev pub poked_at : ℕ → ℕ → List BytePoke → Option ℕ
+poked_at step address pokes = option_map (λ p. p.value) (find (is_poke_at step address) pokes)
+
 -- the word of a byte, named by its address
 abbrev pub word_of : ℕ → ℕ
 word_of address = address / 4 * 4

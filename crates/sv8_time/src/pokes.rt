@@ -2,7 +2,7 @@
 
 ghost use Rattle.std.specs.Prelude.{◌≡◌, ℕ, ◌+◌, ◌*◌, ◌/◌, ◌%◌, ◌^◌, [], ◌∷◌, length, if◌then◌else◌, true, OnOk, OnErr, None, Some, is_some, List, map, find, option_map, ◌<◌, ◌≤◌};
 ghost use Rattle.sv8_time.specs.Order.{Each, Rising, passes_at};
-ghost use Rattle.sv8_time.specs.Schedule.{poke_of, has_poke, put_poke, cut_poke, pokes_of_step, word_of, has_word, word_count, IsNextPoke};
+ghost use Rattle.sv8_time.specs.Schedule.{poke_of, has_poke, poked_at, put_poke, cut_poke, pokes_of_step, word_of, has_word, word_count, IsNextPoke};
 ghost use Rattle.sv8_time.specs.Words.{is_poked, poked_bytes, bytes_of_words, word_before, with_bytes};
 
 use crate::ordered::{Ordered, put_both};
@@ -125,6 +125,14 @@ impl Pokes {
     {
         let word = self.word(step, address);
         is_poked_at(&word.bytes, offset_of(address))
+    }
+
+    /// What a byte is poked with at a step, if it is.
+    pub(crate) fn byte(&self, step: u32, address: u32) -> Option<u8>
+        ensures { result ≡ poked_at step address self.now }
+    {
+        let word = self.word(step, address);
+        word.bytes[offset_of(address)]
     }
 
     /// Puts a word's poked bytes in the place of those that stand at its step.

@@ -19,7 +19,8 @@ fn is_level(level: u32) -> bool
 }
 
 impl Timeline {
-    pub(crate) fn check_set_poke(&self, step: u32, address: u32) -> Result<(), TimeFault>
+    /// Whether a word can be poked at a step: the fault of `set_poke` that wants no memory, if there is one.
+    pub fn check_set_poke(&self, step: u32, address: u32) -> Result<(), TimeFault>
         ensures ok { OnOk result (set_poke_fault step address self.now ≡ None) }
         ensures err { IfErr result (λ e. set_poke_fault step address self.now ≡ Some e) }
     {
@@ -35,7 +36,8 @@ impl Timeline {
         Ok(())
     }
 
-    pub(crate) fn check_clear_poke(&self, step: u32, address: u32) -> Result<(), TimeFault>
+    /// Whether a word's pokes at a step can be cleared: the fault of `clear_poke`, if there is one.
+    pub fn check_clear_poke(&self, step: u32, address: u32) -> Result<(), TimeFault>
         ensures ok { OnOk result (clear_poke_fault step address self.now ≡ None) }
         ensures err { IfErr result (λ e. clear_poke_fault step address self.now ≡ Some e) }
     {
@@ -51,7 +53,8 @@ impl Timeline {
         Ok(())
     }
 
-    pub(crate) fn check_set_poke_byte(&self, step: u32, address: u32) -> Result<(), TimeFault>
+    /// Whether a byte can be poked at a step: the fault of `set_poke_byte` that wants no memory, if there is one.
+    pub fn check_set_poke_byte(&self, step: u32, address: u32) -> Result<(), TimeFault>
         ensures ok { OnOk result (set_poke_byte_fault step address self.now ≡ None) }
         ensures err { IfErr result (λ e. set_poke_byte_fault step address self.now ≡ Some e) }
     {
@@ -67,7 +70,8 @@ impl Timeline {
         Ok(())
     }
 
-    pub(crate) fn check_clear_poke_byte(&self, step: u32, address: u32) -> Result<(), TimeFault>
+    /// Whether a byte's poke at a step can be cleared: the fault of `clear_poke_byte`, if there is one.
+    pub fn check_clear_poke_byte(&self, step: u32, address: u32) -> Result<(), TimeFault>
         ensures ok { OnOk result (clear_poke_byte_fault step address self.now ≡ None) }
         ensures err { IfErr result (λ e. clear_poke_byte_fault step address self.now ≡ Some e) }
     {
@@ -83,7 +87,8 @@ impl Timeline {
         Ok(())
     }
 
-    pub(crate) fn check_set_input(&self, step: u32, bytes: &[u8]) -> Result<(), TimeFault>
+    /// Whether bytes can come in at a step: the fault of `set_input` that wants no memory, if there is one.
+    pub fn check_set_input(&self, step: u32, bytes: &[u8]) -> Result<(), TimeFault>
         ensures ok { OnOk result (set_input_fault step bytes.now self.now ≡ None) }
         ensures err { IfErr result (λ e. set_input_fault step bytes.now self.now ≡ Some e) }
     {
@@ -99,7 +104,8 @@ impl Timeline {
         Ok(())
     }
 
-    pub(crate) fn check_clear_input(&self, step: u32) -> Result<(), TimeFault>
+    /// Whether the bytes that come in at a step can be cleared: the fault of `clear_input`, if there is one.
+    pub fn check_clear_input(&self, step: u32) -> Result<(), TimeFault>
         ensures ok { OnOk result (clear_input_fault step self.now ≡ None) }
         ensures err { IfErr result (λ e. clear_input_fault step self.now ≡ Some e) }
     {
@@ -112,7 +118,8 @@ impl Timeline {
         Ok(())
     }
 
-    pub(crate) fn check_set_request(&self, step: u32, level: u32) -> Result<(), TimeFault>
+    /// Whether a level can be requested at a step: the fault of `set_request` that wants no memory, if there is one.
+    pub fn check_set_request(&self, step: u32, level: u32) -> Result<(), TimeFault>
         ensures ok { OnOk result (set_request_fault step level self.now ≡ None) }
         ensures err { IfErr result (λ e. set_request_fault step level self.now ≡ Some e) }
     {
@@ -128,7 +135,8 @@ impl Timeline {
         Ok(())
     }
 
-    pub(crate) fn check_clear_request(&self, step: u32, level: u32) -> Result<(), TimeFault>
+    /// Whether a level's request at a step can be cleared: the fault of `clear_request`, if there is one.
+    pub fn check_clear_request(&self, step: u32, level: u32) -> Result<(), TimeFault>
         ensures ok { OnOk result (clear_request_fault step level self.now ≡ None) }
         ensures err { IfErr result (λ e. clear_request_fault step level self.now ≡ Some e) }
     {

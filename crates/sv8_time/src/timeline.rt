@@ -1,7 +1,7 @@
 //! The timeline.
 
 ghost use Rattle.std.specs.Prelude.{◌≡◌, ◌<◌, ◌≤◌, [], length, None, Some, OnOk, OnErr, IfErr, IfSome, nat_le, slice_get};
-ghost use Rattle.sv8_time.specs.Schedule.{Schedule, with_poke, without_poke, with_poke_byte, without_poke_byte, with_input, without_input, with_request, without_request, set_poke_fault, clear_poke_fault, set_poke_byte_fault, clear_poke_byte_fault, set_input_fault, clear_input_fault, set_request_fault, clear_request_fault, pokes_of_step, bytes_of_step, requests_of_step, poke_after, request_after, bytes_below, input_bytes, has_poke, has_word, has_input, has_request, event_count, request_before, input_before, IsRefused, IsNextPoke, IsNextRequest, IsRequestPlace, IsTimeline};
+ghost use Rattle.sv8_time.specs.Schedule.{Schedule, with_poke, without_poke, with_poke_byte, without_poke_byte, with_input, without_input, with_request, without_request, set_poke_fault, clear_poke_fault, set_poke_byte_fault, clear_poke_byte_fault, set_input_fault, clear_input_fault, set_request_fault, clear_request_fault, pokes_of_step, bytes_of_step, requests_of_step, poke_after, request_after, bytes_below, input_bytes, has_poke, poked_at, has_word, has_input, has_request, event_count, request_before, input_before, IsRefused, IsNextPoke, IsNextRequest, IsRequestPlace, IsTimeline};
 ghost use Rattle.sv8_time.specs.Words.{bytes_of_words, word_before, IsWordIn};
 ghost use Rattle.sv8_time.specs.Order.{Each, Rising};
 
@@ -73,9 +73,10 @@ impl Timeline {
         }
     }
 
-    /// The size of RAM in bytes.
-    pub(crate) fn limit(&self) -> u32
-        ensures { result ≡ self.now.limit }
+    /// The size of RAM in bytes. `timeline` says what every timeline is.
+    pub fn limit(&self) -> u32
+        ensures value { result ≡ self.now.limit }
+        ensures timeline { IsTimeline self.now }
     {
         self.limit
     }
@@ -93,7 +94,8 @@ impl Timeline {
         self.pokes.has_word(step, address)
     }
 
-    pub(crate) fn has_byte(&self, step: u32, address: u32) -> bool
+    /// Whether a byte is poked at a step.
+    pub fn has_byte(&self, step: u32, address: u32) -> bool
         ensures { result ≡ has_poke step address self.now.pokes }
     {
         self.pokes.has_byte(step, address)
@@ -105,7 +107,8 @@ impl Timeline {
         self.inputs.has(step)
     }
 
-    pub(crate) fn has_request(&self, step: u32, level: u32) -> bool
+    /// Whether a level is requested at a step.
+    pub fn has_request(&self, step: u32, level: u32) -> bool
         ensures { result ≡ has_request step level self.now.requests }
     {
         self.requests.has(Request { step, level })
@@ -305,6 +308,13 @@ impl Timeline {
             bytes: self.inputs.at(step),
             requests: self.requests.at(step),
         }
+    }
+
+    /// What a byte is poked with at a step; `None` where it is not poked then. `address` is that of the byte.
+    pub fn poke_at(&self, step: u32, address: u32) -> Option<u8>
+        ensures { result ≡ poked_at step address self.now.pokes }
+    {
+        self.pokes.byte(step, address)
     }
 
     /// The least step above `after` at which a byte is poked, at most `LAST_STEP`. `address` is that of the byte.

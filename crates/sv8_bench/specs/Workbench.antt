@@ -1,0 +1,76 @@
+-- A workbench as its contracts see it: what it keeps, the recorded run, and the count of the steps that were made. What edits and queries make of it.
+use Rattle.std.specs.Prelude.{◌≡◌, ℕ, ◌-◌, ◌/◌, ◌≤◌, List, length, max}
+use Rattle.sv8_history.specs.Machine.{Run}
+use Rattle.sv8_history.specs.Changes.{Change}
+use Rattle.sv8_history.specs.Reads.{IsFirstRead}
+use Rattle.sv8_history.specs.Input.{IsFirstTake}
+use Rattle.sv8_history.specs.Trace.{IsTraceOf}
+use Rattle.sv8_history.specs.Laws.{IsRightCount}
+use Rattle.sv8_history.specs.Growing.{restored}
+use Rattle.sv8_cpu.specs.State.{reset_state}
+use Rattle.sv8_cpu.specs.Recorded.{machine, run_of, AreEvents, IsSound}
+use Rattle.sv8_trace.specs.Recorder.{counted_by, RaisedUpTo}
+use Rattle.sv8_trace.specs.Recording.{Recording, trace_of}
+use Rattle.sv8_bench.specs.Kept.{Kept, empty}
+
+pub record Workbench : Type 0 where
+  pub kept : Kept
+  pub recording : Recording
+  -- the number of steps that were made, in all queries so far; 2^64 - 1 where it is that or more
+  pub worked : ℕ
+
+-- how many checkpoints above that of step 0 are recorded
+abbrev pub checkpoints : Workbench → ℕ
+checkpoints w = length w.recording.intervals
+
+-- the run of what is kept
+abbrev pub run_of_kept : (k : Kept) → AreEvents k.pages k.timeline → Run (machine k.windows k.pages)
+run_of_kept k valid = run_of k.windows k.pages k.source k.timeline valid
+
+-- THE RECORDED RUN IS THAT OF THE SOURCE AND THE TIMELINE as they are now: each checkpoint is the state of its step, and each step has the notes of what
+-- it touches.
+pub record IsRun (k : ℕ) (w : Workbench) : Type 0 where
+  pub events : AreEvents w.kept.pages w.kept.timeline
+  pub sound : IsSound w.kept.pages (reset_state w.kept.windows w.kept.pages w.kept.source)
+  pub trace : IsTraceOf (machine w.kept.windows w.kept.pages) k (run_of_kept w.kept events) (trace_of w.kept.windows w.kept.pages k w.recording)
+
+-- a new workbench: nothing is recorded, and no step was made
+pub record IsNew (windows pages : ℕ) (w : Workbench) : Type 0 where
+  pub kept : w.kept ≡ empty windows pages
+  pub recorded : checkpoints w ≡ 0
+  pub worked : w.worked ≡ 0
+
+-- ---- edits
+
+-- An edit leads to what is now kept, and makes no step. Of the recorded run it leaves what is not above the first step that reads one of its changes.
+pub record IsEdited (k : ℕ) (next : Kept) (old new : Workbench) (changes : List (Change (machine old.kept.windows old.kept.pages))) : Type 0 where
+  pub kept : new.kept ≡ next
+  pub worked : new.worked ≡ old.worked
+  pub recorded : (valid : AreEvents old.kept.pages old.kept.timeline)
+      → IsRightCount k (checkpoints old) (checkpoints new) (IsFirstRead (machine old.kept.windows old.kept.pages) (run_of_kept old.kept valid) changes)
+
+-- .. where it is of the input from a step on, what is not above the first step that takes or counts the bytes that wait
+pub record IsRefed (k step : ℕ) (next : Kept) (old new : Workbench) : Type 0 where
+  pub kept : new.kept ≡ next
+  pub worked : new.worked ≡ old.worked
+  pub recorded : (valid : AreEvents old.kept.pages old.kept.timeline)
+      → IsRightCount k (checkpoints old) (checkpoints new) (IsFirstTake (machine old.kept.windows old.kept.pages) (run_of_kept old.kept valid) step)
+
+-- ---- queries
+
+-- how many steps a query of a step makes: those from the last recorded checkpoint that is not above it
+abbrev pub missing : ℕ → ℕ → Workbench → ℕ
+missing k step w = step - restored k (checkpoints w) step
+
+-- A query of a step was answered: the run is recorded up to the last checkpoint that is not above the step, if it was not.
+pub record IsAnswered (k step : ℕ) (old new : Workbench) : Type 0 where
+  pub kept : new.kept ≡ old.kept
+  pub recorded : checkpoints new ≡ max (checkpoints old) (step / k)
+  pub worked : new.worked ≡ counted_by (missing k step old) old.worked
+
+-- It was given up for want of memory, at any point.
+pub record IsGivenUp (k step : ℕ) (old new : Workbench) : Type 0 where
+  pub kept : new.kept ≡ old.kept
+  pub fewest : checkpoints old ≤ checkpoints new
+  pub most : checkpoints new ≤ max (checkpoints old) (step / k)
+  pub worked : RaisedUpTo (missing k step old) old.worked new.worked

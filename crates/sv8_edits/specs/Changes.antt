@@ -1,0 +1,80 @@
+-- What an edit changes of the recorded run: the cells that it sets otherwise, each from the step of the edit up to the next event that sets the cell
+-- anyway. An edit that sets what stands already changes nothing.
+use Rattle.std.specs.Prelude.{ℕ, ◌+◌, ◌-◌, ◌/◌, ◌%◌, ◌^◌, ◌==◌, Bool, true, false, List, [], ◌∷◌, ◌++◌, Option, Some, None, unwrap_or, slice_index_or, flat_map, if◌then◌else◌}
+use Rattle.std.specs.List.{range_with_len}
+use Rattle.sv8_model.specs.Cells.{ram_byte, pending_level, byte, held}
+use Rattle.sv8_history.specs.Changes.{Change, Image, Poke, Clear}
+use Rattle.sv8_time.specs.Schedule.{Schedule, poked_at, has_poke, has_request, poke_after, request_after}
+use Rattle.sv8_phys.specs.Memory.{ram_size}
+use Rattle.sv8_source.specs.Text.{Text}
+use Rattle.sv8_source.specs.Image.{image_bytes}
+use Rattle.sv8_cpu.specs.Recorded.{machine}
+
+-- in place of a step: there is no such event
+abbrev pub no_end : ℕ
+no_end = 2 ^ 32 - 1
+
+-- the next step above one that pokes a byte, or requests a level
+abbrev pub next_poke : ℕ → ℕ → Schedule → ℕ
+next_poke address after s = unwrap_or (poke_after address after s.pokes) no_end
+
+abbrev pub next_request : ℕ → ℕ → Schedule → ℕ
+next_request level after s = unwrap_or (request_after level after s.requests) no_end
+
+-- the first step that pokes a byte
+abbrev pub first_poke : ℕ → Schedule → ℕ
+first_poke address s = if has_poke 0 address s.pokes then 0 else next_poke address 0 s
+
+-- what a byte is poked with at a step, if it is
+abbrev pub poked_with : ℕ → ℕ → Schedule → Option ℕ
+poked_with step address s = poked_at step address s.pokes
+
+abbrev pub stands : Option ℕ → ℕ → Bool
+stands None value = false
+stands (Some other) value = other == value
+
+module _ (windows pages : ℕ) where
+  -- a byte is poked with a value
+  abbrev pub poke_byte_changes : ℕ → ℕ → ℕ → Schedule → List (Change (machine windows pages))
+  poke_byte_changes step address value s =
+      if stands (poked_with step address s) value then []
+      else (record { cell = ram_byte address; from = step; to = next_poke address step s; cause = Poke (byte value) } ∷ [])
+
+  -- the poke of a byte is cleared
+  abbrev pub clear_byte_changes : ℕ → ℕ → Schedule → List (Change (machine windows pages))
+  clear_byte_changes step address s =
+      if has_poke step address s.pokes then (record { cell = ram_byte address; from = step; to = next_poke address step s; cause = Clear } ∷ [])
+      else []
+
+  -- a word is poked, or its pokes are cleared: the same for its four bytes
+  abbrev pub poke_changes : ℕ → ℕ → ℕ → Schedule → List (Change (machine windows pages))
+  poke_changes step address value s =
+      poke_byte_changes step address (value / 2 ^ 24 % 2 ^ 8) s ++ poke_byte_changes step (address + 1) (value / 2 ^ 16 % 2 ^ 8) s
+      ++ poke_byte_changes step (address + 2) (value / 2 ^ 8 % 2 ^ 8) s ++ poke_byte_changes step (address + 3) (value % 2 ^ 8) s
+
+  abbrev pub clear_changes : ℕ → ℕ → Schedule → List (Change (machine windows pages))
+  clear_changes step address s =
+      clear_byte_changes step address s ++ clear_byte_changes step (address + 1) s ++ clear_byte_changes step (address + 2) s
+      ++ clear_byte_changes step (address + 3) s
+
+  -- a level is requested, or its request cleared
+  abbrev pub request_changes : ℕ → ℕ → Schedule → List (Change (machine windows pages))
+  request_changes step level s =
+      if has_request step level s.requests then []
+      else (record { cell = pending_level level; from = step; to = next_request level step s; cause = Poke (held true) } ∷ [])
+
+  abbrev pub clear_request_changes : ℕ → ℕ → Schedule → List (Change (machine windows pages))
+  clear_request_changes step level s =
+      if has_request step level s.requests then (record { cell = pending_level level; from = step; to = next_request level step s; cause = Clear } ∷ [])
+      else []
+
+  -- the source is edited: every byte of RAM that has another value after reset
+  abbrev pub image_byte_changes : ℕ → ℕ → ℕ → Schedule → List (Change (machine windows pages))
+  image_byte_changes address old new s =
+      if old == new then [] else (record { cell = ram_byte address; from = 0; to = first_poke address s; cause = Image (byte new) } ∷ [])
+
+  abbrev pub image_changes : Text → Text → Schedule → List (Change (machine windows pages))
+  image_changes old new s =
+      flat_map
+      (λ a. image_byte_changes a (slice_index_or (image_bytes old (ram_size pages)) a 0) (slice_index_or (image_bytes new (ram_size pages)) a 0) s)
+      (range_with_len 0 (ram_size pages))

@@ -1,0 +1,7 @@
+//! Edits of a source and of a timeline, as edits of the run that they make.
+//!
+//! `specs/Changes` says what each edit changes of the recorded run, cell by cell. The laws say that these changes are those of the
+//! edit: the functions of `laws` state them and do nothing.
+#![tactic(auto)]
+
+pub mod laws;

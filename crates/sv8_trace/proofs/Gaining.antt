@@ -1,0 +1,240 @@
+-- Notes of more touches.
+use Rattle.std.proofs.lemmas.List.{take_more}
+use Rattle.std.proofs.Common.{take, length, get_or, ◌+◌, ◌≡◌, ℕ, ◌≤◌, ◌<◌, suc, List, [], ◌∷◌, ◌++◌, ◌==◌, Bool, true, false, not, if◌then◌else◌, ◌&&◌, ◌||◌, refl, sym, ◌∙◌, ap, ap₂, eqb-true, eq-eqb}
+use Rattle.std.specs.List.{list_any}
+use Rattle.sv8_model.specs.declared.touch.Touch.{Touch}
+use Rattle.sv8_model.specs.declared.touch.Touch.TheVariants.{Read, Write, Input, Levels, Expiry}
+use Rattle.sv8_model.specs.Outside.{word_address}
+use Rattle.sv8_model.specs.Words.{bit}
+use Rattle.sv8_model.specs.Levels.{timer_level}
+use Rattle.sv8_model.specs.Footprint.{is_read_of, is_write_of, is_input, asks, is_expiry, reads_input}
+use Rattle.sv8_model.specs.Cells.{Cell, ram_byte, waiting_bytes, pending_level, is_read}
+use Rattle.sv8_trace.specs.declared.notes.WordNote.{WordNote}
+use Rattle.sv8_trace.specs.Touched.{is_told_written}
+use Rattle.sv8_trace.specs.Steps.{Steps, Gains, is_word_of, is_asked_in, is_among, reads_in, writes_in}
+
+flip : (p q : Bool) → (p ≡ true → q ≡ true) → (q ≡ true → p ≡ true) → p ≡ q
+flip true q f g = sym (f refl)
+flip false true f g = g refl
+flip false false f g = refl
+
+pub swap : (a b : ℕ) → (a == b) ≡ (b == a)
+swap a b = flip (a == b) (b == a) (λ e. eq-eqb b a (sym (eqb-true a b e))) (λ e. eq-eqb a b (sym (eqb-true b a e)))
+
+pub any_append : {X : Type 0} (f : X → Bool) (xs ys : List X) → list_any f (xs ++ ys) ≡ (list_any f xs || list_any f ys)
+any_append f [] ys = refl
+any_append f (x ∷ xs) ys = ap (λ b. f x || b) (any_append f xs ys) ∙ groups (f x) (list_any f xs) (list_any f ys)
+  where
+    groups : (a b c : Bool) → (a || (b || c)) ≡ ((a || b) || c)
+    groups true b c = refl
+    groups false b c = refl
+
+-- one element more
+pub any_one : {X : Type 0} (f : X → Bool) (xs : List X) (x : X) → list_any f (xs ++ x ∷ []) ≡ (list_any f xs || f x)
+any_one f xs x = any_append f xs (x ∷ []) ∙ ap (λ b. list_any f xs || b) (last (f x))
+  where
+    last : (b : Bool) → (b || false) ≡ b
+    last true = refl
+    last false = refl
+
+-- ---- no gain
+
+none : (x o : Bool) → x ≡ (x || (o && false))
+none true o = refl
+none false true = refl
+none false false = refl
+
+pub gains_nothing : (offset : ℕ) (s : Steps) → Gains offset [] s s
+gains_nothing offset s = record {
+  reads = λ c j. reads c j;
+  writes = λ c j. writes c j;
+  takes = λ j. none (is_among j s.inputs) (j == offset);
+}
+  where
+    reads : (c : Cell) (j : ℕ) → reads_in s c j ≡ (reads_in s c j || (j == offset && is_read [] c))
+    reads (ram_byte i) j = none _ (j == offset)
+    reads waiting_bytes j = none _ (j == offset)
+    reads (pending_level l) j = none _ (j == offset)
+
+    writes : (c : Cell) (j : ℕ) → writes_in s c j ≡ (writes_in s c j || (j == offset && is_told_written [] c))
+    writes (ram_byte i) j = none _ (j == offset)
+    writes waiting_bytes j = none _ (j == offset)
+    writes (pending_level l) j = level (l == timer_level) (is_among j s.expiries) (j == offset)
+      where
+        level : (t x o : Bool) → (t && x) ≡ ((t && x) || (o && (t && false)))
+        level true x o = none x o
+        level false x true = refl
+        level false x false = refl
+
+-- ---- one touch
+
+module _ (offset : ℕ) (s : Steps) where
+  -- a word that is read gives nothing that was written, and the other way round
+  abbrev word : (is_write : Bool) (a : ℕ) → WordNote
+  word is_write a = record { address = a; offset = offset; is_write = is_write }
+
+  seen : (is_write kind : Bool) (a w j : ℕ) → is_word_of kind w j (word is_write a) ≡ (j == offset && ((a == w) && (if is_write then kind else not kind)))
+  seen is_write kind a w j = ap (λ o. (a == w && o) && (if is_write then kind else not kind)) (swap offset j) ∙ order (a == w) (j == offset) (if is_write then kind else not kind)
+    where
+      order : (x o k : Bool) → ((x && o) && k) ≡ (o && (x && k))
+      order true true k = refl
+      order true false k = refl
+      order false true k = refl
+      order false false k = refl
+
+  pub gains_read : (a : ℕ) → Gains offset (Read a ∷ []) s (record s { words = s.words ++ record { address = a; offset = offset; is_write = false } ∷ [] })
+  gains_read a = record {
+    reads = λ c j. reads c j;
+    writes = λ c j. writes c j;
+    takes = λ j. none (is_among j s.inputs) (j == offset);
+  }
+    where
+      same : (b : Bool) → (b && true) ≡ (b || false)
+      same true = refl
+      same false = refl
+
+      no : (b : Bool) → (b && false) ≡ false
+      no true = refl
+      no false = refl
+
+      reads : (c : Cell) (j : ℕ) → reads_in (record s { words = s.words ++ record { address = a; offset = offset; is_write = false } ∷ [] }) c j ≡ (reads_in s c j || (j == offset && is_read (Read a ∷ []) c))
+      reads (ram_byte i) j =
+          any_one (is_word_of false (word_address i) j) s.words (word false a)
+          ∙ ap (λ b. list_any (is_word_of false (word_address i) j) s.words || b) (seen false false a (word_address i) j ∙ ap (λ b. j == offset && b) (same (a == word_address i)))
+      reads waiting_bytes j = none _ (j == offset)
+      reads (pending_level l) j = none _ (j == offset)
+
+      writes : (c : Cell) (j : ℕ) → writes_in (record s { words = s.words ++ record { address = a; offset = offset; is_write = false } ∷ [] }) c j ≡ (writes_in s c j || (j == offset && is_told_written (Read a ∷ []) c))
+      writes (ram_byte i) j =
+          any_one (is_word_of true (word_address i) j) s.words (word false a)
+          ∙ ap (λ b. list_any (is_word_of true (word_address i) j) s.words || b) (seen false true a (word_address i) j ∙ ap (λ b. j == offset && b) (no (a == word_address i)))
+      writes waiting_bytes j = none _ (j == offset)
+      writes (pending_level l) j = (gains_nothing offset s).writes (pending_level l) j
+
+  pub gains_write : (a : ℕ) → Gains offset (Write a ∷ []) s (record s { words = s.words ++ record { address = a; offset = offset; is_write = true } ∷ [] })
+  gains_write a = record {
+    reads = λ c j. reads c j;
+    writes = λ c j. writes c j;
+    takes = λ j. none (is_among j s.inputs) (j == offset);
+  }
+    where
+      same : (b : Bool) → (b && true) ≡ (b || false)
+      same true = refl
+      same false = refl
+
+      no : (b : Bool) → (b && false) ≡ false
+      no true = refl
+      no false = refl
+
+      reads : (c : Cell) (j : ℕ) → reads_in (record s { words = s.words ++ record { address = a; offset = offset; is_write = true } ∷ [] }) c j ≡ (reads_in s c j || (j == offset && is_read (Write a ∷ []) c))
+      reads (ram_byte i) j =
+          any_one (is_word_of false (word_address i) j) s.words (word true a)
+          ∙ ap (λ b. list_any (is_word_of false (word_address i) j) s.words || b) (seen true false a (word_address i) j ∙ ap (λ b. j == offset && b) (no (a == word_address i)))
+      reads waiting_bytes j = none _ (j == offset)
+      reads (pending_level l) j = none _ (j == offset)
+
+      writes : (c : Cell) (j : ℕ) → writes_in (record s { words = s.words ++ record { address = a; offset = offset; is_write = true } ∷ [] }) c j ≡ (writes_in s c j || (j == offset && is_told_written (Write a ∷ []) c))
+      writes (ram_byte i) j =
+          any_one (is_word_of true (word_address i) j) s.words (word true a)
+          ∙ ap (λ b. list_any (is_word_of true (word_address i) j) s.words || b) (seen true true a (word_address i) j ∙ ap (λ b. j == offset && b) (same (a == word_address i)))
+      writes waiting_bytes j = none _ (j == offset)
+      writes (pending_level l) j = (gains_nothing offset s).writes (pending_level l) j
+
+  among : (xs : List ℕ) (j : ℕ) → is_among j (xs ++ offset ∷ []) ≡ (is_among j xs || (j == offset && true))
+  among xs j = any_one (λ o. o == j) xs offset ∙ ap (λ b. is_among j xs || b) (swap offset j ∙ yes (j == offset))
+    where
+      yes : (b : Bool) → b ≡ (b && true)
+      yes true = refl
+      yes false = refl
+
+  pub gains_input : Gains offset (Input ∷ []) s (record s { inputs = s.inputs ++ offset ∷ [] })
+  gains_input = record {
+    reads = λ c j. reads c j;
+    writes = λ c j. writes c j;
+    takes = λ j. among s.inputs j;
+  }
+    where
+      reads : (c : Cell) (j : ℕ) → reads_in (record s { inputs = s.inputs ++ offset ∷ [] }) c j ≡ (reads_in s c j || (j == offset && is_read (Input ∷ []) c))
+      reads (ram_byte i) j = none _ (j == offset)
+      reads waiting_bytes j = among s.inputs j
+      reads (pending_level l) j = none _ (j == offset)
+
+      writes : (c : Cell) (j : ℕ) → writes_in s c j ≡ (writes_in s c j || (j == offset && is_told_written (Input ∷ []) c))
+      writes (ram_byte i) j = none _ (j == offset)
+      writes waiting_bytes j = none _ (j == offset)
+      writes (pending_level l) j = (gains_nothing offset s).writes (pending_level l) j
+
+  pub gains_expiry : Gains offset (Expiry ∷ []) s (record s { expiries = s.expiries ++ offset ∷ [] })
+  gains_expiry = record {
+    reads = λ c j. reads c j;
+    writes = λ c j. writes c j;
+    takes = λ j. none (is_among j s.inputs) (j == offset);
+  }
+    where
+      reads : (c : Cell) (j : ℕ) → reads_in s c j ≡ (reads_in s c j || (j == offset && is_read (Expiry ∷ []) c))
+      reads (ram_byte i) j = none _ (j == offset)
+      reads waiting_bytes j = none _ (j == offset)
+      reads (pending_level l) j = none _ (j == offset)
+
+      writes : (c : Cell) (j : ℕ) → writes_in (record s { expiries = s.expiries ++ offset ∷ [] }) c j ≡ (writes_in s c j || (j == offset && is_told_written (Expiry ∷ []) c))
+      writes (ram_byte i) j = none _ (j == offset)
+      writes waiting_bytes j = none _ (j == offset)
+      writes (pending_level l) j = ap (λ b. l == timer_level && b) (among s.expiries j) ∙ level (l == timer_level) (is_among j s.expiries) (j == offset)
+        where
+          level : (t x o : Bool) → (t && (x || (o && true))) ≡ ((t && x) || (o && (t && true)))
+          level true x o = refl
+          level false x true = refl
+          level false x false = refl
+
+  pub gains_levels : (levels : ℕ) (new : Steps) → new ≡ record s { levels = new.levels }
+      → ((l j : ℕ) → list_any (is_asked_in l j) new.levels ≡ (list_any (is_asked_in l j) s.levels || (j == offset && bit levels l))) → Gains offset (Levels levels ∷ []) s new
+  gains_levels levels new rest asked = record {
+    reads = λ c j. ap (λ n. reads_in n c j) rest ∙ reads c j;
+    writes = λ c j. ap (λ n. writes_in n c j) rest ∙ writes c j;
+    takes = λ j. ap (λ (n : Steps). is_among j n.inputs) rest ∙ none (is_among j s.inputs) (j == offset);
+  }
+    where
+      last : (b : Bool) → b ≡ (b || false)
+      last true = refl
+      last false = refl
+
+      reads : (c : Cell) (j : ℕ) → reads_in (record s { levels = new.levels }) c j ≡ (reads_in s c j || (j == offset && is_read (Levels levels ∷ []) c))
+      reads (ram_byte i) j = none _ (j == offset)
+      reads waiting_bytes j = none _ (j == offset)
+      reads (pending_level l) j = asked l j ∙ ap (λ b. list_any (is_asked_in l j) s.levels || (j == offset && b)) (last (bit levels l))
+
+      writes : (c : Cell) (j : ℕ) → writes_in s c j ≡ (writes_in s c j || (j == offset && is_told_written (Levels levels ∷ []) c))
+      writes (ram_byte i) j = none _ (j == offset)
+      writes waiting_bytes j = none _ (j == offset)
+      writes (pending_level l) j = (gains_nothing offset s).writes (pending_level l) j
+
+-- ---- one touch after another
+
+gathered : (x o a b : Bool) → ((x || (o && a)) || (o && b)) ≡ (x || (o && (a || b)))
+gathered true o a b = refl
+gathered false true a b = refl
+gathered false false a b = refl
+
+read_append : (ts us : List Touch) (c : Cell) → is_read (ts ++ us) c ≡ (is_read ts c || is_read us c)
+read_append ts us (ram_byte i) = any_append (is_read_of (word_address i)) ts us
+read_append ts us waiting_bytes = any_append is_input ts us
+read_append ts us (pending_level l) = any_append (asks l) ts us
+
+written_append : (ts us : List Touch) (c : Cell) → is_told_written (ts ++ us) c ≡ (is_told_written ts c || is_told_written us c)
+written_append ts us (ram_byte i) = any_append (is_write_of (word_address i)) ts us
+written_append ts us waiting_bytes = refl
+written_append ts us (pending_level l) = ap (λ b. l == timer_level && b) (any_append is_expiry ts us) ∙ over (l == timer_level) (list_any is_expiry ts) (list_any is_expiry us)
+  where
+    over : (t a b : Bool) → (t && (a || b)) ≡ ((t && a) || (t && b))
+    over true a b = refl
+    over false a b = refl
+
+pub gains_then : (offset : ℕ) (ts us : List Touch) (r s t : Steps) → Gains offset ts r s → Gains offset us s t → Gains offset (ts ++ us) r t
+gains_then offset ts us r s t p q = record {
+  reads = λ c j. q.reads c j ∙ ap (λ b. b || (j == offset && is_read us c)) (p.reads c j) ∙ gathered (reads_in r c j) (j == offset) (is_read ts c) (is_read us c) ∙ ap (λ b. reads_in r c j || (j == offset && b)) (sym (read_append ts us c));
+  writes = λ c j. q.writes c j ∙ ap (λ b. b || (j == offset && is_told_written us c)) (p.writes c j) ∙ gathered (writes_in r c j) (j == offset) (is_told_written ts c) (is_told_written us c) ∙ ap (λ b. writes_in r c j || (j == offset && b)) (sym (written_append ts us c));
+  takes = λ j. q.takes j ∙ ap (λ b. b || (j == offset && reads_input us)) (p.takes j) ∙ gathered (is_among j r.inputs) (j == offset) (reads_input ts) (reads_input us) ∙ ap (λ b. is_among j r.inputs || (j == offset && b)) (sym (any_append is_input ts us));
+}
+
+pub gains_taken : (offset : ℕ) (ts : List Touch) (i : ℕ) (d : Touch) (r s t : Steps) → i < length ts → Gains offset (take i ts) r s → Gains offset (get_or ts i d ∷ []) s t → Gains offset (take (i + 1) ts) r t
+gains_taken offset ts i d r s t h p q = rw (take_more ts i d h) (gains_then offset (take i ts) (get_or ts i d ∷ []) r s t p q)

@@ -1,0 +1,15 @@
+pub mod KeptLists
+pub mod Touching
+pub mod Gaining
+pub mod Firsts
+pub mod Nearness
+pub mod Placed
+pub mod Below
+pub mod Recorded
+pub mod Searching
+pub mod Extending
+pub mod Growing
+pub mod Spreading
+pub mod Preparing
+pub mod Committing
+pub mod Editing

@@ -1,0 +1,34 @@
+use Rattle.std.proofs.Common.{◌≡◌, ◌≤◌, ◌+◌, ◌∙◌, ap, ap₂, refl, sym, arith, add-one, subst, suc, zero, ℕ}
+use Rattle.sv8_time.specs.Schedule.{bytes_below}
+use Rattle.sv8_cpu.specs.Work.{counted}
+use Rattle.sv8_cpu.specs.Run.{step}
+use Rattle.sv8_trace.specs.Recorder.{counted_by, steps_on, IsRecorded, RaisedUpTo}
+use Rattle.sv8_trace.proofs.Recorded.{recorded_none, recorded_more, kept_free, up_to_one, one_more}
+use Rattle.sv8_trace.proofs.recorder.record.Goals as goal
+
+pub loop-offset-init : goal.loop-offset-init
+loop-offset-init g c =
+    record {
+      state = refl;
+      delivered = subst (λ x. c.args.machine.memory.taken ≤ bytes_below x c.args.timeline.now.inputs) (omega arith) c.requires.delivered;
+      recorded = rw (c.new.ensures, c.new-2.ensures) (recorded_none g.row.NW g.row.PAGES c.args.timeline.now c.args.n c.args.machine);
+      counted = refl;
+    }
+
+pub returns-in_err-machine-clause-raised : goal.returns-in_err-machine-clause-raised
+returns-in_err-machine-clause-raised g c =
+    up_to_one c.loop-offset.offset c.args.count c.args.work.now c.loop-offset.work c.record_step.new.work c.loop-offset-test.true c.loop-offset.invariant.counted c.in_err-machine.ensures.uncounted
+
+pub loop-offset-preserved : goal.loop-offset-preserved
+loop-offset-preserved g c =
+    let inv = c.loop-offset.invariant in
+    let both = one_more g.row.NW g.row.PAGES c.args.timeline.now c.args.n c.args.machine c.loop-offset.machine c.in_ok-machine.machine c.loop-offset.offset c.loop-offset.interval c.record_step.new.interval inv.state c.in_ok-machine.ensures.state inv.recorded c.in_ok-machine.ensures.gained c.in_ok-machine.ensures.kept in
+    record {
+      state = both.0;
+      delivered = subst (λ x. c.in_ok-machine.machine.memory.taken ≤ bytes_below x c.args.timeline.now.inputs) (omega arith) c.in_ok-machine.ensures.delivered;
+      recorded = both.1;
+      counted = rw add-one (c.in_ok-machine.ensures.counted ∙ ap counted inv.counted);
+    }
+
+pub returns-clause-raised : goal.returns-clause-raised
+returns-clause-raised g c = (c.loop-offset.offset, omega (arith, c.loop-offset.auto.offset-end), c.loop-offset.invariant.counted)

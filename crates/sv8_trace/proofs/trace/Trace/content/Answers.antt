@@ -1,0 +1,75 @@
+use Rattle.std.proofs.Common.{◌≡◌, ◌+◌, ◌/◌, ◌<◌, ◌≤◌, Some, None, length, get_or, ap, ap₂, sym, ◌∙◌, arith}
+use Rattle.std.proofs.lemmas.List.{get_or_default}
+use Rattle.sv8_model.specs.Cells.{ram_byte, byte, pending_level, held}
+use Rattle.sv8_cpu.specs.Recorded.{get}
+use Rattle.sv8_trace.specs.Cells.{cell_of}
+use Rattle.sv8_trace.specs.Recording.{Recording, blank}
+use Rattle.sv8_trace.specs.Prepared.{placed}
+use Rattle.sv8_trace.proofs.Preparing.{contents_at, slot_is, byte_at, level_at}
+use Rattle.sv8_trace.proofs.trace.Trace.content.Goals as goal
+
+pub returns-in-Some : goal.returns-in-Some
+returns-in-Some g c =
+    let inv = c.self.invariant in
+    let fits = c.requires.fits in
+    let points = ap (λ (r : Recording). r.points) c.self.view_is in
+    let count = ap (λ (r : Recording). length r.intervals) c.self.view_is in
+    let there : c.args.index < length c.self.inside.points.items = omega (arith, count, inv.5, fits.count, c.requires.index) in
+    let contents = contents_at g.row.PAGES c.args.index c.self.inside.points.items c.args.self.now inv.7 points there in
+    let cell = c.requires.cell in
+    let inside = rw c.in-Byte.is at cell in
+    let place : c.in-Byte.address / 4096 < length c.args.staged.now.pages.items = omega (arith, fits.pages_count, inside) in
+    let slot = slot_is c.args.staged.now.pages.items (c.in-Byte.address / 4096) c.index.result.now (Some c.in-Some.column) place c.index.ensures c.in-Some.is in
+    ap byte c.byte.ensures
+    ∙ sym (byte_at g.row.PAGES c.args.index c.args.self.now c.args.staged.now fits c.requires.index (get_or c.args.self.now.points c.args.index blank) contents c.in-Byte.address (Some c.in-Some.column) slot)
+    ∙ ap (λ x. get (cell_of x) (placed c.args.staged.now c.args.index (get_or c.args.self.now.points c.args.index blank))) (sym c.in-Byte.is)
+
+pub returns-in-None : goal.returns-in-None
+returns-in-None g c =
+    let inv = c.self.invariant in
+    let fits = c.requires.fits in
+    let points = ap (λ (r : Recording). r.points) c.self.view_is in
+    let count = ap (λ (r : Recording). length r.intervals) c.self.view_is in
+    let there : c.args.index < length c.self.inside.points.items = omega (arith, count, inv.5, fits.count, c.requires.index) in
+    let contents = contents_at g.row.PAGES c.args.index c.self.inside.points.items c.args.self.now inv.7 points there in
+    let cell = c.requires.cell in
+    let inside = rw c.in-Byte.is at cell in
+    let place : c.in-Byte.address / 4096 < length c.args.staged.now.pages.items = omega (arith, fits.pages_count, inside) in
+    let slot = slot_is c.args.staged.now.pages.items (c.in-Byte.address / 4096) c.index.result.now None place c.index.ensures c.in-None.is in
+    let point = c.index-point.ensures ∙ get_or_default c.self.inside.points.items c.args.index _ blank there ∙ ap (λ ps. get_or ps c.args.index blank) points in
+    c.content.ensures ∙ ap (get (ram_byte c.in-Byte.address)) point
+    ∙ sym (byte_at g.row.PAGES c.args.index c.args.self.now c.args.staged.now fits c.requires.index (get_or c.args.self.now.points c.args.index blank) contents c.in-Byte.address None slot)
+    ∙ ap (λ x. get (cell_of x) (placed c.args.staged.now c.args.index (get_or c.args.self.now.points c.args.index blank))) (sym c.in-Byte.is)
+
+pub returns-in-Some-index : goal.returns-in-Some-index
+returns-in-Some-index g c =
+    let inv = c.self.invariant in
+    let fits = c.requires.fits in
+    let points = ap (λ (r : Recording). r.points) c.self.view_is in
+    let count = ap (λ (r : Recording). length r.intervals) c.self.view_is in
+    let there : c.args.index < length c.self.inside.points.items = omega (arith, count, inv.5, fits.count, c.requires.index) in
+    let contents = contents_at g.row.PAGES c.args.index c.self.inside.points.items c.args.self.now inv.7 points there in
+    let cell = c.requires.cell in
+    let bounds = rw c.in-Level.is at cell in
+    let place : c.in-Level.level < length c.args.staged.now.levels.items = omega (arith, fits.levels_count, bounds.1) in
+    let slot = slot_is c.args.staged.now.levels.items c.in-Level.level c.index-in-Level.result.now (Some c.in-Some-index.column) place c.index-in-Level.ensures c.in-Some-index.is in
+    ap held c.is_pending.ensures
+    ∙ sym (level_at g.row.PAGES c.args.index c.args.self.now c.args.staged.now fits c.requires.index (get_or c.args.self.now.points c.args.index blank) contents c.in-Level.level (Some c.in-Some-index.column) bounds.1 slot)
+    ∙ ap (λ x. get (cell_of x) (placed c.args.staged.now c.args.index (get_or c.args.self.now.points c.args.index blank))) (sym c.in-Level.is)
+
+pub returns-in-None-index : goal.returns-in-None-index
+returns-in-None-index g c =
+    let inv = c.self.invariant in
+    let fits = c.requires.fits in
+    let points = ap (λ (r : Recording). r.points) c.self.view_is in
+    let count = ap (λ (r : Recording). length r.intervals) c.self.view_is in
+    let there : c.args.index < length c.self.inside.points.items = omega (arith, count, inv.5, fits.count, c.requires.index) in
+    let contents = contents_at g.row.PAGES c.args.index c.self.inside.points.items c.args.self.now inv.7 points there in
+    let cell = c.requires.cell in
+    let bounds = rw c.in-Level.is at cell in
+    let place : c.in-Level.level < length c.args.staged.now.levels.items = omega (arith, fits.levels_count, bounds.1) in
+    let slot = slot_is c.args.staged.now.levels.items c.in-Level.level c.index-in-Level.result.now None place c.index-in-Level.ensures c.in-None-index.is in
+    let point = c.index-point.ensures ∙ get_or_default c.self.inside.points.items c.args.index _ blank there ∙ ap (λ ps. get_or ps c.args.index blank) points in
+    c.content-in-None-index.ensures ∙ ap (get (pending_level c.in-Level.level)) point
+    ∙ sym (level_at g.row.PAGES c.args.index c.args.self.now c.args.staged.now fits c.requires.index (get_or c.args.self.now.points c.args.index blank) contents c.in-Level.level None bounds.1 slot)
+    ∙ ap (λ x. get (cell_of x) (placed c.args.staged.now c.args.index (get_or c.args.self.now.points c.args.index blank))) (sym c.in-Level.is)

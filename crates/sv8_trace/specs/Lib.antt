@@ -1,0 +1,11 @@
+pub mod Cells
+pub mod Kept
+pub mod Touched
+pub mod Steps
+pub mod Sought
+pub mod Recorder
+pub mod Recording
+pub mod Patch
+pub mod Prepared
+pub mod Patching
+pub mod Placing

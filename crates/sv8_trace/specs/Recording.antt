@@ -1,0 +1,55 @@
+-- A trace as its contracts see it.
+use Rattle.std.specs.Prelude.{◌≡◌, ℕ, ◌+◌, ◌*◌, ◌/◌, ◌%◌, ◌<◌, ◌≤◌, length, List, [], ◌∷◌, slice_index_or}
+use Rattle.sv8_trap.specs.Processor.{reset_processor}
+use Rattle.sv8_mmu.specs.Registers.{registers_at_reset}
+use Rattle.sv8_phys.specs.Contents.{empty_contents, AreContents}
+use Rattle.sv8_time.specs.Schedule.{Schedule, bytes_below}
+use Rattle.sv8_history.specs.Trace as history
+use Rattle.sv8_history.specs.Growing.{extended}
+use Rattle.sv8_cpu.specs.State.{State}
+use Rattle.sv8_cpu.specs.Recorded.{machine, event_at, AreEvents}
+use Rattle.sv8_trace.specs.declared.interval.Interval.{Interval}
+use Rattle.sv8_trace.specs.Steps.{no_steps, footprint_in}
+use Rattle.sv8_trace.specs.Kept.{kept_in}
+
+pub record Recording : Type 0 where
+  -- the states of steps 0, k, 2k and so on
+  pub points : List State
+  -- what is kept of the steps between one checkpoint and the next
+  pub intervals : List Interval
+
+-- the first checkpoint alone
+abbrev pub fresh : State → Recording
+fresh s = record { points = s ∷ []; intervals = [] }
+
+-- what stands where there is nothing
+abbrev pub blank : State
+blank = record { processor = reset_processor 2; mmu = registers_at_reset; memory = empty_contents 0 }
+
+abbrev pub no_interval : Interval
+no_interval = record { notes = no_steps; kept = [] }
+
+-- the trace that it shows, with a checkpoint every k steps
+abbrev pub trace_of : (windows pages k : ℕ) → Recording → history.Trace (machine windows pages)
+trace_of windows pages k r = record {
+  count = length r.intervals;
+  point = λ n. slice_index_or r.points (n / k) blank;
+  notes = λ n. footprint_in (slice_index_or r.intervals (n / k) no_interval).notes (n % k);
+  kept = λ n c. kept_in (n % k) c (slice_index_or r.intervals (n / k) no_interval).kept;
+}
+
+-- the number of recorded steps
+abbrev pub recorded : ℕ → Recording → ℕ
+recorded k r = k * length r.intervals
+
+-- the state of the last checkpoint
+abbrev pub last_point : Recording → State
+last_point r = slice_index_or r.points (length r.intervals) blank
+
+-- The new trace is the old one with the next k steps under a timeline, from whatever state the run began.
+abbrev pub IsExtended : (windows pages k : ℕ) → Schedule → Recording → Recording → Type 0
+IsExtended windows pages k schedule old new =
+    (start : State) (valid : AreEvents pages schedule)
+    → history.Agrees (machine windows pages) k
+    (extended (machine windows pages) k (record { start = start; events = event_at schedule; valid = valid }) (trace_of windows pages k old))
+    (trace_of windows pages k new)

@@ -1,0 +1,14 @@
+-- What is looked for in the steps.
+use Rattle.std.specs.Prelude.{◌||◌, Bool}
+use Rattle.sv8_model.specs.Cells.{Cell}
+use Rattle.sv8_history.specs.Machine.{Footprint}
+use Rattle.sv8_trace.specs.declared.notes.Sought.{Sought}
+use Rattle.sv8_trace.specs.declared.notes.Sought.TheVariants.{Read, Write, Touch, Input}
+use Rattle.sv8_trace.specs.Cells.{cell_of}
+
+-- a step with this footprint does what is sought
+abbrev pub is_met : Sought → Footprint Cell → Bool
+is_met (Read cell) f = f.reads (cell_of cell)
+is_met (Write cell) f = f.writes (cell_of cell)
+is_met (Touch cell) f = f.reads (cell_of cell) || f.writes (cell_of cell)
+is_met Input f = f.takes

@@ -1,0 +1,76 @@
+//! The parts of a machine's state that outside events may set.
+
+ghost use Rattle.std.specs.Prelude.{◌≡◌, ◌≤◌};
+ghost use Rattle.sv8_model.specs.Cells.{same_cell, byte_of, held_of};
+ghost use Rattle.sv8_cpu.specs.Recorded.{get};
+ghost use Rattle.sv8_trace.specs.Cells.{cell_of, content_of, IsCell};
+
+use sv8_cpu::Machine;
+
+/// A part of the state that outside events may set.
+#[derive(Clone, Copy, PartialEq, Eq, Debug)]
+pub enum Cell {
+    /// The byte of RAM at a physical address.
+    Byte(u32),
+    /// Whether an interrupt level, 1 to 15, is pending.
+    Level(u32),
+}
+
+/// What stands in a cell.
+#[derive(Clone, Copy, PartialEq, Eq, Debug)]
+pub enum Content {
+    /// The value of a byte.
+    Byte(u8),
+    /// Whether a level is pending.
+    Pending(bool),
+}
+
+impl Content {
+    /// As the value of a byte; a condition has none, and is 0.
+    pub(crate) fn as_byte(self) -> u8
+        ensures { result ≡ byte_of (content_of self) }
+    {
+        match self {
+            Content::Byte(value) => value,
+            Content::Pending(_) => 0,
+        }
+    }
+
+    /// As the condition of a level; a byte has none, and is not pending.
+    pub(crate) fn as_pending(self) -> bool
+        ensures { result ≡ held_of (content_of self) }
+    {
+        match self {
+            Content::Byte(_) => false,
+            Content::Pending(pending) => pending,
+        }
+    }
+}
+
+impl Cell {
+    /// Whether it is the same cell.
+    pub(crate) fn is_same(self, other: Cell) -> bool
+        ensures { result ≡ same_cell (cell_of self) (cell_of other) }
+    {
+        match (self, other) {
+            (Cell::Byte(address), Cell::Byte(other)) => address == other,
+            (Cell::Level(level), Cell::Level(other)) => level == other,
+            _ => false,
+        }
+    }
+
+    /// What stands in the cell of a machine.
+    pub(crate) fn content<const NW: usize, const PAGES: usize>(
+        self,
+        machine: &Machine<NW, PAGES>,
+    ) -> Content
+        requires few_windows { NW ≤ 32 }
+        requires cell { IsCell PAGES self }
+        ensures { content_of result ≡ get (cell_of self) machine.now }
+    {
+        match self {
+            Cell::Byte(address) => Content::Byte(machine.byte(address)),
+            Cell::Level(level) => Content::Pending(machine.is_pending(level)),
+        }
+    }
+}

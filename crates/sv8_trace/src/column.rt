@@ -1,0 +1,158 @@
+//! One part of each checkpoint of a trace that is to change.
+
+ghost use Rattle.std.specs.Prelude.{◌≡◌, ℕ, ◌≤◌, ◌<◌, ◌%◌, ◌&&◌, ◌++◌, ◌∷◌, [], false, cond, leb, ltb, length, slice_index_or, slice_set, IfOk, OnOk};
+
+use std::alloc::{AllocError, Global};
+use std::marker::Model;
+use sv8_phys::Page;
+
+/// One page of each checkpoint.
+#[derive(Drop)]
+pub(crate) struct PageColumn {
+    pages: Vec<Page>,
+}
+
+impl Model for PageColumn {
+    ghost use Rattle.std.specs.Prelude.{List, ℕ};
+
+    ghost Value = { List (List ℕ) };
+
+    ghost view = { λ c. c.pages.items };
+}
+
+impl PageColumn {
+    /// Of no checkpoints.
+    pub(crate) fn new(alloc: Global) -> PageColumn
+        ensures { result ≡ [] }
+    {
+        PageColumn {
+            pages: Vec::new(alloc),
+        }
+    }
+
+    /// The page of one checkpoint more.
+    pub(crate) fn push(&mut self, page: Page) -> Result<(), AllocError>
+        ensures { OnOk result (self.new ≡ self.old ++ page ∷ []) }
+    {
+        self.pages.push(page)?;
+        Ok(())
+    }
+
+    /// A byte of the page of a checkpoint.
+    pub(crate) fn byte(&self, index: usize, address: u32) -> u8
+        requires { index < length self.now }
+        ensures { result ≡ slice_index_or (slice_index_or self.now index []) (address % 4096) 0 }
+    {
+        self.pages[index].byte(address)
+    }
+
+    /// Sets a byte in the pages of the checkpoints from `low` on and below `end`. Pages that are the same stay one.
+    ///
+    /// # Errors
+    ///
+    /// `AllocError` where memory for a page cannot be had; some pages are then changed.
+    pub(crate) fn set(
+        &mut self,
+        low: usize,
+        end: usize,
+        address: u32,
+        value: u8,
+    ) -> Result<(), AllocError>
+        requires { end ≤ length self.old }
+        ensures length { length self.new ≡ length self.old }
+        ensures set { OnOk result ((i : ℕ) → slice_index_or self.new i []
+            ≡ cond (leb low i && ltb i end) (slice_set (slice_index_or self.old i []) (address % 4096) value) (slice_index_or self.old i [])) }
+    {
+        if low >= end {
+            return Ok(());
+        }
+        let mut before = self.pages[low].share()?;
+        let mut after = with_byte(&before, address, value)?;
+        for index in low..end {
+            if !self.pages[index].is_same(&before) {
+                before = self.pages[index].share()?;
+                after = with_byte(&before, address, value)?;
+            }
+            self.pages[index] = after.share()?;
+        }
+        Ok(())
+    }
+
+    /// The pages, in the order of the checkpoints.
+    pub(crate) fn into_pages(self) -> Vec<Page>
+        ensures { result.items ≡ self }
+    {
+        self.pages
+    }
+}
+
+/// A page with another byte.
+fn with_byte(page: &Page, address: u32, value: u8) -> Result<Page, AllocError>
+    ensures { IfOk result (λ p. p ≡ slice_set page.now (address % 4096) value) }
+{
+    let mut copy = page.share()?;
+    copy.set_byte(address, value)?;
+    Ok(copy)
+}
+
+/// Whether one level is pending in each checkpoint.
+#[derive(Drop)]
+pub(crate) struct LevelColumn {
+    pending: Vec<bool>,
+}
+
+impl Model for LevelColumn {
+    ghost use Rattle.std.specs.Prelude.{List, Bool};
+
+    ghost Value = { List Bool };
+
+    ghost view = { λ c. c.pending.items };
+}
+
+impl LevelColumn {
+    /// Of no checkpoints.
+    pub(crate) fn new(alloc: Global) -> LevelColumn
+        ensures { result ≡ [] }
+    {
+        LevelColumn {
+            pending: Vec::new(alloc),
+        }
+    }
+
+    /// The level in one checkpoint more.
+    pub(crate) fn push(&mut self, pending: bool) -> Result<(), AllocError>
+        ensures { OnOk result (self.new ≡ self.old ++ pending ∷ []) }
+    {
+        self.pending.push(pending)?;
+        Ok(())
+    }
+
+    /// Whether the level is pending in a checkpoint.
+    pub(crate) fn is_pending(&self, index: usize) -> bool
+        requires { index < length self.now }
+        ensures { result ≡ slice_index_or self.now index false }
+    {
+        self.pending[index]
+    }
+
+    /// Makes the level pending, or not, in the checkpoints from `low` on and below `end`.
+    pub(crate) fn set(&mut self, low: usize, end: usize, pending: bool)
+        requires { end ≤ length self.old }
+        ensures length { length self.new ≡ length self.old }
+        ensures set { (i : ℕ) → slice_index_or self.new i false ≡ cond (leb low i && ltb i end) pending (slice_index_or self.old i false) }
+    {
+        if low >= end {
+            return;
+        }
+        for index in low..end {
+            self.pending[index] = pending;
+        }
+    }
+
+    /// Whether the level is pending, in the order of the checkpoints.
+    pub(crate) fn into_pending(self) -> Vec<bool>
+        ensures { result.items ≡ self }
+    {
+        self.pending
+    }
+}

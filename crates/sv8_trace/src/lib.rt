@@ -1,0 +1,20 @@
+//! The recorded run of a machine: a checkpoint every `K` steps, what each step touched, and what edits of past inputs make of them.
+//!
+//! `docs/HISTORY.md` explains the theory (`sv8_history`) of which this is the code.
+#![tactic(auto)]
+
+mod cell;
+mod column;
+mod interval;
+mod kept;
+mod notes;
+mod patch;
+mod prepared;
+mod recorder;
+mod step_notes;
+mod trace;
+
+pub use cell::{Cell, Content};
+pub use patch::{Cause, Patch};
+pub use prepared::Prepared;
+pub use trace::{NO_END, Trace};

@@ -1,0 +1,209 @@
+//! Steps that are made and recorded.
+
+ghost use Rattle.std.specs.Prelude.{◌≡◌, ℕ, ◌+◌, ◌≤◌, ◌<◌, ◌&&◌, ◌==◌, ◌++◌, ◌⊎◌, cond, None, Some, is_some, slice_index_or, IfOk, OnOk, OnErr};
+ghost use Rattle.sv8_model.specs.Cells as model;
+ghost use Rattle.sv8_time.specs.Order.{Each};
+ghost use Rattle.sv8_time.specs.Schedule.{IsRequestPlace, bytes_below};
+ghost use Rattle.sv8_phys.specs.Memory.{ram_size};
+ghost use Rattle.sv8_phys.specs.Notes.{told};
+ghost use Rattle.sv8_cpu.specs.WordPokes.{AreInside};
+ghost use Rattle.sv8_cpu.specs.Run.{step, footprint};
+ghost use Rattle.sv8_cpu.specs.Recorded.{event_at, poke_of, get};
+ghost use Rattle.sv8_cpu.specs.Work.{counted};
+ghost use Rattle.sv8_trace.specs.Kept.{kept_in};
+ghost use Rattle.sv8_trace.specs.Cells.{cell_of, content_of, IsCell};
+ghost use Rattle.sv8_trace.specs.Touched.{is_touched};
+ghost use Rattle.sv8_trace.specs.Steps.{Gains};
+ghost use Rattle.sv8_trace.specs.Recorder.{below_byte, below_word, below_words, below_requests, counted_by, steps_on, IsRecorded, RaisedUpTo};
+
+use crate::cell::{Cell, Content};
+use crate::interval::Interval;
+use crate::kept::KeptList;
+use crate::notes::Notes;
+use crate::step_notes::StepNotes;
+use std::alloc::{AllocError, Global};
+use sv8_cpu::{Machine, Work};
+use sv8_time::{Request, Timeline, WordPoke};
+
+/// Keeps what stands in a byte, if it is about to be poked.
+fn keep_byte<const NW: usize, const PAGES: usize>(
+    kept: &mut KeptList,
+    machine: &Machine<NW, PAGES>,
+    offset: u32,
+    address: u32,
+    poked: Option<u8>,
+) -> Result<(), AllocError>
+    requires few_windows { NW ≤ 32 }
+    requires few_pages { PAGES ≤ 65536 }
+    requires within { address < ram_size PAGES }
+    ensures { OnOk result (kept.new ≡ kept.old ++ below_byte offset machine.now address poked) }
+{
+    match poked {
+        None => Ok(()),
+        Some(_) => {
+            let content = Content::Byte(machine.byte(address));
+            kept.push(offset, Cell::Byte(address), content)?;
+            Ok(())
+        }
+    }
+}
+
+/// Keeps what stands in the bytes of a word that are about to be poked.
+fn keep_word<const NW: usize, const PAGES: usize>(
+    kept: &mut KeptList,
+    machine: &Machine<NW, PAGES>,
+    offset: u32,
+    word: &WordPoke,
+) -> Result<(), AllocError>
+    requires few_windows { NW ≤ 32 }
+    requires few_pages { PAGES ≤ 65536 }
+    requires within { word.now.address + 4 ≤ ram_size PAGES }
+    ensures { OnOk result (kept.new ≡ kept.old ++ below_word offset machine.now word.now) }
+{
+    let at = word.address;
+    keep_byte(kept, machine, offset, at, word.bytes[0])?;
+    keep_byte(kept, machine, offset, at + 1, word.bytes[1])?;
+    keep_byte(kept, machine, offset, at + 2, word.bytes[2])?;
+    keep_byte(kept, machine, offset, at + 3, word.bytes[3])?;
+    Ok(())
+}
+
+/// Keeps what stands in the bytes of several words that are about to be poked.
+fn keep_words<const NW: usize, const PAGES: usize>(
+    kept: &mut KeptList,
+    machine: &Machine<NW, PAGES>,
+    offset: u32,
+    words: &[WordPoke],
+) -> Result<(), AllocError>
+    requires few_windows { NW ≤ 32 }
+    requires few_pages { PAGES ≤ 65536 }
+    requires within { AreInside (ram_size PAGES) words.now }
+    ensures { OnOk result (kept.new ≡ kept.old ++ below_words offset machine.now words.now) }
+{
+    let mut rest = words;
+    while let [word, after @ ..] = rest {
+        keep_word(kept, machine, offset, word)?;
+        rest = after;
+    }
+    Ok(())
+}
+
+/// Keeps whether levels are pending that are about to be requested.
+fn keep_levels<const NW: usize, const PAGES: usize>(
+    kept: &mut KeptList,
+    machine: &Machine<NW, PAGES>,
+    offset: u32,
+    requests: &[Request],
+) -> Result<(), AllocError>
+    requires few_windows { NW ≤ 32 }
+    requires places { Each IsRequestPlace requests.now }
+    ensures { OnOk result (kept.new ≡ kept.old ++ below_requests offset machine.now requests.now) }
+{
+    let mut rest = requests;
+    while let [request, after @ ..] = rest {
+        let content = Content::Pending(machine.is_pending(request.level));
+        kept.push(offset, Cell::Level(request.level), content)?;
+        rest = after;
+    }
+    Ok(())
+}
+
+/// Keeps what stands in the cells that the events of step n are about to set.
+#[tactic(auto, using(sv8_cpu::proofs::Poking::are_inside))]
+fn keep_below<const NW: usize, const PAGES: usize>(
+    kept: &mut KeptList,
+    machine: &Machine<NW, PAGES>,
+    timeline: &Timeline,
+    n: u32,
+    offset: u32,
+) -> Result<(), AllocError>
+    requires few_windows { NW ≤ 32 }
+    requires few_pages { PAGES ≤ 65536 }
+    requires limit { timeline.now.limit ≡ ram_size PAGES }
+    requires free { (c : model.Cell) → kept_in offset c kept.old ≡ None }
+    ensures { OnOk result ((j : ℕ) (c : model.Cell) → kept_in j c kept.new
+        ≡ cond (j == offset && is_some (poke_of c (event_at timeline.now n))) (Some (get c machine.now)) (kept_in j c kept.old)) }
+{
+    let events = timeline.events(n);
+    keep_words(kept, machine, offset, events.pokes)?;
+    keep_levels(kept, machine, offset, events.requests)?;
+    Ok(())
+}
+
+/// Makes step n and records it, as the step with this offset in its interval. `touches` is a place for what it touches.
+fn record_step<const NW: usize, const PAGES: usize>(
+    machine: Machine<NW, PAGES>,
+    timeline: &Timeline,
+    n: u32,
+    offset: u32,
+    touches: &mut StepNotes,
+    interval: &mut Interval,
+    work: &mut Work,
+) -> Result<Machine<NW, PAGES>, AllocError>
+    requires few_windows { NW ≤ 32 }
+    requires few_pages { PAGES ≤ 65536 }
+    requires limit { timeline.now.limit ≡ ram_size PAGES }
+    requires delivered { machine.memory.taken ≤ bytes_below n timeline.now.inputs }
+    requires offset { offset < 1000000 }
+    requires free { (c : model.Cell) → kept_in offset c interval.old.kept ≡ None }
+    ensures state { IfOk result (λ m. m ≡ step NW PAGES timeline.now n machine.entry) }
+    ensures delivered { IfOk result (λ m. m.memory.taken ≤ bytes_below (n + 1) timeline.now.inputs) }
+    ensures gained { OnOk result (Gains offset (told (footprint NW PAGES timeline.now n machine.entry)) interval.old.notes interval.new.notes) }
+    ensures kept { OnOk result ((j : ℕ) (c : model.Cell) → kept_in j c interval.new.kept
+        ≡ cond (is_touched (told (footprint NW PAGES timeline.now n machine.entry)) c) None
+        (cond (j == offset && is_some (poke_of c (event_at timeline.now n))) (Some (get c machine.entry)) (kept_in j c interval.old.kept))) }
+    ensures counted { OnOk result (work.new ≡ counted work.old) }
+    ensures uncounted { OnErr result (work.new ≡ work.old ⊎ work.new ≡ counted work.old) }
+{
+    touches.clear();
+    keep_below(&mut interval.kept, &machine, timeline, n, offset)?;
+    let machine = machine.step(n, timeline, touches, work)?;
+    interval.notes.note_step(touches.touches(), offset)?;
+    interval.kept.forget(touches.touches());
+    Ok(machine)
+}
+
+/// Makes so many steps from the machine of step n on, and records them.
+///
+/// # Errors
+///
+/// `AllocError` where memory for a step or its notes cannot be had. The machine is given up with it; `work` counts the steps that
+/// were made.
+pub(crate) fn record<const NW: usize, const PAGES: usize>(
+    alloc: Global,
+    machine: Machine<NW, PAGES>,
+    timeline: &Timeline,
+    n: u32,
+    count: u32,
+    work: &mut Work,
+) -> Result<(Machine<NW, PAGES>, Interval), AllocError>
+    requires few_windows { NW ≤ 32 }
+    requires few_pages { PAGES ≤ 65536 }
+    requires limit { timeline.now.limit ≡ ram_size PAGES }
+    requires steps { n + count ≤ 1000000 }
+    requires delivered { machine.memory.taken ≤ bytes_below n timeline.now.inputs }
+    ensures state { IfOk result (λ r. r.0 ≡ steps_on NW PAGES timeline.now n machine.entry count) }
+    ensures delivered { IfOk result (λ r. r.0.memory.taken ≤ bytes_below (n + count) timeline.now.inputs) }
+    ensures recorded { IfOk result (λ r. IsRecorded NW PAGES timeline.now n machine.entry count r.1) }
+    ensures counted { OnOk result (work.new ≡ counted_by count work.old) }
+    ensures raised { RaisedUpTo count work.old work.new }
+{
+    let mut touches = StepNotes::new(alloc);
+    let mut interval = Interval {
+        notes: Notes::new(alloc),
+        kept: KeptList::new(alloc),
+    };
+    let mut machine = machine;
+    for offset in 0..count {
+        machine = record_step(
+            machine,
+            timeline,
+            n + offset,
+            offset,
+            &mut touches,
+            &mut interval,
+            work,
+        )?;
+    }
+    Ok((machine, interval))
+}

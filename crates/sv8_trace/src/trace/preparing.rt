@@ -1,0 +1,494 @@
+//! What patches make of a trace, built in full before anything changes.
+
+ghost use Rattle.std.specs.Prelude.{◌≡◌, ℕ, ◌+◌, ◌*◌, ◌<◌, ◌≤◌, ◌/◌, ◌%◌, ◌==◌, ◌&&◌, [], cond, not, leb, ltb, false, true, length, take, map, replicate, slice_index_or, slice_set, option_map, Option, Some, None, IfOk, OnOk, OnErr, IfSome};
+ghost use Rattle.std.specs.List.{All};
+ghost use Rattle.sv8_model.specs.Cells as model;
+ghost use Rattle.sv8_model.specs.Cells.{ram_byte, byte, pending_level, held};
+ghost use Rattle.sv8_phys.specs.Memory.{ram_size, page_of};
+ghost use Rattle.sv8_history.specs.Trace.{Trace};
+ghost use Rattle.sv8_history.specs.Patches as history;
+ghost use Rattle.sv8_history.specs.Patches.{set_poke, spread, uncover, kept_by_poke};
+ghost use Rattle.sv8_cpu.specs.Recorded.{machine, get, put};
+ghost use Rattle.sv8_trace.specs.Cells.{cell_of, content_of, IsCell};
+ghost use Rattle.sv8_trace.specs.Patch.{change_of, changes_of, IsPatch};
+ghost use Rattle.sv8_trace.specs.Steps.{IsFirstBelow};
+ghost use Rattle.sv8_trace.specs.Recording.{Recording, blank, no_interval, recorded, trace_of};
+ghost use Rattle.sv8_trace.specs.Prepared.{list_at, placed, prepared_trace, IsPreparedFor, IsPageColumn, Near};
+ghost use Rattle.sv8_trace.specs.Patching.{IsFirstWrite, KeptPut, PointsSet, RaisedAt};
+
+use crate::cell::{Cell, Content};
+use crate::column::{LevelColumn, PageColumn};
+use crate::kept::KeptList;
+use crate::notes::Sought;
+use crate::patch::{Cause, Patch};
+use crate::prepared::{Prepared, Staged};
+use crate::trace::{NO_END, Trace};
+use std::alloc::{AllocError, Global};
+
+/// How many bytes a page has.
+const PAGE_SIZE: u32 = 4096;
+
+/// How many interrupt levels there are, with level 0, which is none.
+const LEVELS: usize = 16;
+
+/// How far a change reaches: the step of its cause, the step of the next event of its cell, and the first step from its cause on that
+/// writes the cell (`NO_END` where none does).
+#[derive(Clone, Copy)]
+struct Reach {
+    from: u32,
+    to: u32,
+    wrote: u32,
+}
+
+/// So many places, with nothing in them.
+fn empty_places<T: Drop>(alloc: Global, count: usize) -> Result<Vec<Option<T>>, AllocError>
+    ensures { IfOk result (λ v. v.items ≡ replicate count None) }
+{
+    let mut places = Vec::with_capacity(alloc, count)?;
+    for _place in 0..count {
+        places.push(None)?;
+    }
+    Ok(places)
+}
+
+impl<const NW: usize, const PAGES: usize, const K: u32> Trace<NW, PAGES, K> {
+    /// The first recorded step from `from` on that writes a cell, or `NO_END`.
+    fn first_write(&self, cell: Cell, from: u32) -> u32
+        ensures { IsFirstWrite (machine NW PAGES) (trace_of NW PAGES K self.now) (cell_of cell) from (recorded K self.now) result }
+    {
+        let _points = &self.points;
+        self.first_from(Sought::Write(cell), from, NO_END)
+            .unwrap_or(NO_END)
+    }
+
+    /// Nothing but a cut to so many checkpoints above that of step 0.
+    fn stage(&self, alloc: Global, count: usize) -> Result<Staged, AllocError>
+        requires { count ≤ length self.now.intervals }
+        ensures fits { IfOk result (λ s. IsPreparedFor PAGES self.now s) }
+        ensures near { IfOk result (λ s. Near (machine NW PAGES) K (prepared_trace NW PAGES K self.now s) (history.cut (machine NW PAGES) K (trace_of NW PAGES K self.now) count)) }
+    {
+        let _points = &self.points;
+        Ok(Staged {
+            count,
+            pages: empty_places(alloc, PAGES)?,
+            levels: empty_places(alloc, LEVELS)?,
+            kept: empty_places(alloc, count)?,
+        })
+    }
+
+    /// The value that is kept of a cell at a step.
+    fn kept_value(&self, staged: &Staged, step: u32, cell: Cell) -> Option<Content>
+        requires fits { IsPreparedFor PAGES self.now staged.now }
+        ensures { option_map content_of result ≡ (prepared_trace NW PAGES K self.now staged.now).kept step (cell_of cell) }
+    {
+        let _points = &self.points;
+        let index = (step / K) as usize;
+        if index >= staged.count {
+            return None;
+        }
+        match &staged.kept[index] {
+            Some(list) => list.find(step % K, cell),
+            None => self.intervals[index].kept.find(step % K, cell),
+        }
+    }
+
+    /// The list of kept values of an interval, taken or copied.
+    fn list(&self, staged: &mut Staged, index: usize) -> Result<KeptList, AllocError>
+        requires fits { IsPreparedFor PAGES self.now staged.old }
+        requires index { index < staged.old.count }
+        ensures list { IfOk result (λ l. l ≡ list_at self.now staged.old index) }
+        ensures kept { staged.new.kept.items ≡ slice_set staged.old.kept.items index None }
+        ensures rest { staged.new ≡ record staged.old { kept = staged.new.kept } }
+    {
+        let _points = &self.points;
+        match staged.kept[index].take() {
+            Some(list) => Ok(list),
+            None => self.intervals[index].kept.copy(),
+        }
+    }
+
+    /// Keeps a value of a cell at a step.
+    fn keep(
+        &self,
+        staged: &mut Staged,
+        step: u32,
+        cell: Cell,
+        content: Content,
+    ) -> Result<(), AllocError>
+        requires fits { IsPreparedFor PAGES self.now staged.old }
+        requires step { step / K < staged.old.count }
+        ensures fits { OnOk result (IsPreparedFor PAGES self.now staged.new) }
+        ensures kept { OnOk result (KeptPut (machine NW PAGES) (prepared_trace NW PAGES K self.now staged.old) (prepared_trace NW PAGES K self.now staged.new) step (cell_of cell) (Some (content_of content))) }
+        ensures rest { staged.new ≡ record staged.old { kept = staged.new.kept } }
+    {
+        let _points = &self.points;
+        let index = (step / K) as usize;
+        let mut list = self.list(staged, index)?;
+        list.insert(step % K, cell, content)?;
+        staged.kept[index] = Some(list);
+        Ok(())
+    }
+
+    /// Keeps no value of a cell at a step.
+    fn forget(&self, staged: &mut Staged, step: u32, cell: Cell) -> Result<(), AllocError>
+        requires fits { IsPreparedFor PAGES self.now staged.old }
+        requires step { step / K < staged.old.count }
+        ensures fits { OnOk result (IsPreparedFor PAGES self.now staged.new) }
+        ensures kept { OnOk result (KeptPut (machine NW PAGES) (prepared_trace NW PAGES K self.now staged.old) (prepared_trace NW PAGES K self.now staged.new) step (cell_of cell) None) }
+        ensures rest { staged.new ≡ record staged.old { kept = staged.new.kept } }
+    {
+        let _points = &self.points;
+        let index = (step / K) as usize;
+        let mut list = self.list(staged, index)?;
+        list.remove(step % K, cell);
+        staged.kept[index] = Some(list);
+        Ok(())
+    }
+
+    /// The page of an address in each of the first checkpoints.
+    fn gather_pages(
+        &self,
+        alloc: Global,
+        address: u32,
+        count: usize,
+    ) -> Result<PageColumn, AllocError>
+        requires address { address < ram_size PAGES }
+        requires count { count ≤ length self.now.points }
+        ensures { IfOk result (λ c. c ≡ map (λ s. page_of s.memory.ram (address / 4096)) (take count self.now.points)) }
+    {
+        let mut column = PageColumn::new(alloc);
+        for point in &self.points[..count] {
+            column.push(point.page(address)?)?;
+        }
+        Ok(column)
+    }
+
+    /// Whether a level is pending in each of the first checkpoints.
+    fn gather_levels(
+        &self,
+        alloc: Global,
+        level: u32,
+        count: usize,
+    ) -> Result<LevelColumn, AllocError>
+        requires level { level ≤ 15 }
+        requires count { count ≤ length self.now.points }
+        ensures { IfOk result (λ c. c ≡ map (λ s. slice_index_or s.memory.pending level false) (take count self.now.points)) }
+    {
+        let mut column = LevelColumn::new(alloc);
+        for point in &self.points[..count] {
+            column.push(point.is_pending(level))?;
+        }
+        Ok(column)
+    }
+
+    /// What stands in a cell of a checkpoint.
+    fn content(&self, staged: &Staged, index: usize, cell: Cell) -> Content
+        requires fits { IsPreparedFor PAGES self.now staged.now }
+        requires index { index ≤ staged.now.count }
+        requires cell { IsCell PAGES cell }
+        ensures { content_of result ≡ get (cell_of cell) (placed staged.now index (slice_index_or self.now.points index blank)) }
+    {
+        let point = &self.points[index];
+        match cell {
+            Cell::Byte(address) => match &staged.pages[(address / PAGE_SIZE) as usize] {
+                Some(column) => Content::Byte(column.byte(index, address)),
+                None => cell.content(point),
+            },
+            Cell::Level(level) => match &staged.levels[level as usize] {
+                Some(column) => Content::Pending(column.is_pending(index)),
+                None => cell.content(point),
+            },
+        }
+    }
+
+    /// Sets a byte in the checkpoints from `low` on and below `end`.
+    fn set_byte(
+        &self,
+        alloc: Global,
+        staged: &mut Staged,
+        address: u32,
+        value: u8,
+        low: usize,
+        end: usize,
+    ) -> Result<(), AllocError>
+        requires fits { IsPreparedFor PAGES self.now staged.old }
+        requires address { address < ram_size PAGES }
+        requires end { end ≤ staged.old.count + 1 }
+        ensures fits { OnOk result (IsPreparedFor PAGES self.now staged.new) }
+        ensures points { OnOk result (PointsSet self.now staged.old staged.new (ram_byte address) (byte value) low end) }
+        ensures rest { staged.new ≡ record staged.old { pages = staged.new.pages } }
+    {
+        let _points = &self.points;
+        let page = (address / PAGE_SIZE) as usize;
+        let mut column = match staged.pages[page].take() {
+            Some(column) => column,
+            None => self.gather_pages(alloc, address, staged.count + 1)?,
+        };
+        column.set(low, end, address, value)?;
+        staged.pages[page] = Some(column);
+        Ok(())
+    }
+
+    /// Makes a level pending, or not, in the checkpoints from `low` on and below `end`.
+    fn set_level(
+        &self,
+        alloc: Global,
+        staged: &mut Staged,
+        level: u32,
+        pending: bool,
+        low: usize,
+        end: usize,
+    ) -> Result<(), AllocError>
+        requires fits { IsPreparedFor PAGES self.now staged.old }
+        requires some_level { 1 ≤ level }
+        requires level { level ≤ 15 }
+        requires end { end ≤ staged.old.count + 1 }
+        ensures fits { OnOk result (IsPreparedFor PAGES self.now staged.new) }
+        ensures points { OnOk result (PointsSet self.now staged.old staged.new (pending_level level) (held pending) low end) }
+        ensures rest { staged.new ≡ record staged.old { levels = staged.new.levels } }
+    {
+        let _points = &self.points;
+        let place = level as usize;
+        let mut column = match staged.levels[place].take() {
+            Some(column) => column,
+            None => self.gather_levels(alloc, level, staged.count + 1)?,
+        };
+        column.set(low, end, pending);
+        staged.levels[place] = Some(column);
+        Ok(())
+    }
+
+    /// Gives a cell a content in the checkpoints from `low` on and below `end`.
+    fn set_points(
+        &self,
+        alloc: Global,
+        staged: &mut Staged,
+        cell: Cell,
+        content: Content,
+        low: usize,
+        end: usize,
+    ) -> Result<(), AllocError>
+        requires fits { IsPreparedFor PAGES self.now staged.old }
+        requires cell { IsCell PAGES cell }
+        requires end { end ≤ staged.old.count + 1 }
+        ensures fits { OnOk result (IsPreparedFor PAGES self.now staged.new) }
+        ensures points { OnOk result (PointsSet self.now staged.old staged.new (cell_of cell) (content_of content) low end) }
+        ensures kept { staged.new.kept ≡ staged.old.kept }
+        ensures count { staged.new.count ≡ staged.old.count }
+    {
+        let _points = &self.points;
+        if low >= end {
+            return Ok(());
+        }
+        match cell {
+            Cell::Byte(address) => {
+                self.set_byte(alloc, staged, address, content.as_byte(), low, end)
+            }
+            Cell::Level(level) => {
+                self.set_level(alloc, staged, level, content.as_pending(), low, end)
+            }
+        }
+    }
+
+    /// The value to be kept below an event that is set: that of the event in whose place it comes, or of the first checkpoint that it
+    /// patches, or that below the event that ends it.
+    fn kept_below(&self, staged: &Staged, cell: Cell, reach: Reach) -> Option<Content>
+        requires fits { IsPreparedFor PAGES self.now staged.now }
+        requires cell { IsCell PAGES cell }
+        requires ordered { reach.from ≤ reach.to }
+        requires first { IsFirstWrite (machine NW PAGES) (trace_of NW PAGES K self.now) (cell_of cell) reach.from (recorded K self.now) reach.wrote }
+        ensures kept { option_map content_of result ≡ kept_by_poke (machine NW PAGES) K (prepared_trace NW PAGES K self.now staged.now) (cell_of cell) reach.from reach.to }
+        ensures inside { IfSome result (λ v. reach.from / K < staged.now.count) }
+    {
+        let _points = &self.points;
+        let next = (reach.from / K) as usize + 1;
+        if next > staged.count {
+            return None;
+        }
+        match self.kept_value(staged, reach.from, cell) {
+            Some(content) => return Some(content),
+            None => {}
+        }
+        let step = next as u32 * K;
+        if step <= reach.to && step <= reach.wrote {
+            return Some(self.content(staged, next, cell));
+        }
+        if reach.to < step && reach.to <= reach.wrote {
+            return self.kept_value(staged, reach.to, cell);
+        }
+        None
+    }
+
+    /// Changes the value that is kept below the event at the end of a change that reaches it.
+    fn raise(
+        &self,
+        staged: &mut Staged,
+        cell: Cell,
+        content: Content,
+        reach: Reach,
+    ) -> Result<(), AllocError>
+        requires fits { IsPreparedFor PAGES self.now staged.old }
+        ensures fits { OnOk result (IsPreparedFor PAGES self.now staged.new) }
+        ensures kept { OnOk result (RaisedAt (machine NW PAGES) (prepared_trace NW PAGES K self.now staged.old) (prepared_trace NW PAGES K self.now staged.new) (cell_of cell) (content_of content) reach.to reach.wrote) }
+        ensures rest { staged.new ≡ record staged.old { kept = staged.new.kept } }
+    {
+        let _points = &self.points;
+        if reach.wrote < reach.to {
+            return Ok(());
+        }
+        if (reach.to / K) as usize >= staged.count {
+            return Ok(());
+        }
+        match self.kept_value(staged, reach.to, cell) {
+            Some(_) => self.keep(staged, reach.to, cell, content),
+            None => Ok(()),
+        }
+    }
+
+    /// Spreads a content over what a change reaches: the checkpoints from `low` on, and the value that is kept at its end.
+    fn spread_content(
+        &self,
+        alloc: Global,
+        staged: &mut Staged,
+        cell: Cell,
+        content: Content,
+        low: usize,
+        reach: Reach,
+    ) -> Result<(), AllocError>
+        requires fits { IsPreparedFor PAGES self.now staged.old }
+        requires cell { IsCell PAGES cell }
+        requires first { IsFirstWrite (machine NW PAGES) (trace_of NW PAGES K self.now) (cell_of cell) reach.from (recorded K self.now) reach.wrote }
+        ensures fits { OnOk result (IsPreparedFor PAGES self.now staged.new) }
+        ensures near { OnOk result ((first : ℕ) → ((i : ℕ) → leb first (K * i) ≡ leb low i)
+            → Near (machine NW PAGES) K (prepared_trace NW PAGES K self.now staged.new) (spread (machine NW PAGES) (prepared_trace NW PAGES K self.now staged.old) (cell_of cell) (content_of content) reach.from first reach.to)) }
+        ensures count { staged.new.count ≡ staged.old.count }
+    {
+        let _points = &self.points;
+        let last = reach.to.min(reach.wrote);
+        let end = ((last / K) as usize).min(staged.count) + 1;
+        self.set_points(alloc, staged, cell, content, low, end)?;
+        self.raise(staged, cell, content, reach)?;
+        Ok(())
+    }
+
+    /// The source gives the cell another content, from step 0 on.
+    fn apply_image(
+        &self,
+        alloc: Global,
+        staged: &mut Staged,
+        cell: Cell,
+        content: Content,
+        reach: Reach,
+    ) -> Result<(), AllocError>
+        requires fits { IsPreparedFor PAGES self.now staged.old }
+        requires cell { IsCell PAGES cell }
+        requires at_reset { reach.from ≡ 0 }
+        requires first { IsFirstWrite (machine NW PAGES) (trace_of NW PAGES K self.now) (cell_of cell) reach.from (recorded K self.now) reach.wrote }
+        ensures fits { OnOk result (IsPreparedFor PAGES self.now staged.new) }
+        ensures near { OnOk result (Near (machine NW PAGES) K (prepared_trace NW PAGES K self.now staged.new) (spread (machine NW PAGES) (prepared_trace NW PAGES K self.now staged.old) (cell_of cell) (content_of content) reach.from reach.from reach.to)) }
+    {
+        self.spread_content(alloc, staged, cell, content, 0, reach)?;
+        Ok(())
+    }
+
+    /// An event sets the cell.
+    fn apply_poke(
+        &self,
+        alloc: Global,
+        staged: &mut Staged,
+        cell: Cell,
+        content: Content,
+        reach: Reach,
+    ) -> Result<(), AllocError>
+        requires fits { IsPreparedFor PAGES self.now staged.old }
+        requires cell { IsCell PAGES cell }
+        requires ordered { reach.from ≤ reach.to }
+        requires first { IsFirstWrite (machine NW PAGES) (trace_of NW PAGES K self.now) (cell_of cell) reach.from (recorded K self.now) reach.wrote }
+        ensures fits { OnOk result (IsPreparedFor PAGES self.now staged.new) }
+        ensures near { OnOk result (Near (machine NW PAGES) K (prepared_trace NW PAGES K self.now staged.new) (set_poke (machine NW PAGES) K (prepared_trace NW PAGES K self.now staged.old) (cell_of cell) (content_of content) reach.from reach.to)) }
+    {
+        let _points = &self.points;
+        let below = self.kept_below(staged, cell, reach);
+        let low = (reach.from / K) as usize + 1;
+        self.spread_content(alloc, staged, cell, content, low, reach)?;
+        match below {
+            Some(kept) => {
+                self.keep(staged, reach.from, cell, kept)?;
+                Ok(())
+            }
+            None => Ok(()),
+        }
+    }
+
+    /// An event no longer sets the cell.
+    fn apply_clear(
+        &self,
+        alloc: Global,
+        staged: &mut Staged,
+        cell: Cell,
+        reach: Reach,
+    ) -> Result<(), AllocError>
+        requires fits { IsPreparedFor PAGES self.now staged.old }
+        requires cell { IsCell PAGES cell }
+        requires first { IsFirstWrite (machine NW PAGES) (trace_of NW PAGES K self.now) (cell_of cell) reach.from (recorded K self.now) reach.wrote }
+        ensures fits { OnOk result (IsPreparedFor PAGES self.now staged.new) }
+        ensures near { OnOk result (Near (machine NW PAGES) K (prepared_trace NW PAGES K self.now staged.new) (uncover (machine NW PAGES) (prepared_trace NW PAGES K self.now staged.old) (cell_of cell) reach.from reach.to ((prepared_trace NW PAGES K self.now staged.old).kept reach.from (cell_of cell)))) }
+    {
+        let _points = &self.points;
+        match self.kept_value(staged, reach.from, cell) {
+            None => Ok(()),
+            Some(content) => {
+                let low = (reach.from / K) as usize + 1;
+                self.spread_content(alloc, staged, cell, content, low, reach)?;
+                self.forget(staged, reach.from, cell)?;
+                Ok(())
+            }
+        }
+    }
+
+    /// What one patch makes of the trace that is to be.
+    fn apply(&self, alloc: Global, staged: &mut Staged, patch: Patch) -> Result<(), AllocError>
+        requires fits { IsPreparedFor PAGES self.now staged.old }
+        requires patch { IsPatch PAGES patch }
+        ensures fits { OnOk result (IsPreparedFor PAGES self.now staged.new) }
+        ensures near { OnOk result (Near (machine NW PAGES) K (prepared_trace NW PAGES K self.now staged.new) (history.patch (machine NW PAGES) K (prepared_trace NW PAGES K self.now staged.old) (change_of NW PAGES patch))) }
+    {
+        let cell = patch.cell;
+        let reach = Reach {
+            from: patch.from,
+            to: patch.to,
+            wrote: self.first_write(cell, patch.from),
+        };
+        match patch.cause {
+            Cause::Image(content) => self.apply_image(alloc, staged, cell, content, reach),
+            Cause::Poke(content) => self.apply_poke(alloc, staged, cell, content, reach),
+            Cause::Clear => self.apply_clear(alloc, staged, cell, reach),
+        }
+    }
+
+    /// Builds what patches make of the trace, one after the other, once it is cut to `cut` recorded steps.
+    ///
+    /// # Errors
+    ///
+    /// `AllocError` where memory for what changes cannot be had.
+    pub fn prepare(
+        &self,
+        alloc: Global,
+        patches: &[Patch],
+        cut: u32,
+    ) -> Result<Prepared, AllocError>
+        requires patches { All (IsPatch PAGES) patches.now }
+        requires cut { cut ≤ recorded K self.now }
+        requires whole { cut % K ≡ 0 }
+        ensures fits { IfOk result (λ p. IsPreparedFor PAGES self.now p) }
+        ensures prepared { IfOk result (λ p. Near (machine NW PAGES) K (prepared_trace NW PAGES K self.now p)
+            (history.patch_all (machine NW PAGES) K (history.cut (machine NW PAGES) K (trace_of NW PAGES K self.now) (cut / K)) (changes_of NW PAGES patches.now))) }
+    {
+        let _points = &self.points;
+        let mut staged = self.stage(alloc, (cut / K) as usize)?;
+        for patch in patches {
+            self.apply(alloc, &mut staged, *patch)?;
+        }
+        Ok(Prepared { staged })
+    }
+}
