@@ -1,1 +1,4 @@
+pub mod ImageWords
 pub mod ShownWords
+pub mod Places
+pub mod Edited

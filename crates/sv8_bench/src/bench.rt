@@ -96,12 +96,15 @@ impl<const NW: usize, const PAGES: usize, const K: u32> Bench<NW, PAGES, K> {
     ) -> Result<(), BenchFault>
         ensures accepted { OnOk result (edit_refusal first last (texts lines.now) self.old.kept ≡ None) }
         ensures edited { OnOk result (IsEdited K (edited first last (texts lines.now) self.old.kept) self.old self.new
-            (image_changes NW PAGES self.old.kept.source (replaced first last (texts lines.now) self.old.kept.source) self.old.kept.timeline)) }
+            (image_changes self.old.kept.windows self.old.kept.pages self.old.kept.source (replaced first last (texts lines.now) self.old.kept.source) self.old.kept.timeline)) }
         ensures refused { IfErr result (λ e. (e ≡ BenchFault.OutOfMemory) ⊎ (edit_refusal first last (texts lines.now) self.old.kept ≡ Some e)) }
         ensures unchanged { OnErr result (self.new ≡ self.old) }
     {
         let plan = self.source.plan(self.alloc, first, last, lines)?;
+        let _limit = self.timeline.limit();
+        let _recorded = self.trace.recorded();
         let reset = Machine::<NW, PAGES>::reset(self.alloc, plan.source())?;
+        let _size = reset.ram_size();
         let patches = image_patches(self.alloc, plan.changes(), &reset, &self.timeline)?;
         let prepared = self.trace.prepare_edit(self.alloc, &patches)?;
         self.source.commit(plan);

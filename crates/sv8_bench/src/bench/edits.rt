@@ -25,12 +25,13 @@ impl<const NW: usize, const PAGES: usize, const K: u32> Bench<NW, PAGES, K> {
     pub fn set_poke(&mut self, step: u32, address: u32, value: u32) -> Result<(), BenchFault>
         ensures accepted { OnOk result (set_poke_fault step address self.old.kept.timeline ≡ None) }
         ensures edited { OnOk result (IsEdited K (with_timeline (with_poke step address value self.old.kept.timeline) self.old.kept) self.old self.new
-            (poke_changes NW PAGES step address value self.old.kept.timeline)) }
+            (poke_changes self.old.kept.windows self.old.kept.pages step address value self.old.kept.timeline)) }
         ensures refused { IfErr result (IsTimelineFault (set_poke_fault step address self.old.kept.timeline)) }
         ensures unchanged { OnErr result (self.new ≡ self.old) }
     {
         self.timeline.check_set_poke(step, address)?;
         let _limit = self.timeline.limit();
+        let _recorded = self.trace.recorded();
         let patches =
             poke_patches::<NW, PAGES>(self.alloc, &self.timeline, step, address, value)?;
         let prepared = self.trace.prepare_edit(self.alloc, &patches)?;
@@ -48,12 +49,13 @@ impl<const NW: usize, const PAGES: usize, const K: u32> Bench<NW, PAGES, K> {
     pub fn clear_poke(&mut self, step: u32, address: u32) -> Result<(), BenchFault>
         ensures accepted { OnOk result (clear_poke_fault step address self.old.kept.timeline ≡ None) }
         ensures edited { OnOk result (IsEdited K (with_timeline (without_poke step address self.old.kept.timeline) self.old.kept) self.old self.new
-            (clear_changes NW PAGES step address self.old.kept.timeline)) }
+            (clear_changes self.old.kept.windows self.old.kept.pages step address self.old.kept.timeline)) }
         ensures refused { IfErr result (IsTimelineFault (clear_poke_fault step address self.old.kept.timeline)) }
         ensures unchanged { OnErr result (self.new ≡ self.old) }
     {
         self.timeline.check_clear_poke(step, address)?;
         let _limit = self.timeline.limit();
+        let _recorded = self.trace.recorded();
         let patches = clear_patches::<NW, PAGES>(self.alloc, &self.timeline, step, address)?;
         let prepared = self.trace.prepare_edit(self.alloc, &patches)?;
         self.timeline.clear_poke(step, address)?;
@@ -70,12 +72,13 @@ impl<const NW: usize, const PAGES: usize, const K: u32> Bench<NW, PAGES, K> {
     pub fn set_poke_byte(&mut self, step: u32, address: u32, value: u8) -> Result<(), BenchFault>
         ensures accepted { OnOk result (set_poke_byte_fault step address self.old.kept.timeline ≡ None) }
         ensures edited { OnOk result (IsEdited K (with_timeline (with_poke_byte step address value self.old.kept.timeline) self.old.kept) self.old self.new
-            (poke_byte_changes NW PAGES step address value self.old.kept.timeline)) }
+            (poke_byte_changes self.old.kept.windows self.old.kept.pages step address value self.old.kept.timeline)) }
         ensures refused { IfErr result (IsTimelineFault (set_poke_byte_fault step address self.old.kept.timeline)) }
         ensures unchanged { OnErr result (self.new ≡ self.old) }
     {
         self.timeline.check_set_poke_byte(step, address)?;
         let _limit = self.timeline.limit();
+        let _recorded = self.trace.recorded();
         let patches =
             poke_byte_patches::<NW, PAGES>(self.alloc, &self.timeline, step, address, value)?;
         let prepared = self.trace.prepare_edit(self.alloc, &patches)?;
@@ -94,12 +97,13 @@ impl<const NW: usize, const PAGES: usize, const K: u32> Bench<NW, PAGES, K> {
     pub fn clear_poke_byte(&mut self, step: u32, address: u32) -> Result<(), BenchFault>
         ensures accepted { OnOk result (clear_poke_byte_fault step address self.old.kept.timeline ≡ None) }
         ensures edited { OnOk result (IsEdited K (with_timeline (without_poke_byte step address self.old.kept.timeline) self.old.kept) self.old self.new
-            (clear_byte_changes NW PAGES step address self.old.kept.timeline)) }
+            (clear_byte_changes self.old.kept.windows self.old.kept.pages step address self.old.kept.timeline)) }
         ensures refused { IfErr result (IsTimelineFault (clear_poke_byte_fault step address self.old.kept.timeline)) }
         ensures unchanged { OnErr result (self.new ≡ self.old) }
     {
         self.timeline.check_clear_poke_byte(step, address)?;
         let _limit = self.timeline.limit();
+        let _recorded = self.trace.recorded();
         let patches = clear_byte_patches::<NW, PAGES>(self.alloc, &self.timeline, step, address)?;
         let prepared = self.trace.prepare_edit(self.alloc, &patches)?;
         self.timeline.clear_poke_byte(step, address)?;
@@ -156,12 +160,13 @@ impl<const NW: usize, const PAGES: usize, const K: u32> Bench<NW, PAGES, K> {
     pub fn set_request(&mut self, step: u32, level: u32) -> Result<(), BenchFault>
         ensures accepted { OnOk result (set_request_fault step level self.old.kept.timeline ≡ None) }
         ensures edited { OnOk result (IsEdited K (with_timeline (with_request step level self.old.kept.timeline) self.old.kept) self.old self.new
-            (request_changes NW PAGES step level self.old.kept.timeline)) }
+            (request_changes self.old.kept.windows self.old.kept.pages step level self.old.kept.timeline)) }
         ensures refused { IfErr result (IsTimelineFault (set_request_fault step level self.old.kept.timeline)) }
         ensures unchanged { OnErr result (self.new ≡ self.old) }
     {
         self.timeline.check_set_request(step, level)?;
         let _limit = self.timeline.limit();
+        let _recorded = self.trace.recorded();
         let patches = request_patches::<NW, PAGES>(self.alloc, &self.timeline, step, level)?;
         let prepared = self.trace.prepare_edit(self.alloc, &patches)?;
         self.timeline.set_request(self.alloc, step, level)?;
@@ -178,12 +183,13 @@ impl<const NW: usize, const PAGES: usize, const K: u32> Bench<NW, PAGES, K> {
     pub fn clear_request(&mut self, step: u32, level: u32) -> Result<(), BenchFault>
         ensures accepted { OnOk result (clear_request_fault step level self.old.kept.timeline ≡ None) }
         ensures edited { OnOk result (IsEdited K (with_timeline (without_request step level self.old.kept.timeline) self.old.kept) self.old self.new
-            (clear_request_changes NW PAGES step level self.old.kept.timeline)) }
+            (clear_request_changes self.old.kept.windows self.old.kept.pages step level self.old.kept.timeline)) }
         ensures refused { IfErr result (IsTimelineFault (clear_request_fault step level self.old.kept.timeline)) }
         ensures unchanged { OnErr result (self.new ≡ self.old) }
     {
         self.timeline.check_clear_request(step, level)?;
         let _limit = self.timeline.limit();
+        let _recorded = self.trace.recorded();
         let patches = clear_request_patches::<NW, PAGES>(self.alloc, &self.timeline, step, level)?;
         let prepared = self.trace.prepare_edit(self.alloc, &patches)?;
         self.timeline.clear_request(step, level)?;

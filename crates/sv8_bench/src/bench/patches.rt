@@ -18,7 +18,8 @@ use sv8_trace::{Cause, Cell, Content, NO_END, Patch};
 
 /// The next step above one that pokes a byte, or no end.
 fn next_poke(timeline: &Timeline, address: u32, after: u32) -> u32
-    ensures { result ≡ next_poke address after timeline.now }
+    ensures value { result ≡ next_poke address after timeline.now }
+    ensures later { after ≤ result }
 {
     timeline.next_poke(address, after).unwrap_or(NO_END)
 }
@@ -35,7 +36,8 @@ fn first_poke(timeline: &Timeline, address: u32) -> u32
 
 /// The step of the next request of a level above one, or no end.
 fn next_request(timeline: &Timeline, level: u32, after: u32) -> u32
-    ensures { result ≡ next_request level after timeline.now }
+    ensures value { result ≡ next_request level after timeline.now }
+    ensures later { after ≤ result }
 {
     timeline.next_request(level, after).unwrap_or(NO_END)
 }
@@ -288,6 +290,7 @@ pub(crate) fn image_patches<const NW: usize, const PAGES: usize>(
         → AreContents PAGES (reset_state NW PAGES old).memory → changes_of NW PAGES v.items ≡ image_changes NW PAGES old new timeline.now) }
     ensures patches { IfOk result (λ v. All (IsPatch PAGES) v.items) }
 {
+    let _size = reset.ram_size();
     let mut patches = Vec::new(alloc);
     for change in words {
         add_word(&mut patches, timeline, change, reset)?;
