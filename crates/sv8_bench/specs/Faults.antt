@@ -62,7 +62,3 @@ IsQueryFault refusal fault = (refusal ≡ Some fault) ⊎ ((refusal ≡ None) ×
 -- the fault of an edit of the timeline, told as the workbench's own
 abbrev pub IsTimelineFault : Option TimeFault → BenchFault → Type 0
 IsTimelineFault refusal fault = IsQueryFault (option_map of_time refusal) fault
-
--- the same where no memory is taken
-abbrev pub IsTimelineRefusal : Option TimeFault → BenchFault → Type 0
-IsTimelineRefusal refusal fault = option_map of_time refusal ≡ Some fault

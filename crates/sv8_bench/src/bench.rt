@@ -15,6 +15,7 @@ mod patches;
 mod queries;
 
 use crate::bench::patches::image_patches;
+pub use crate::bench::queries::LAST_STEP;
 use crate::fault::BenchFault;
 use std::alloc::{AllocError, Global};
 use std::marker::Model;
@@ -22,8 +23,6 @@ use sv8_cpu::{Machine, Work};
 use sv8_source::{Listed, Source};
 use sv8_time::Timeline;
 use sv8_trace::Trace;
-
-pub use crate::bench::queries::LAST_STEP;
 
 /// A workbench over a machine with `NW` register windows (2 to 32), `PAGES` pages of 4,096 bytes of RAM
 /// (1 to 65,536), and a checkpoint every `K` steps (1 to 1,000,000).

@@ -4,7 +4,7 @@ use Rattle.std.proofs.lemmas.List.{take_all}
 use Rattle.sv8_bench.specs.declared.fault.BenchFault.{BenchFault}
 use Rattle.sv8_bench.specs.declared.fault.BenchFault.TheVariants.{OutOfMemory}
 use Rattle.sv8_bench.specs.Kept.{edited, with_timeline}
-use Rattle.sv8_bench.specs.Faults.{edit_refusal, of_source, of_time, IsQueryFault, IsTimelineFault, IsTimelineRefusal}
+use Rattle.sv8_bench.specs.Faults.{edit_refusal, of_source, of_time, IsQueryFault, IsTimelineFault}
 use Rattle.sv8_time.specs.declared.fault.TimeFault.{TimeFault}
 use Rattle.sv8_time.specs.declared.fault.TimeFault.TheVariants as time
 use Rattle.sv8_time.specs.Schedule.{Schedule, with_input, set_input_fault, has_input, is_one_too_many}
@@ -145,6 +145,15 @@ reply-source r (Err f) a b s l first last lines kept e ok new err old put = repl
 
 -- ---- an edit of the timeline
 
+-- what follows where a call answers, and where it is refused
+pub on_ok : {A E P Q : Type 0} (r : Result A E) → (P → Q) → OnOk r P → OnOk r Q
+on_ok (Ok x) f p = f p
+on_ok (Err e) f p = tt
+
+pub on_err : {A E P Q : Type 0} (r : Result A E) → (P → Q) → OnErr r P → OnErr r Q
+on_err (Ok x) f p = tt
+on_err (Err e) f p = f p
+
 pub reply-timeline : {A E : Type 0} (r : Result A E) (edit : Result (Unit {0}) BenchFault) (a b : Option (List ℕ)) (s l : State) (fault : Option TimeFault) (timeline : Schedule)
     → OnOk edit (fault ≡ None) → OnOk edit (l ≡ with_timeline timeline s) → IfErr edit (IsTimelineFault fault) → OnErr edit (l ≡ s) → Puts r a b (edit_text edit)
     → Replies r a b s (timeline_outcome fault timeline s) l
@@ -152,13 +161,6 @@ reply-timeline r (Ok u) a b s l fault timeline ok new err old put =
     reply-done r a b s l (option_map of_time fault) (changed (with_timeline timeline s)) ok_line (ap (option_map of_time) ok) refl (sym new) put
 reply-timeline r (Err e) a b s l fault timeline ok new err old put =
     reply-refused r a b s l (option_map of_time fault) (changed (with_timeline timeline s)) e err refl old put
-
--- one that takes no memory
-pub reply-cleared : {A E : Type 0} (r : Result A E) (edit : Result (Unit {0}) BenchFault) (a b : Option (List ℕ)) (s l : State) (fault : Option TimeFault) (timeline : Schedule)
-    → OnOk edit (fault ≡ None) → OnOk edit (l ≡ with_timeline timeline s) → IfErr edit (IsTimelineRefusal fault) → OnErr edit (l ≡ s) → Puts r a b (edit_text edit)
-    → Replies r a b s (timeline_outcome fault timeline s) l
-reply-cleared r (Ok u) a b s l fault timeline ok new err old put = reply-timeline r (Ok u) a b s l fault timeline ok new tt old put
-reply-cleared r (Err e) a b s l fault timeline ok new err old put = reply-timeline r (Err e) a b s l fault timeline ok new (inl err) old put
 
 -- ---- an input of which at most 1,025 bytes were handed on
 

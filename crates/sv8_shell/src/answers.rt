@@ -23,7 +23,7 @@ pub fn answer<const NW: usize, const PAGES: usize, const K: u32, W: Write>(
     writer: &mut W,
     command: Command<'_>,
 ) -> Result<(), WriteFault>
-    ensures { Replies result (W.contents writer.old) (W.contents writer.new) bench.old (outcome_of command.entry bench.old) bench.new }
+    ensures { Replies result (W.contents writer.old) (W.contents writer.new) bench.old.kept (outcome_of command.entry bench.old.kept) bench.new.kept }
 {
     match command {
         Command::Edit { first, last, .. } => answer_edit(bench, writer, first, last, &[]),
@@ -68,7 +68,7 @@ pub fn answer_edit<const NW: usize, const PAGES: usize, const K: u32, W: Write>(
     lines: &[Vec<u8>],
 ) -> Result<(), WriteFault>
     ensures { (kept : List (List ℕ)) → texts lines.now ≡ take 65537 kept →
-        Replies result (W.contents writer.old) (W.contents writer.new) bench.old (edit_outcome first last kept bench.old) bench.new }
+        Replies result (W.contents writer.old) (W.contents writer.new) bench.old.kept (edit_outcome first last kept bench.old.kept) bench.new.kept }
 {
     tell_edit(writer, bench.replace_lines(first, last, lines))
 }
@@ -90,7 +90,7 @@ fn answer_input<const NW: usize, const PAGES: usize, const K: u32, W: Write>(
     step: u32,
     bytes: HexBytes<'_>,
 ) -> Result<(), WriteFault>
-    ensures { Replies result (W.contents writer.old) (W.contents writer.new) bench.old (outcome_of (Input step bytes.entry) bench.old) bench.new }
+    ensures { Replies result (W.contents writer.old) (W.contents writer.new) bench.old.kept (outcome_of (Input step bytes.entry) bench.old.kept) bench.new.kept }
 {
     let first = bytes.first();
     tell_edit(writer, bench.set_input(step, first.as_slice()))
@@ -100,7 +100,7 @@ fn answer_listing<const NW: usize, const PAGES: usize, const K: u32, W: Write>(
     bench: &Bench<NW, PAGES, K>,
     writer: &mut W,
 ) -> Result<(), WriteFault>
-    ensures { Replies result (W.contents writer.old) (W.contents writer.new) bench.now (outcome_of Listing bench.now) bench.now }
+    ensures { Replies result (W.contents writer.old) (W.contents writer.new) bench.now.kept (outcome_of Listing bench.now.kept) bench.now.kept }
 {
     let mut text = Text::new();
     match add_listing(bench, writer, &mut text) {
@@ -114,7 +114,7 @@ fn answer_regs<const NW: usize, const PAGES: usize, const K: u32, W: Write>(
     writer: &mut W,
     step: u32,
 ) -> Result<(), WriteFault>
-    ensures { Replies result (W.contents writer.old) (W.contents writer.new) bench.old (outcome_of (Regs step) bench.old) bench.new }
+    ensures { Replies result (W.contents writer.old) (W.contents writer.new) bench.old.kept (outcome_of (Regs step) bench.old.kept) bench.new.kept }
 {
     match bench.regs_at(step) {
         Ok(shown) => tell_regs(writer, step, &shown),
@@ -137,7 +137,7 @@ fn answer_mem<const NW: usize, const PAGES: usize, const K: u32, W: Write>(
     address: u32,
     count: u32,
 ) -> Result<(), WriteFault>
-    ensures { Replies result (W.contents writer.old) (W.contents writer.new) bench.old (outcome_of (Mem step address count) bench.old) bench.new }
+    ensures { Replies result (W.contents writer.old) (W.contents writer.new) bench.old.kept (outcome_of (Mem step address count) bench.old.kept) bench.new.kept }
 {
     match bench.words_at(step, address, count) {
         Ok(words) => tell_words(writer, address, words.as_slice()),
@@ -161,7 +161,7 @@ fn answer_out<const NW: usize, const PAGES: usize, const K: u32, W: Write>(
     writer: &mut W,
     step: u32,
 ) -> Result<(), WriteFault>
-    ensures { Replies result (W.contents writer.old) (W.contents writer.new) bench.old (outcome_of (Out step) bench.old) bench.new }
+    ensures { Replies result (W.contents writer.old) (W.contents writer.new) bench.old.kept (outcome_of (Out step) bench.old.kept) bench.new.kept }
 {
     match bench.output_at(step) {
         Ok(bytes) => tell_output(writer, bytes.as_slice()),
@@ -183,7 +183,7 @@ fn answer_quit<const NW: usize, const PAGES: usize, const K: u32, W: Write>(
     bench: &Bench<NW, PAGES, K>,
     writer: &mut W,
 ) -> Result<(), WriteFault>
-    ensures { Replies result (W.contents writer.old) (W.contents writer.new) bench.now (outcome_of Quit bench.now) bench.now }
+    ensures { Replies result (W.contents writer.old) (W.contents writer.new) bench.now.kept (outcome_of Quit bench.now.kept) bench.now.kept }
 {
     let _ = bench;
     done(writer)

@@ -44,8 +44,8 @@ fn take_byte<const NW: usize, const PAGES: usize, const K: u32, W: Write>(
 ) -> Result<Gathering, RunFault>
     requires { is_over gathering ≡ false }
     ensures { (old : Option (List ℕ)) (start : Kept) (given : List ℕ) →
-        Progress old (W.contents writer.old) start bench.old given place.old gathering →
-        TakesByte result old (W.contents writer.new) start bench.new given b place.new }
+        Progress old (W.contents writer.old) start bench.old.kept given place.old gathering →
+        TakesByte result old (W.contents writer.new) start bench.new.kept given b place.new }
 {
     if place.lines == MOST_LINES {
         return Err(RunFault::TooManyCommands);
@@ -79,8 +79,8 @@ pub fn take_piece<const NW: usize, const PAGES: usize, const K: u32, W: Write>(
 ) -> Result<Gathering, RunFault>
     requires { is_over gathering ≡ false }
     ensures { (old : Option (List ℕ)) (start : Kept) (given : List ℕ) →
-        Progress old (W.contents writer.old) start bench.old given place.old gathering →
-        TakesPiece result old (W.contents writer.new) start bench.new given piece.now place.new }
+        Progress old (W.contents writer.old) start bench.old.kept given place.old gathering →
+        TakesPiece result old (W.contents writer.new) start bench.new.kept given piece.now place.new }
 {
     let mut gathering = gathering;
     for b in piece {
@@ -106,8 +106,8 @@ pub fn finish<const NW: usize, const PAGES: usize, const K: u32, W: Write>(
     writer: &mut W,
 ) -> Result<(), WriteFault>
     ensures { (old : Option (List ℕ)) (start : Kept) (given : List ℕ) →
-        Progress old (W.contents writer.old) start bench.old given place.now gathering →
-        Does result old (W.contents writer.new) start (orders_of given) bench.new }
+        Progress old (W.contents writer.old) start bench.old.kept given place.now gathering →
+        Does result old (W.contents writer.new) start (orders_of given) bench.new.kept }
 {
     if place.line.is_empty() {
         return finish_edit(gathering, writer);

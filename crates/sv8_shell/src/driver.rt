@@ -39,7 +39,7 @@ pub fn run<const NW: usize, const PAGES: usize, const K: u32, R: Read, W: Write>
 ) -> Result<(), RunFault>
     // The whole session of the text.
     ensures ok { OnOk result (IfSome (R.remaining reader.old) (λ input.
-        Answered (W.contents writer.old) (W.contents writer.new) bench.old (orders_of input) bench.new)) }
+        Answered (W.contents writer.old) (W.contents writer.new) bench.old.kept (orders_of input) bench.new.kept)) }
 
     // A text that is too long ends so only by `quit`.
     ensures within { OnOk result (IfSome (R.remaining reader.old) (λ input.
@@ -47,17 +47,17 @@ pub fn run<const NW: usize, const PAGES: usize, const K: u32, R: Read, W: Write>
 
     // The session of the lines that ended before the fault.
     ensures read { OnRead result (AnsweredGiven (R.remaining reader.old) (R.remaining reader.new)
-        (W.contents writer.old) (W.contents writer.new) bench.old bench.new) }
+        (W.contents writer.old) (W.contents writer.new) bench.old.kept bench.new.kept) }
 
     // A prefix of the text that was due.
     ensures write { OnWrite result (IfSome (R.remaining reader.old) (λ input.
-        Cut (W.contents writer.old) (W.contents writer.new) bench.old (orders_of input) bench.new)) }
+        Cut (W.contents writer.old) (W.contents writer.new) bench.old.kept (orders_of input) bench.new.kept)) }
 
     // The session of the lines within the bounds.
     ensures too_long { OnTooMany result (IfSome (R.remaining reader.old) IsTooLong) }
     ensures too_many { OnTooMany result (IfSome (R.remaining reader.old) (λ input.
-        Answered (W.contents writer.old) (W.contents writer.new) bench.old
-        (orders_in (lines_within input)) bench.new)) }
+        Answered (W.contents writer.old) (W.contents writer.new) bench.old.kept
+        (orders_in (lines_within input)) bench.new.kept)) }
 
     // No `quit` was answered before it, as after a read fault.
     ensures no_quit { OnTooMany result (IfSome (R.remaining reader.old) (λ input. HasNoQuit (lines_within input))) }

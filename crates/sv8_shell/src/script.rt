@@ -24,7 +24,7 @@ pub fn take_line<const NW: usize, const PAGES: usize, const K: u32, W: Write>(
     line: &[u8],
 ) -> Result<Gathering, WriteFault>
     ensures { (stage : Stage) → IsAt gathering stage →
-        Steps result (W.contents writer.old) (W.contents writer.new) bench.old (step stage line.now) bench.new }
+        Steps result (W.contents writer.old) (W.contents writer.new) bench.old.kept (step stage line.now) bench.new.kept }
 {
     match gathering {
         Gathering::Idle => begin(alloc, bench, writer, line),
@@ -52,8 +52,8 @@ fn begin<const NW: usize, const PAGES: usize, const K: u32, W: Write>(
     writer: &mut W,
     line: &[u8],
 ) -> Result<Gathering, WriteFault>
-    ensures { Steps result (W.contents writer.old) (W.contents writer.new) bench.old
-        (step_of_line line.now) bench.new }
+    ensures { Steps result (W.contents writer.old) (W.contents writer.new) bench.old.kept
+        (step_of_line line.now) bench.new.kept }
 {
     if line.len() > 4_096 {
         return begin_bad(writer);
@@ -74,8 +74,8 @@ fn begin_text<const NW: usize, const PAGES: usize, const K: u32, W: Write>(
     writer: &mut W,
     text: &[u8],
 ) -> Result<Gathering, WriteFault>
-    ensures { Steps result (W.contents writer.old) (W.contents writer.new) bench.old
-        (step_of_words (words_of text.now)) bench.new }
+    ensures { Steps result (W.contents writer.old) (W.contents writer.new) bench.old.kept
+        (step_of_words (words_of text.now)) bench.new.kept }
 {
     match next_word(text) {
         None => return Ok(Gathering::Idle),
@@ -93,8 +93,8 @@ fn obey<const NW: usize, const PAGES: usize, const K: u32, W: Write>(
     writer: &mut W,
     command: Command<'_>,
 ) -> Result<Gathering, WriteFault>
-    ensures { Steps result (W.contents writer.old) (W.contents writer.new) bench.old
-        (step_of_command (Some command.entry)) bench.new }
+    ensures { Steps result (W.contents writer.old) (W.contents writer.new) bench.old.kept
+        (step_of_command (Some command.entry)) bench.new.kept }
 {
     let next = gathering_after(alloc, &command);
     if next.is_taking() {
@@ -140,8 +140,8 @@ fn go_on<const NW: usize, const PAGES: usize, const K: u32, W: Write>(
     line: &[u8],
 ) -> Result<Gathering, WriteFault>
     ensures { (lines : List (List ℕ)) → IsKept pending.lines lines →
-        Steps result (W.contents writer.old) (W.contents writer.new) bench.old
-        (step_of_edit pending.first pending.last pending.left (lines ++ text_of line.now ∷ [])) bench.new }
+        Steps result (W.contents writer.old) (W.contents writer.new) bench.old.kept
+        (step_of_edit pending.first pending.last pending.left (lines ++ text_of line.now ∷ [])) bench.new.kept }
 {
     let Pending {
         first,

@@ -32,8 +32,7 @@ impl<const NW: usize, const PAGES: usize, const K: u32> Bench<NW, PAGES, K> {
         self.timeline.check_set_poke(step, address)?;
         let _limit = self.timeline.limit();
         let _recorded = self.trace.recorded();
-        let patches =
-            poke_patches::<NW, PAGES>(self.alloc, &self.timeline, step, address, value)?;
+        let patches = poke_patches::<NW, PAGES>(self.alloc, &self.timeline, step, address, value)?;
         let prepared = self.trace.prepare_edit(self.alloc, &patches)?;
         self.timeline.set_poke(self.alloc, step, address, value)?;
         self.trace.commit(prepared);
@@ -79,8 +78,13 @@ impl<const NW: usize, const PAGES: usize, const K: u32> Bench<NW, PAGES, K> {
         self.timeline.check_set_poke_byte(step, address)?;
         let _limit = self.timeline.limit();
         let _recorded = self.trace.recorded();
-        let patches =
-            poke_byte_patches::<NW, PAGES>(self.alloc, &self.timeline, step, address, value)?;
+        let patches = poke_byte_patches::<NW, PAGES>(
+            self.alloc,
+            &self.timeline,
+            step,
+            address,
+            value,
+        )?;
         let prepared = self.trace.prepare_edit(self.alloc, &patches)?;
         self.timeline
             .set_poke_byte(self.alloc, step, address, value)?;

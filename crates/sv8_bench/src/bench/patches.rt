@@ -270,9 +270,27 @@ fn add_word<const NW: usize, const PAGES: usize>(
     let address = change.address;
     let [first, second, third, fourth] = change.old.to_be_bytes();
     add_image::<NW, PAGES>(patches, timeline, address, first, reset.byte(address))?;
-    add_image::<NW, PAGES>(patches, timeline, address + 1, second, reset.byte(address + 1))?;
-    add_image::<NW, PAGES>(patches, timeline, address + 2, third, reset.byte(address + 2))?;
-    add_image::<NW, PAGES>(patches, timeline, address + 3, fourth, reset.byte(address + 3))?;
+    add_image::<NW, PAGES>(
+        patches,
+        timeline,
+        address + 1,
+        second,
+        reset.byte(address + 1),
+    )?;
+    add_image::<NW, PAGES>(
+        patches,
+        timeline,
+        address + 2,
+        third,
+        reset.byte(address + 2),
+    )?;
+    add_image::<NW, PAGES>(
+        patches,
+        timeline,
+        address + 3,
+        fourth,
+        reset.byte(address + 3),
+    )?;
     Ok(())
 }
 

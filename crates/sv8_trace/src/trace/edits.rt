@@ -66,11 +66,7 @@ impl<const NW: usize, const PAGES: usize, const K: u32> Trace<NW, PAGES, K> {
     /// # Errors
     ///
     /// `AllocError` where memory for what changes cannot be had.
-    pub fn prepare_edit(
-        &self,
-        alloc: Global,
-        patches: &[Patch],
-    ) -> Result<Prepared, AllocError>
+    pub fn prepare_edit(&self, alloc: Global, patches: &[Patch]) -> Result<Prepared, AllocError>
         requires patches { All (IsPatch PAGES) patches.now }
         ensures fits { IfOk result (λ p. IsPreparedFor PAGES self.now p) }
         ensures prepared { IfOk result (λ p. Near (machine NW PAGES) K (prepared_trace NW PAGES K self.now p)

@@ -6,5 +6,5 @@ use Rattle.sv8_shell.proofs.bytes.take_piece.Given as goal
 
 abbrev pub invariant-loop-b : goal.invariant-loop-b
 invariant-loop-b g l =
-    (is_over l.gathering ≡ false) × ((old : Option (List ℕ)) (source : Kept) (given : List ℕ) → Progress old (g.W.Write.contents l.initial.writer) source l.initial.bench given l.initial.place l.initial.gathering
-    → Progress old (g.W.Write.contents l.writer) source l.bench (given ++ take l.b-index l.piece) l.place l.gathering)
+    (is_over l.gathering ≡ false) × ((old : Option (List ℕ)) (source : Kept) (given : List ℕ) → Progress old (g.W.Write.contents l.initial.writer) source l.initial.bench.kept given l.initial.place l.initial.gathering
+    → Progress old (g.W.Write.contents l.writer) source l.bench.kept (given ++ take l.b-index l.piece) l.place l.gathering)

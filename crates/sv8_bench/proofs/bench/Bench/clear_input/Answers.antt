@@ -12,10 +12,18 @@ invariant_of-self-2 g c =
     let k = g.row.K in
     let s = c.self.inside in
     let is = c.in_ok-clear_input.ensures.value in
-    let law = clear_input_edits g.row.NW g.row.PAGES s.source s.timeline (can g.row.NW g.row.PAGES k inv.4 s.source s.timeline s.trace s.work inv.8 inv.3 c.limit-limit.ensures.timeline inv.7) c.args.step in
-    (inv.0, inv.1, inv.2, inv.3, inv.4, inv.5, inv.6, ap (λ (t : Schedule). t.limit) is ∙ inv.7,
-    subst (λ t. IsRun k (record { kept = record { windows = g.row.NW; pages = g.row.PAGES; source = s.source; timeline = t }; recording = c.commit.new.self; worked = s.work })) (sym is)
-    (refed_run g.row.NW g.row.PAGES k inv.4 s.source s.timeline s.trace s.work inv.8 inv.3 c.limit-limit.ensures.timeline inv.7 c.args.step _ law c.in_ok-prepared.prepared c.commit.new.self c.in_ok-prepared.ensures.prepared c.commit.ensures))
+    let law = clear_input_edits g.row.NW g.row.PAGES s.source s.timeline (can g.row.NW g.row.PAGES k inv.4 s.source s.timeline s.trace s.work inv.8 inv.3 c.limit-limit.ensures.timeline inv.7) c.args.step in (
+      inv.0,
+      inv.1,
+      inv.2,
+      inv.3,
+      inv.4,
+      inv.5,
+      inv.6,
+      ap (λ (t : Schedule). t.limit) is ∙ inv.7,
+      subst (λ t. IsRun k (record { kept = record { windows = g.row.NW; pages = g.row.PAGES; source = s.source; timeline = t }; recording = c.commit.new.self; worked = s.work })) (sym is)
+          (refed_run g.row.NW g.row.PAGES k inv.4 s.source s.timeline s.trace s.work inv.8 inv.3 c.limit-limit.ensures.timeline inv.7 c.args.step _ law c.in_ok-prepared.prepared c.commit.new.self c.in_ok-prepared.ensures.prepared c.commit.ensures),
+    )
 
 pub returns-clause-edited : goal.returns-clause-edited
 returns-clause-edited g c =

@@ -42,11 +42,19 @@ invariant_of-self g c =
     let law = image_edits g.row.NW g.row.PAGES s.source next s.timeline (can g.row.NW g.row.PAGES k inv.4 s.source s.timeline s.trace s.work inv.8 inv.3 c.limit-limit.ensures.timeline inv.7) (bytes_below g.row.NW g.row.PAGES next contents) in
     let shown : c.deref.result.now ≡ c.in_ok-patches.patches.items = search rules in
     let words = c.changes.ensures ∙ c.in_ok-plan.ensures.changed in
-    let made = ap (changes_of g.row.NW g.row.PAGES) shown ∙ c.in_ok-patches.ensures.changes s.source next inv.6 words reset inv.8.sound in
-    (inv.0, inv.1, inv.2, inv.3, inv.4, inv.5, ap (λ (t : Text). t.limit) (c.commit.ensures ∙ c.in_ok-plan.ensures.to) ∙ inv.6, inv.7,
-    subst (λ x. IsRun k (record { kept = record { windows = g.row.NW; pages = g.row.PAGES; source = x; timeline = s.timeline }; recording = c.commit-2.new.self; worked = s.work })) (sym c.commit.ensures)
-    (edited_run g.row.NW g.row.PAGES k inv.4 s.source s.timeline s.trace s.work inv.8 inv.3 c.limit-limit.ensures.timeline inv.7 few next s.timeline (image_changes g.row.NW g.row.PAGES s.source next s.timeline) law
-    c.deref.result.now made c.in_ok-prepared.prepared c.commit-2.new.self c.in_ok-prepared.ensures.prepared c.commit-2.ensures))
+    let made = ap (changes_of g.row.NW g.row.PAGES) shown ∙ c.in_ok-patches.ensures.changes s.source next inv.6 words reset inv.8.sound in (
+      inv.0,
+      inv.1,
+      inv.2,
+      inv.3,
+      inv.4,
+      inv.5,
+      ap (λ (t : Text). t.limit) (c.commit.ensures ∙ c.in_ok-plan.ensures.to) ∙ inv.6,
+      inv.7,
+      subst (λ x. IsRun k (record { kept = record { windows = g.row.NW; pages = g.row.PAGES; source = x; timeline = s.timeline }; recording = c.commit-2.new.self; worked = s.work })) (sym c.commit.ensures)
+          (edited_run g.row.NW g.row.PAGES k inv.4 s.source s.timeline s.trace s.work inv.8 inv.3 c.limit-limit.ensures.timeline inv.7 few next s.timeline (image_changes g.row.NW g.row.PAGES s.source next s.timeline) law
+          c.deref.result.now made c.in_ok-prepared.prepared c.commit-2.new.self c.in_ok-prepared.ensures.prepared c.commit-2.ensures),
+    )
 
 pub returns-clause-edited : goal.returns-clause-edited
 returns-clause-edited g c =

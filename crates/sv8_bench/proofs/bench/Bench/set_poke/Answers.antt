@@ -20,11 +20,19 @@ invariant_of-self-2 g c =
     let steps = c.recorded-recorded.ensures.steps in
     let few : recorded k s.trace ≤ 1000000 = omega (arith, bound, steps) in
     let shown : c.deref.result.now ≡ c.in_ok-patches.patches.items = search rules in
-    let law = poke_edits g.row.NW g.row.PAGES s.source s.timeline (can g.row.NW g.row.PAGES k inv.4 s.source s.timeline s.trace s.work inv.8 inv.3 c.limit-limit.ensures.timeline inv.7) c.args.step c.args.address c.args.value (poke_step c.args.step s.timeline c.args.address c.in_ok-check_set_poke.ensures.ok) (let p = poke_word c.args.step s.timeline c.args.address c.in_ok-check_set_poke.ensures.ok in p.0) (let p = poke_word c.args.step s.timeline c.args.address c.in_ok-check_set_poke.ensures.ok in let q = p.1 in let l = inv.7 in omega (arith, q, l)) in
-    (inv.0, inv.1, inv.2, inv.3, inv.4, inv.5, inv.6, ap (λ (t : Schedule). t.limit) is ∙ inv.7,
-    subst (λ t. IsRun k (record { kept = record { windows = g.row.NW; pages = g.row.PAGES; source = s.source; timeline = t }; recording = c.commit.new.self; worked = s.work })) (sym is)
-    (edited_run g.row.NW g.row.PAGES k inv.4 s.source s.timeline s.trace s.work inv.8 inv.3 c.limit-limit.ensures.timeline inv.7 few s.source (with_poke c.args.step c.args.address c.args.value s.timeline) (poke_changes g.row.NW g.row.PAGES c.args.step c.args.address c.args.value s.timeline) law
-    c.deref.result.now (ap (changes_of g.row.NW g.row.PAGES) shown ∙ c.in_ok-patches.ensures.changes) c.in_ok-prepared.prepared c.commit.new.self c.in_ok-prepared.ensures.prepared c.commit.ensures))
+    let law = poke_edits g.row.NW g.row.PAGES s.source s.timeline (can g.row.NW g.row.PAGES k inv.4 s.source s.timeline s.trace s.work inv.8 inv.3 c.limit-limit.ensures.timeline inv.7) c.args.step c.args.address c.args.value (poke_step c.args.step s.timeline c.args.address c.in_ok-check_set_poke.ensures.ok) (let p = poke_word c.args.step s.timeline c.args.address c.in_ok-check_set_poke.ensures.ok in p.0) (let p = poke_word c.args.step s.timeline c.args.address c.in_ok-check_set_poke.ensures.ok in let q = p.1 in let l = inv.7 in omega (arith, q, l)) in (
+      inv.0,
+      inv.1,
+      inv.2,
+      inv.3,
+      inv.4,
+      inv.5,
+      inv.6,
+      ap (λ (t : Schedule). t.limit) is ∙ inv.7,
+      subst (λ t. IsRun k (record { kept = record { windows = g.row.NW; pages = g.row.PAGES; source = s.source; timeline = t }; recording = c.commit.new.self; worked = s.work })) (sym is)
+          (edited_run g.row.NW g.row.PAGES k inv.4 s.source s.timeline s.trace s.work inv.8 inv.3 c.limit-limit.ensures.timeline inv.7 few s.source (with_poke c.args.step c.args.address c.args.value s.timeline) (poke_changes g.row.NW g.row.PAGES c.args.step c.args.address c.args.value s.timeline) law
+          c.deref.result.now (ap (changes_of g.row.NW g.row.PAGES) shown ∙ c.in_ok-patches.ensures.changes) c.in_ok-prepared.prepared c.commit.new.self c.in_ok-prepared.ensures.prepared c.commit.ensures),
+    )
 
 pub returns-clause-edited : goal.returns-clause-edited
 returns-clause-edited g c =

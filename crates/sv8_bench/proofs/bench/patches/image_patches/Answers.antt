@@ -16,9 +16,9 @@ loop-change-init g c =
 pub loop-change-preserved : goal.loop-change-preserved
 loop-change-preserved g c = record {
   changes =
-  words_more (word_changes g.row.NW g.row.PAGES c.args.reset.now.memory.ram c.args.timeline.now) c.args.words.now c.loop-change.change-index (record { address = 0; old = 0; new = 0 })
-  (changes_of g.row.NW g.row.PAGES c.loop-change.patches.items) (changes_of g.row.NW g.row.PAGES c.add_word.new.patches.items) _ c.loop-change-test.true c.loop-change.invariant.changes
-  (c.in_ok-add_word.ensures.changes ∙ four_more (changes_of g.row.NW g.row.PAGES c.loop-change.patches.items) _ _ _ _);
+      words_more (word_changes g.row.NW g.row.PAGES c.args.reset.now.memory.ram c.args.timeline.now) c.args.words.now c.loop-change.change-index (record { address = 0; old = 0; new = 0 })
+      (changes_of g.row.NW g.row.PAGES c.loop-change.patches.items) (changes_of g.row.NW g.row.PAGES c.add_word.new.patches.items) _ c.loop-change-test.true c.loop-change.invariant.changes
+      (c.in_ok-add_word.ensures.changes ∙ four_more (changes_of g.row.NW g.row.PAGES c.loop-change.patches.items) _ _ _ _);
   patches = c.in_ok-add_word.ensures.patches;
 }
 
