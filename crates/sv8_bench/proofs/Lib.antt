@@ -1,4 +1,5 @@
-pub mod ImageWords
 pub mod ShownWords
+pub mod ImageWords
+pub mod Queried
 pub mod Places
 pub mod Edited

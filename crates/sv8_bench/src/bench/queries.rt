@@ -223,6 +223,7 @@ impl<const NW: usize, const PAGES: usize, const K: u32> Bench<NW, PAGES, K> {
         )?;
         let machine = self.trace.restore(self.alloc, step)?;
         let from = step - step % K;
-        run_on(machine, from, step, &self.timeline, &mut self.work)
+        let machine = run_on(machine, from, step, &self.timeline, &mut self.work)?;
+        Ok(machine)
     }
 }
