@@ -4,6 +4,7 @@ ghost use Rattle.std.specs.Prelude.{◌≤◌};
 
 use std::alloc::{AllocError, Global};
 use std::fs;
+use crate::commands::command_end;
 use sv8_bench::Bench;
 use sv8_shell::{RunFault, run};
 use thiserror::Error;
@@ -65,14 +66,67 @@ fn answer_of<const NW: usize>(alloc: Global, script: &[u8]) -> Result<Vec<u8>, C
     }
 }
 
-/// What a script answers with as many windows as the case's name says.
-pub fn run_case(alloc: Global, name: &str, script: &[u8]) -> Result<Vec<u8>, CaseFault> {
+/// The counts of a new workbench of `NW` windows after each command of a script that it answers: a line `recorded R worked W` each.
+fn counts_of<const NW: usize>(alloc: Global, script: &[u8]) -> Result<Vec<u8>, CaseFault>
+    requires some_windows { 2 ≤ NW }
+    requires few_windows { NW ≤ 32 }
+{
+    let mut bench = Bench::<NW, PAGES, CHECKPOINT_STEPS>::new(alloc)?;
+    let mut rest = script;
+    let mut counts = Vec::new(alloc);
+    for _command in 0..script.len() {
+        let (mut command, later) = rest.split_at(command_end(rest));
+        rest = later;
+        let mut written = Vec::new(alloc);
+        match run(alloc, &mut bench, &mut command, &mut written) {
+            Ok(()) => {}
+            Err(fault) => return Err(CaseFault::Run(fault)),
+        }
+        if !written.is_empty() {
+            let line = format!(in alloc; "recorded {} worked {}\n", bench.recorded(), bench.worked())?;
+            counts.extend_from_slice(line.as_bytes())?;
+        }
+    }
+    Ok(counts)
+}
+
+/// What is asked of a case.
+#[derive(Drop, Clone, Copy)]
+pub enum Wanted {
+    /// What its script answers.
+    Answer,
+    /// The counts of its workbench after each command.
+    Counts,
+}
+
+/// What a new workbench of `NW` windows makes of a script.
+fn wanted_of<const NW: usize>(
+    alloc: Global,
+    script: &[u8],
+    wanted: Wanted,
+) -> Result<Vec<u8>, CaseFault>
+    requires some_windows { 2 ≤ NW }
+    requires few_windows { NW ≤ 32 }
+{
+    match wanted {
+        Wanted::Answer => answer_of::<NW>(alloc, script),
+        Wanted::Counts => counts_of::<NW>(alloc, script),
+    }
+}
+
+/// What a script makes of a workbench with as many windows as the case's name says.
+pub fn run_case(
+    alloc: Global,
+    name: &str,
+    script: &[u8],
+    wanted: Wanted,
+) -> Result<Vec<u8>, CaseFault> {
     match name.rsplit_once("-w") {
-        Some((_, "2")) => answer_of::<2>(alloc, script),
-        Some((_, "4")) => answer_of::<4>(alloc, script),
-        Some((_, "8")) => answer_of::<8>(alloc, script),
-        Some((_, "16")) => answer_of::<16>(alloc, script),
-        Some((_, "32")) => answer_of::<32>(alloc, script),
+        Some((_, "2")) => wanted_of::<2>(alloc, script, wanted),
+        Some((_, "4")) => wanted_of::<4>(alloc, script, wanted),
+        Some((_, "8")) => wanted_of::<8>(alloc, script, wanted),
+        Some((_, "16")) => wanted_of::<16>(alloc, script, wanted),
+        Some((_, "32")) => wanted_of::<32>(alloc, script, wanted),
         _ => Err(CaseFault::NoWindows),
     }
 }

@@ -1,11 +1,12 @@
 //! `sv8_cases [FOLDER]`: runs the scripts of a folder, or of the one that it is run in, and compares what they answer
 //! with the answers that are due.
 //!
-//! A case `NAME-wN` is a script `NAME-wN.txt`, run with N register windows, and the answer beside it, `NAME-wN.answer`. For each case
-//! that differs a line says where first. The exit status is 0 where none does.
+//! A case `NAME-wN` is a script `NAME-wN.txt`, run with N register windows, and the answer beside it, `NAME-wN.answer`. Where there is a
+//! file `NAME-wN.counts`, it has the counts of the workbench after each command. For each case that differs a line says where first. The exit status is 0 where none does.
 #![tactic(auto)]
 
 mod case;
+mod commands;
 mod difference;
 mod report;
 

@@ -1,6 +1,6 @@
 //! The report: a line for each case that differs, and the counts.
 
-use crate::case::{CaseFault, read_file, run_case};
+use crate::case::{CaseFault, Wanted, read_file, run_case};
 use crate::difference::first_difference;
 use anyhow::{Context, Result};
 use std::io::{BufWriter, Write};
@@ -46,9 +46,33 @@ pub fn run_cases(rt: &HostRuntime) -> Result<u64> {
     Ok(differing)
 }
 
-/// Runs a case, and writes a line where its answer is not the one that is due. Tells whether it is.
+/// Runs a case, and writes a line where its answer, or one of its counts, is not the one that is due. Tells whether all are.
 fn tell<W: Write>(rt: &HostRuntime, folder: &str, name: &str, out: &mut W) -> Result<bool> {
-    match answers(rt, folder, name) {
+    let answered = tell_wanted(rt, folder, name, Wanted::Answer, out)?;
+    if read_file(rt, folder, name, ending_of(Wanted::Counts)).is_err() {
+        return Ok(answered);
+    }
+    let counted = tell_wanted(rt, folder, name, Wanted::Counts, out)?;
+    Ok(answered && counted)
+}
+
+/// The ending of the file that has what is due.
+fn ending_of(wanted: Wanted) -> &'static str {
+    match wanted {
+        Wanted::Answer => "answer",
+        Wanted::Counts => "counts",
+    }
+}
+
+/// Runs a case for one of these, and writes a line where it is not the one that is due. Tells whether it is.
+fn tell_wanted<W: Write>(
+    rt: &HostRuntime,
+    folder: &str,
+    name: &str,
+    wanted: Wanted,
+    out: &mut W,
+) -> Result<bool> {
+    match texts(rt, folder, name, wanted) {
         Ok((due, came)) => compare(name, &due, &came, out),
         Err(fault) => {
             writeln!(out, "{name}: {fault}")?;
@@ -57,11 +81,16 @@ fn tell<W: Write>(rt: &HostRuntime, folder: &str, name: &str, out: &mut W) -> Re
     }
 }
 
-/// The answer that is due to a case, and the one that came.
-fn answers(rt: &HostRuntime, folder: &str, name: &str) -> Result<(Vec<u8>, Vec<u8>), CaseFault> {
+/// The text that is due to a case, and the one that came.
+fn texts(
+    rt: &HostRuntime,
+    folder: &str,
+    name: &str,
+    wanted: Wanted,
+) -> Result<(Vec<u8>, Vec<u8>), CaseFault> {
     let script = read_file(rt, folder, name, "txt")?;
-    let due = read_file(rt, folder, name, "answer")?;
-    let came = run_case(rt.alloc(), name, &script)?;
+    let due = read_file(rt, folder, name, ending_of(wanted))?;
+    let came = run_case(rt.alloc(), name, &script, wanted)?;
     Ok((due, came))
 }
 
