@@ -2,9 +2,9 @@
 
 ghost use Rattle.std.specs.Prelude.{◌≤◌};
 
+use crate::commands::command_end;
 use std::alloc::{AllocError, Global};
 use std::fs;
-use crate::commands::command_end;
 use sv8_bench::Bench;
 use sv8_shell::{RunFault, run};
 use thiserror::Error;
@@ -83,7 +83,11 @@ fn counts_of<const NW: usize>(alloc: Global, script: &[u8]) -> Result<Vec<u8>, C
             Err(fault) => return Err(CaseFault::Run(fault)),
         }
         if !written.is_empty() {
-            let line = format!(in alloc; "recorded {} worked {}\n", bench.recorded(), bench.worked())?;
+            let line = format!(in alloc;
+                "recorded {} worked {}\n",
+                bench.recorded(),
+                bench.worked()
+            )?;
             counts.extend_from_slice(line.as_bytes())?;
         }
     }
