@@ -20,10 +20,9 @@ use Rattle.sv8_cpu.specs.Recorded.{machine, run_of, AreEvents, IsSound}
 use Rattle.sv8_cpu.proofs.RecordedActs.{framed}
 use Rattle.sv8_edits.specs.EditLaws.{CanRun, Edits, Refeeds}
 use Rattle.sv8_trace.specs.declared.patch.Patch.{Patch}
-use Rattle.sv8_trace.specs.declared.prepared.Staged.{Staged}
 use Rattle.sv8_trace.specs.Patch.{changes_of}
 use Rattle.sv8_trace.specs.Recording.{Recording, recorded, trace_of}
-use Rattle.sv8_trace.specs.Prepared.{prepared_trace, Near}
+use Rattle.sv8_trace.specs.Prepared.{prepared_trace, Near, Preparation}
 use Rattle.sv8_trace.proofs.Nearness.{near_agrees, agrees_along}
 use Rattle.sv8_bench.specs.Kept.{Kept}
 use Rattle.sv8_bench.specs.Workbench.{Workbench, IsRun, IsEdited, IsRefed, run_of_kept}
@@ -45,7 +44,7 @@ module _ (windows pages k : ℕ) (pos : 0 < k) where
 
       -- cells are edited
       module _ (steps : recorded k r ≤ 1000000) (source' : Text) (s' : Schedule) (cs : List (Change (machine windows pages))) (edits : Edits windows pages cs source s source' s' can)
-          (ps : List Patch) (is : changes_of windows pages ps ≡ cs) (staged : Staged) (r' : Recording)
+          (ps : List Patch) (is : changes_of windows pages ps ≡ cs) (staged : Preparation) (r' : Recording)
           (near : Near (machine windows pages) k (prepared_trace windows pages k r staged) (history.edited (machine windows pages) k (trace_of windows pages k r) (changes_of windows pages ps)))
           (agrees : Agrees (machine windows pages) k (prepared_trace windows pages k r staged) (trace_of windows pages k r')) where
         agreed : Agrees (machine windows pages) k (history.edited (machine windows pages) k (trace_of windows pages k r) cs) (trace_of windows pages k r')
@@ -74,7 +73,7 @@ module _ (windows pages k : ℕ) (pos : 0 < k) where
         }
 
       -- the input from a step on is edited
-      module _ (step : ℕ) (s' : Schedule) (refeeds : Refeeds windows pages step source s s' can) (staged : Staged) (r' : Recording)
+      module _ (step : ℕ) (s' : Schedule) (refeeds : Refeeds windows pages step source s s' can) (staged : Preparation) (r' : Recording)
           (near : Near (machine windows pages) k (prepared_trace windows pages k r staged) (history_input.edited_input (machine windows pages) k (trace_of windows pages k r) step))
           (agrees : Agrees (machine windows pages) k (prepared_trace windows pages k r staged) (trace_of windows pages k r')) where
         fed_agreed : Agrees (machine windows pages) k (history_input.edited_input (machine windows pages) k (trace_of windows pages k r) step) (trace_of windows pages k r')

@@ -131,13 +131,13 @@ patched_more windows pages k pos ps i d v w x h near whole =
 
 -- ---- the first write
 
-pub first_write_is : (m : Machine) (v : Trace m) (c : m.Cell) (from end : ℕ) (o : Option ℕ) → end ≤ 1000000 → IsFirstBelow (λ n. (v.notes n).writes c) from (min 4294967295 end) o
+pub first_write_is : (m : Machine) (v : Trace m) (c : m.Cell) (from end recorded : ℕ) (o : Option ℕ) → end ≤ recorded → recorded ≤ 1000000 → IsFirstBelow (λ n. (v.notes n).writes c) from (min end recorded) o
     → IsFirstWrite m v c from end (unwrap_or o 4294967295)
-first_write_is m v c from end None few h = record {
-  before = λ n a b l. h n a (omega (arith, few, l));
-  at = λ l. absurd (omega (arith, few, l));
+first_write_is m v c from end recorded None le few h = record {
+  before = λ n a b l. h n a (omega (arith, le, l));
+  at = λ l. absurd (omega (arith, le, few, l));
 }
-first_write_is m v c from end (Some s) few h = record {
+first_write_is m v c from end recorded (Some s) le few h = record {
   before = λ n a b l. h.3 n a b;
   at = λ l. (h.0, h.2);
 }
@@ -339,3 +339,28 @@ raised_from m old mid now c v to wrote same law n b =
 
 pub points_kept : (windows pages k : ℕ) (r : Recording) (mid now : Staged) → now ≡ record mid { kept = now.kept } → (i : ℕ) → i ≤ mid.count → (prepared_trace windows pages k r now).point (k * i) ≡ (prepared_trace windows pages k r mid).point (k * i)
 points_kept windows pages k r mid now rest i h = ap (λ (s : Staged). placed s (k * i / k) (get_or r.points (k * i / k) blank)) rest
+
+-- ---- the end of a preparation, with other columns that show the same pages
+
+pub finished_fits : (pages : ℕ) (r : Recording) (s now : Staged) → now ≡ record s { pages = now.pages } → now.pages.items ≡ s.pages.items → IsPreparedFor pages r s → IsPreparedFor pages r now
+finished_fits pages r s now rest columns fits = record {
+  count = rw count fits.count;
+  pages_count = ap length columns ∙ fits.pages_count;
+  levels_count = ap (λ (x : Staged). length x.levels.items) rest ∙ fits.levels_count;
+  no_level = ap (λ (x : Staged). get_or x.levels.items 0 None) rest ∙ fits.no_level;
+  lists_count = ap (λ (x : Staged). length x.kept.items) rest ∙ fits.lists_count ∙ sym count;
+  whole_pages = λ p. let w = fits.whole_pages p in rw (columns, count) w;
+  whole_levels = λ l. let w = fits.whole_levels l in rw (ap (λ (x : Staged). x.levels.items) rest, count) w;
+}
+  where
+    count : now.count ≡ s.count
+    count = ap (λ (x : Staged). x.count) rest
+
+pub finished_trace : (windows pages k : ℕ) (r : Recording) (s now : Staged) → now ≡ record s { pages = now.pages } → now.pages.items ≡ s.pages.items → prepared_trace windows pages k r now ≡ prepared_trace windows pages k r s
+finished_trace windows pages k r s now rest columns = ap (prepared_trace windows pages k r) rest ∙ ap (with_columns windows pages k r s) columns
+  where
+    with_columns : (windows pages k : ℕ) (r : Recording) (s : Staged) → List (Option (List (List ℕ))) → Trace (machine windows pages)
+    with_columns windows pages k r s cs = record (prepared_trace windows pages k r s) {
+      point = λ n. let p = get_or r.points (n / k) blank in
+          record p { memory = record p.memory { ram = placed_pages 0 cs (n / k) p.memory.ram; pending = placed_levels 0 s.levels.items (n / k) p.memory.pending } };
+    }

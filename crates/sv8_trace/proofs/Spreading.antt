@@ -1,7 +1,9 @@
 -- The parts of a patch make the whole, for any machine.
 use Rattle.std.proofs.Common.{◌≡◌, ◌≢◌, ℕ, zero, suc, ◌+◌, ◌*◌, ◌/◌, ◌<◌, ◌≤◌, ◌==◌, List, [], ◌∷◌, length, drop, drop-cons, add-one, get_or, map, Bool, true, false, not, ◌&&◌, cond, leb, ltb, min, Option, Some, None, is_some, option_map, refl, sym, ◌∙◌, ap, ap₂, arith, inl, inr, ◌⊎◌, le-leb, lt-ltb, le-ltb, eqb-true, eq-eqb, ne_eqb, div-lt_iff_lt-mul, le-div_iff_mul-le, mul_comm, mul-le-mul_left}
 use Rattle.std.proofs.lemmas.Bool.{cases_lt, cases_eq, lt-leb, true≢false, true_from_ne_false}
-use Rattle.std.proofs.Math.Nat.{mul-div_cancel_left}
+use Rattle.std.proofs.Math.Nat.{mul-div_cancel_left, mul-suc}
+use Rattle.std.specs.Int.{div_ceil}
+use Rattle.std.proofs.lemmas.Grind.{div_ceil_times}
 use Rattle.sv8_history.specs.Machine.{Machine, writes_of}
 use Rattle.sv8_history.specs.Trace.{Trace, some_from, next_checkpoint}
 use Rattle.sv8_history.specs.Changes.{is_live}
@@ -40,6 +42,22 @@ after_step k t i pos = go (cases_lt t (k * i))
     go : (t < k * i) ⊎ (k * i ≤ t) → leb (suc t) (k * i) ≡ leb (t / k + 1) i
     go (inl h) = let w : t / k < i = (div-lt_iff_lt-mul pos).1 (rw (mul_comm i k) h) in rw (le-leb (suc t) (k * i) (omega arith), le-leb (t / k + 1) i (omega arith))
     go (inr h) = let w : i ≤ t / k = (le-div_iff_mul-le pos).1 (rw (mul_comm i k) h) in rw (lt-leb (suc t) (k * i) (omega arith), lt-leb (t / k + 1) i (omega arith))
+
+-- the first checkpoint that is not before a step
+pub from_step : (k t i : ℕ) → 0 < k → leb t (k * i) ≡ leb (div_ceil t k) i
+from_step k t i pos = go (cases_lt (k * i) t)
+  where
+    go : (k * i < t) ⊎ (t ≤ k * i) → leb t (k * i) ≡ leb (div_ceil t k) i
+    go (inl h) = before (cases_lt i (div_ceil t k))
+      where
+        before : (i < div_ceil t k) ⊎ (div_ceil t k ≤ i) → leb t (k * i) ≡ leb (div_ceil t k) i
+        before (inl l) = rw (lt-leb t (k * i) h, lt-leb (div_ceil t k) i l)
+        before (inr l) = let m = mul-le-mul_left k l in absurd (omega (arith, m, mul_comm k (div_ceil t k), (div_ceil_times t k pos).0, h))
+    go (inr h) = behind (cases_lt i (div_ceil t k))
+      where
+        behind : (i < div_ceil t k) ⊎ (div_ceil t k ≤ i) → leb t (k * i) ≡ leb (div_ceil t k) i
+        behind (inl l) = let m = mul-le-mul_left k l in absurd (omega (arith, m, mul_comm k (div_ceil t k), mul-suc k i, (div_ceil_times t k pos).1, h))
+        behind (inr l) = rw (le-leb t (k * i) h, le-leb (div_ceil t k) i l)
 
 leb_min : (i x y : ℕ) → leb i (min x y) ≡ (leb i x && leb i y)
 leb_min i x y = go (cases_lt x i) (cases_lt y i)

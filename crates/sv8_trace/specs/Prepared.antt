@@ -10,6 +10,10 @@ use Rattle.sv8_trace.specs.declared.prepared.Staged.{Staged}
 use Rattle.sv8_trace.specs.Kept.{kept_in}
 use Rattle.sv8_trace.specs.Recording.{Recording, blank, no_interval, trace_of}
 
+-- what was prepared, as it is seen from outside
+abbrev pub Preparation : Type 0
+Preparation = Staged
+
 -- RAM of checkpoint i, with the page of each column in its place; the first column is that of page p
 abbrev pub placed_pages : ℕ → List (Option (List (List ℕ))) → ℕ → List ℕ → List ℕ
 placed_pages p [] i ram = ram

@@ -103,8 +103,19 @@ impl KeptList {
         Ok(())
     }
 
-    /// Lets the values go of cells that are touched.
+    /// Lets the values go of cells that are touched. Mostly there are none.
+    #[inline(always)]
     pub(crate) fn forget(&mut self, touches: &[Touch])
+        ensures { self.new ≡ filter (λ k. not (is_touched touches.now (cell_of k.cell))) self.old }
+    {
+        if !self.is_empty() {
+            self.drop_touched(touches);
+        }
+    }
+
+    /// Looks at each value, and lets those go of cells that are touched.
+    #[inline(never)]
+    fn drop_touched(&mut self, touches: &[Touch])
         ensures { self.new ≡ filter (λ k. not (is_touched touches.now (cell_of k.cell))) self.old }
     {
         self.values.retain(|kept| !touches_cell(touches, kept.cell));

@@ -19,7 +19,6 @@ ghost use Rattle.sv8_trace.specs.Recorder.{below_byte, below_word, below_words, 
 use crate::cell::{Cell, Content};
 use crate::interval::Interval;
 use crate::kept::KeptList;
-use crate::notes::Notes;
 use crate::step_notes::StepNotes;
 use std::alloc::{AllocError, Global};
 use sv8_cpu::{Machine, Work};
@@ -189,10 +188,7 @@ pub(crate) fn record<const NW: usize, const PAGES: usize>(
     ensures raised { RaisedUpTo count work.old work.new }
 {
     let mut touches = StepNotes::new(alloc);
-    let mut interval = Interval {
-        notes: Notes::new(alloc),
-        kept: KeptList::new(alloc),
-    };
+    let mut interval = Interval::new(alloc);
     let mut machine = machine;
     for offset in 0..count {
         machine = record_step(
@@ -205,5 +201,5 @@ pub(crate) fn record<const NW: usize, const PAGES: usize>(
             work,
         )?;
     }
-    Ok((machine, interval))
+    Ok((machine, interval.copy()?))
 }

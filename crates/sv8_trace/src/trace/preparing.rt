@@ -17,11 +17,12 @@ ghost use Rattle.sv8_trace.specs.Prepared.{list_at, placed, prepared_trace, IsPr
 ghost use Rattle.sv8_trace.specs.Patching.{IsFirstWrite, KeptPut, PointsSet, RaisedAt};
 
 use crate::cell::{Cell, Content};
-use crate::column::{LevelColumn, PageColumn};
+use crate::column::LevelColumn;
 use crate::kept::KeptList;
 use crate::notes::Sought;
 use crate::patch::{Cause, Patch};
 use crate::prepared::{Prepared, Staged};
+use crate::runs::PageRuns;
 use crate::trace::{NO_END, Trace};
 use std::alloc::{AllocError, Global};
 
@@ -52,12 +53,13 @@ fn empty_places<T: Drop>(alloc: Global, count: usize) -> Result<Vec<Option<T>>, 
 }
 
 impl<const NW: usize, const PAGES: usize, const K: u32> Trace<NW, PAGES, K> {
-    /// The first recorded step from `from` on that writes a cell, or `NO_END`.
-    fn first_write(&self, cell: Cell, from: u32) -> u32
-        ensures { IsFirstWrite (machine NW PAGES) (trace_of NW PAGES K self.now) (cell_of cell) from (recorded K self.now) result }
+    /// The first step from `from` on that writes a cell, of those in front of a checkpoint, or `NO_END`.
+    fn first_write(&self, cell: Cell, from: u32, checkpoint: usize) -> u32
+        requires { checkpoint ≤ length self.now.intervals }
+        ensures { IsFirstWrite (machine NW PAGES) (trace_of NW PAGES K self.now) (cell_of cell) from (K * checkpoint) result }
     {
         let _points = &self.points;
-        self.first_from(Sought::Write(cell), from, NO_END)
+        self.first_from(Sought::Write(cell), from, K * checkpoint as u32)
             .unwrap_or(NO_END)
     }
 
@@ -151,16 +153,16 @@ impl<const NW: usize, const PAGES: usize, const K: u32> Trace<NW, PAGES, K> {
         alloc: Global,
         address: u32,
         count: usize,
-    ) -> Result<PageColumn, AllocError>
+    ) -> Result<PageRuns, AllocError>
         requires address { address < ram_size PAGES }
         requires count { count ≤ length self.now.points }
         ensures { IfOk result (λ c. c ≡ map (λ s. page_of s.memory.ram (address / 4096)) (take count self.now.points)) }
     {
-        let mut column = PageColumn::new(alloc);
+        let mut runs = PageRuns::new(alloc);
         for point in &self.points[..count] {
-            column.push(point.page(address)?)?;
+            runs.push(point.page(address)?)?;
         }
-        Ok(column)
+        Ok(runs)
     }
 
     /// Whether a level is pending in each of the first checkpoints.
@@ -191,7 +193,7 @@ impl<const NW: usize, const PAGES: usize, const K: u32> Trace<NW, PAGES, K> {
         let point = &self.points[index];
         match cell {
             Cell::Byte(address) => match &staged.pages[(address / PAGE_SIZE) as usize] {
-                Some(column) => Content::Byte(column.byte(index, address)),
+                Some(runs) => Content::Byte(runs.byte(index, address)),
                 None => cell.content(point),
             },
             Cell::Level(level) => match &staged.levels[level as usize] {
@@ -220,12 +222,12 @@ impl<const NW: usize, const PAGES: usize, const K: u32> Trace<NW, PAGES, K> {
     {
         let _points = &self.points;
         let page = (address / PAGE_SIZE) as usize;
-        let mut column = match staged.pages[page].take() {
-            Some(column) => column,
+        let mut runs = match staged.pages[page].take() {
+            Some(runs) => runs,
             None => self.gather_pages(alloc, address, staged.count + 1)?,
         };
-        column.set(low, end, address, value)?;
-        staged.pages[page] = Some(column);
+        runs.set(low, end, address, value)?;
+        staged.pages[page] = Some(runs);
         Ok(())
     }
 
@@ -296,7 +298,7 @@ impl<const NW: usize, const PAGES: usize, const K: u32> Trace<NW, PAGES, K> {
         requires fits { IsPreparedFor PAGES self.now staged.now }
         requires cell { IsCell PAGES cell }
         requires ordered { reach.from ≤ reach.to }
-        requires first { IsFirstWrite (machine NW PAGES) (trace_of NW PAGES K self.now) (cell_of cell) reach.from (recorded K self.now) reach.wrote }
+        requires first { IsFirstWrite (machine NW PAGES) (trace_of NW PAGES K self.now) (cell_of cell) reach.from (K * staged.now.count) reach.wrote }
         ensures kept { option_map content_of result ≡ kept_by_poke (machine NW PAGES) K (prepared_trace NW PAGES K self.now staged.now) (cell_of cell) reach.from reach.to }
         ensures inside { IfSome result (λ v. reach.from / K < staged.now.count) }
     {
@@ -357,7 +359,7 @@ impl<const NW: usize, const PAGES: usize, const K: u32> Trace<NW, PAGES, K> {
     ) -> Result<(), AllocError>
         requires fits { IsPreparedFor PAGES self.now staged.old }
         requires cell { IsCell PAGES cell }
-        requires first { IsFirstWrite (machine NW PAGES) (trace_of NW PAGES K self.now) (cell_of cell) reach.from (recorded K self.now) reach.wrote }
+        requires first { IsFirstWrite (machine NW PAGES) (trace_of NW PAGES K self.now) (cell_of cell) reach.from (K * staged.old.count) reach.wrote }
         ensures fits { OnOk result (IsPreparedFor PAGES self.now staged.new) }
         ensures near { OnOk result ((first : ℕ) → ((i : ℕ) → leb first (K * i) ≡ leb low i)
             → Near (machine NW PAGES) K (prepared_trace NW PAGES K self.now staged.new) (spread (machine NW PAGES) (prepared_trace NW PAGES K self.now staged.old) (cell_of cell) (content_of content) reach.from first reach.to)) }
@@ -371,7 +373,7 @@ impl<const NW: usize, const PAGES: usize, const K: u32> Trace<NW, PAGES, K> {
         Ok(())
     }
 
-    /// The source gives the cell another content, from step 0 on.
+    /// The source gives the cell another content, from the checkpoint of its step on.
     fn apply_image(
         &self,
         alloc: Global,
@@ -382,12 +384,13 @@ impl<const NW: usize, const PAGES: usize, const K: u32> Trace<NW, PAGES, K> {
     ) -> Result<(), AllocError>
         requires fits { IsPreparedFor PAGES self.now staged.old }
         requires cell { IsCell PAGES cell }
-        requires at_reset { reach.from ≡ 0 }
-        requires first { IsFirstWrite (machine NW PAGES) (trace_of NW PAGES K self.now) (cell_of cell) reach.from (recorded K self.now) reach.wrote }
+        requires first { IsFirstWrite (machine NW PAGES) (trace_of NW PAGES K self.now) (cell_of cell) reach.from (K * staged.old.count) reach.wrote }
         ensures fits { OnOk result (IsPreparedFor PAGES self.now staged.new) }
         ensures near { OnOk result (Near (machine NW PAGES) K (prepared_trace NW PAGES K self.now staged.new) (spread (machine NW PAGES) (prepared_trace NW PAGES K self.now staged.old) (cell_of cell) (content_of content) reach.from reach.from reach.to)) }
     {
-        self.spread_content(alloc, staged, cell, content, 0, reach)?;
+        let _points = &self.points;
+        let low = reach.from.div_ceil(K) as usize;
+        self.spread_content(alloc, staged, cell, content, low, reach)?;
         Ok(())
     }
 
@@ -403,7 +406,7 @@ impl<const NW: usize, const PAGES: usize, const K: u32> Trace<NW, PAGES, K> {
         requires fits { IsPreparedFor PAGES self.now staged.old }
         requires cell { IsCell PAGES cell }
         requires ordered { reach.from ≤ reach.to }
-        requires first { IsFirstWrite (machine NW PAGES) (trace_of NW PAGES K self.now) (cell_of cell) reach.from (recorded K self.now) reach.wrote }
+        requires first { IsFirstWrite (machine NW PAGES) (trace_of NW PAGES K self.now) (cell_of cell) reach.from (K * staged.old.count) reach.wrote }
         ensures fits { OnOk result (IsPreparedFor PAGES self.now staged.new) }
         ensures near { OnOk result (Near (machine NW PAGES) K (prepared_trace NW PAGES K self.now staged.new) (set_poke (machine NW PAGES) K (prepared_trace NW PAGES K self.now staged.old) (cell_of cell) (content_of content) reach.from reach.to)) }
     {
@@ -430,7 +433,7 @@ impl<const NW: usize, const PAGES: usize, const K: u32> Trace<NW, PAGES, K> {
     ) -> Result<(), AllocError>
         requires fits { IsPreparedFor PAGES self.now staged.old }
         requires cell { IsCell PAGES cell }
-        requires first { IsFirstWrite (machine NW PAGES) (trace_of NW PAGES K self.now) (cell_of cell) reach.from (recorded K self.now) reach.wrote }
+        requires first { IsFirstWrite (machine NW PAGES) (trace_of NW PAGES K self.now) (cell_of cell) reach.from (K * staged.old.count) reach.wrote }
         ensures fits { OnOk result (IsPreparedFor PAGES self.now staged.new) }
         ensures near { OnOk result (Near (machine NW PAGES) K (prepared_trace NW PAGES K self.now staged.new) (uncover (machine NW PAGES) (prepared_trace NW PAGES K self.now staged.old) (cell_of cell) reach.from reach.to ((prepared_trace NW PAGES K self.now staged.old).kept reach.from (cell_of cell)))) }
     {
@@ -457,7 +460,7 @@ impl<const NW: usize, const PAGES: usize, const K: u32> Trace<NW, PAGES, K> {
         let reach = Reach {
             from: patch.from,
             to: patch.to,
-            wrote: self.first_write(cell, patch.from),
+            wrote: self.first_write(cell, patch.from, staged.count),
         };
         match patch.cause {
             Cause::Image(content) => self.apply_image(alloc, staged, cell, content, reach),
@@ -489,6 +492,7 @@ impl<const NW: usize, const PAGES: usize, const K: u32> Trace<NW, PAGES, K> {
         for patch in patches {
             self.apply(alloc, &mut staged, *patch)?;
         }
-        Ok(Prepared { staged })
+        let prepared = staged.finish(alloc)?;
+        Ok(prepared)
     }
 }

@@ -11,7 +11,7 @@ loop-offset-init g c =
     record {
       state = refl;
       delivered = subst (λ x. c.args.machine.memory.taken ≤ bytes_below x c.args.timeline.now.inputs) (omega arith) c.requires.delivered;
-      recorded = rw (c.new.ensures, c.new-2.ensures) (recorded_none g.row.NW g.row.PAGES c.args.timeline.now c.args.n c.args.machine);
+      recorded = rw c.new-interval.ensures (recorded_none g.row.NW g.row.PAGES c.args.timeline.now c.args.n c.args.machine);
       counted = refl;
     }
 
@@ -32,3 +32,6 @@ loop-offset-preserved g c =
 
 pub returns-clause-raised : goal.returns-clause-raised
 returns-clause-raised g c = (c.loop-offset.offset, omega (arith, c.loop-offset.auto.offset-end), c.loop-offset.invariant.counted)
+
+pub returns-in_err-copy-clause-raised : goal.returns-in_err-copy-clause-raised
+returns-in_err-copy-clause-raised g c = (c.loop-offset.offset, omega (arith, c.loop-offset.auto.offset-end), c.loop-offset.invariant.counted)

@@ -1,4 +1,4 @@
-use Rattle.std.proofs.Common.{◌≡◌, ◌<◌, ◌≤◌, ◌+◌, ◌*◌, ◌/◌, ◌&&◌, leb, ltb, cond, length, false, true, Some, None, option_map, get_or, sym, ap, ◌∙◌, arith, le-leb, lt-ltb, le-ltb, mul-le-mul_left}
+use Rattle.std.proofs.Common.{◌≡◌, ◌<◌, ◌≤◌, ◌+◌, ◌*◌, ◌/◌, ◌&&◌, leb, ltb, cond, false, true, Some, None, option_map, get_or, sym, ap, ◌∙◌, arith, le-leb, lt-ltb, le-ltb, mul-le-mul_left}
 use Rattle.std.proofs.lemmas.Bool.{and_left, and_right, lt-leb}
 use Rattle.sv8_history.specs.Trace.{next_checkpoint}
 use Rattle.sv8_cpu.specs.Recorded.{machine, get}
@@ -31,9 +31,8 @@ returns-then-step-reach-2-clause-kept g c =
     let h : c.args.reach.from / k + 1 ≤ c.args.staged.now.count = omega (arith, c.if-next-staged.false) in
     let w = mul-le-mul_left k h in
     let in_cut : next_checkpoint k c.args.reach.from ≤ k * c.args.staged.now.count = omega (arith, w) in
-    let fits = mul-le-mul_left k c.requires.fits.count in
     let none = sym c.kept_value.ensures ∙ ap (option_map content_of) c.in-None.is in
-    let b = below_is m k pos v (cell_of c.args.cell) c.args.reach.from c.args.reach.to c.args.reach.wrote (k * length c.args.self.now.intervals) in_cut fits none (record { before = c.requires.first.before; at = c.requires.first.at }) in
+    let b = below_is m k pos v (cell_of c.args.cell) c.args.reach.from c.args.reach.to c.args.reach.wrote (k * c.args.staged.now.count) in_cut (omega arith) none (record { before = c.requires.first.before; at = c.requires.first.at }) in
     let p : leb (next_checkpoint k c.args.reach.from) c.args.reach.to ≡ true = le-leb (next_checkpoint k c.args.reach.from) c.args.reach.to (omega (arith, c.if-step-reach.true)) in
     let q : leb (next_checkpoint k c.args.reach.from) c.args.reach.wrote ≡ true = le-leb (next_checkpoint k c.args.reach.from) c.args.reach.wrote (omega (arith, c.if-step-reach-2.true)) in
     let i = next_index k c.args.reach.from pos in
@@ -49,9 +48,8 @@ returns-then-reach-clause-kept g c =
     let h : c.args.reach.from / k + 1 ≤ c.args.staged.now.count = omega (arith, c.if-next-staged.false) in
     let w = mul-le-mul_left k h in
     let in_cut : next_checkpoint k c.args.reach.from ≤ k * c.args.staged.now.count = omega (arith, w) in
-    let fits = mul-le-mul_left k c.requires.fits.count in
     let none = sym c.kept_value.ensures ∙ ap (option_map content_of) c.in-None.is in
-    let b = below_is m k pos v (cell_of c.args.cell) c.args.reach.from c.args.reach.to c.args.reach.wrote (k * length c.args.self.now.intervals) in_cut fits none (record { before = c.requires.first.before; at = c.requires.first.at }) in
+    let b = below_is m k pos v (cell_of c.args.cell) c.args.reach.from c.args.reach.to c.args.reach.wrote (k * c.args.staged.now.count) in_cut (omega arith) none (record { before = c.requires.first.before; at = c.requires.first.at }) in
     let p : (leb (next_checkpoint k c.args.reach.from) c.args.reach.to && leb (next_checkpoint k c.args.reach.from) c.args.reach.wrote) ≡ false =
     and_left (leb (next_checkpoint k c.args.reach.from) c.args.reach.to) (leb (next_checkpoint k c.args.reach.from) c.args.reach.wrote) (lt-leb (next_checkpoint k c.args.reach.from) c.args.reach.to (omega (arith, c.if-reach-step.true))) in
     let q : ltb c.args.reach.to (next_checkpoint k c.args.reach.from) ≡ true = lt-ltb c.args.reach.to (next_checkpoint k c.args.reach.from) (omega (arith, c.if-reach-step.true)) in
@@ -68,9 +66,8 @@ returns-clause-kept g c =
     let h : c.args.reach.from / k + 1 ≤ c.args.staged.now.count = omega (arith, c.if-next-staged.false) in
     let w = mul-le-mul_left k h in
     let in_cut : next_checkpoint k c.args.reach.from ≤ k * c.args.staged.now.count = omega (arith, w) in
-    let fits = mul-le-mul_left k c.requires.fits.count in
     let none = sym c.kept_value.ensures ∙ ap (option_map content_of) c.in-None.is in
-    let b = below_is m k pos v (cell_of c.args.cell) c.args.reach.from c.args.reach.to c.args.reach.wrote (k * length c.args.self.now.intervals) in_cut fits none (record { before = c.requires.first.before; at = c.requires.first.at }) in
+    let b = below_is m k pos v (cell_of c.args.cell) c.args.reach.from c.args.reach.to c.args.reach.wrote (k * c.args.staged.now.count) in_cut (omega arith) none (record { before = c.requires.first.before; at = c.requires.first.at }) in
     let p : (leb (next_checkpoint k c.args.reach.from) c.args.reach.to && leb (next_checkpoint k c.args.reach.from) c.args.reach.wrote) ≡ false = elim c.else-step-reach.branch [
       | else-step-reach-via-then-step-reach+else-step-reach-2 u ↦ and_right (leb (next_checkpoint k c.args.reach.from) c.args.reach.to) (leb (next_checkpoint k c.args.reach.from) c.args.reach.wrote) (lt-leb (next_checkpoint k c.args.reach.from) c.args.reach.wrote (omega (arith, u.if-step-reach-2.false)))
       | else-step-reach-via-else-step-reach u ↦ and_left (leb (next_checkpoint k c.args.reach.from) c.args.reach.to) (leb (next_checkpoint k c.args.reach.from) c.args.reach.wrote) (lt-leb (next_checkpoint k c.args.reach.from) c.args.reach.to (omega (arith, u.if-step-reach.false)))
