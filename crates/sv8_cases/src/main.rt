@@ -2,7 +2,8 @@
 //! with the answers that are due.
 //!
 //! A case `NAME-wN` is a script `NAME-wN.txt`, run with N register windows, and the answer beside it, `NAME-wN.answer`. Where there is a
-//! file `NAME-wN.counts`, it has the counts of the workbench after each command. For each case that differs a line says where first. The exit status is 0 where none does.
+//! file `NAME-wN.counts`, it has the counts of the workbench after each command. The workbench has a checkpoint every 256 steps, and
+//! that of a case `NAME-w8-kK` every K steps (1 or 4). For each case that differs a line says where first. The exit status is 0 where none does.
 #![tactic(auto)]
 
 mod case;

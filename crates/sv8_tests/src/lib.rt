@@ -1,4 +1,4 @@
-//! Tests of the whole workbench: scripts and their answers, and readers and writers that fail.
+//! Tests of the whole workbench: scripts and their answers, readers and writers that fail, and edits of a recorded run.
 #![tactic(auto)]
 
 #[cfg(test)]
@@ -8,6 +8,8 @@ pub mod ends;
 mod events;
 #[cfg(test)]
 mod faults;
+#[cfg(test)]
+mod recorded;
 #[cfg(test)]
 mod refusals;
 #[cfg(test)]
