@@ -1,12 +1,12 @@
 -- A translation: the walk, and what its end leads to.
-use Rattle.std.proofs.Common.{◌≡◌, ◌≢◌, ℕ, ◌*◌, ◌/◌, ◌%◌, ◌^◌, Bool, true, false, ◌==◌, List, ◌++◌, refl, ◌∙◌, ap, subst, arith}
+use Rattle.std.proofs.Common.{◌≡◌, ◌≢◌, ℕ, ◌*◌, ◌/◌, ◌%◌, ◌^◌, Bool, true, false, ◌==◌, List, [], ◌++◌, refl, sym, ◌∙◌, ap, subst, arith}
 use Rattle.std.proofs.lemmas.Bool.Decides.{nat_tests}
 use Rattle.sv8_model.specs.declared.touch.Touch.{Touch}
 use Rattle.sv8_model.specs.Words.{field}
 use Rattle.sv8_model.specs.Outside.{Outside}
 use Rattle.sv8_model.specs.Action.{done, store_word, ◌>>=◌}
 use Rattle.sv8_model.specs.Does.{Does, kept}
-use Rattle.sv8_model.proofs.Deeds.{does_then, does_if_true, does_if_false}
+use Rattle.sv8_model.proofs.Deeds.{does_done, does_then, does_if_true, does_if_false}
 use Rattle.sv8_mmu.specs.declared.registers.MmuRegisters.{MmuRegisters}
 use Rattle.sv8_mmu.specs.declared.walk.Walk.{Walk}
 use Rattle.sv8_mmu.specs.declared.walk.Walked.{Walked}
@@ -68,3 +68,12 @@ walked_and_settled keeps limit ram r va access_type reach o o1 w y ts ts1 ts2 on
     (does_then keeps (walk limit r.table_pointer r.context va) (settled limit va access_type reach) _ _ o1 w.end y ts ts1 ts2
     (subst (λ a. Does keeps a (record o { ram = ram }) (record o { ram = ram }) w.end ts ts1) (walk_of_page limit r.table_pointer r.context va)
     (walk_noted keeps limit ram r.table_pointer r.context (va / 4096 * 4096) w o ts ts1 s e)) d)
+
+-- a walk for the page of an address, whose end leads to an address at once
+pub walked_plainly : (limit : ℕ) (ram : List ℕ) (r : MmuRegisters) (va access_type : ℕ) (reach : Reach) (w : Walk) (pa : ℕ) → translates r ≡ true
+    → IsWalk limit ram r.table_pointer r.context (va / 4096 * 4096) w → settled limit va access_type reach w.end ≡ done (At pa)
+    → (o : Outside) → Does true (translate limit r va access_type reach) (record o { ram = ram }) (record o { ram = ram }) (At pa) [] (reads_of (places_of w.trail))
+walked_plainly limit ram r va access_type reach w pa on s e o =
+    walked_and_settled true limit ram r va access_type reach o (record o { ram = ram }) w (At pa) [] (reads_of (places_of w.trail)) (reads_of (places_of w.trail)) on s refl
+    (subst (λ a. Does true a (record o { ram = ram }) (record o { ram = ram }) (At pa) (reads_of (places_of w.trail)) (reads_of (places_of w.trail))) (sym e)
+    (does_done true (At pa) (At pa) _ _ refl))

@@ -147,10 +147,11 @@ fn hits_are_walks(
     let at = Translated::At(0x1010);
     let first = answers(buffer, memory, 0, 0, at, &MARKED, told)?;
     let load = answers(buffer, memory, 0, 0, at, &READ, told)?;
+    let again = answers(buffer, memory, 0, 1, at, &READ, told)?;
     let fetch = answers(buffer, memory, 0, 3, at, &READ, told)?;
     let store = answers(buffer, memory, 0, 4, at, &MARKED, told)?;
     let last = answers(buffer, memory, 0, 2, at, &READ, told)?;
-    Ok(first && load && fetch && store && last && memory.word(0x90c) == 0x16e)
+    Ok(first && load && again && fetch && store && last && memory.word(0x90c) == 0x16e)
 }
 
 /// Page 3 maps to page 0 of RAM, with R set.
@@ -186,11 +187,13 @@ fn walks_are_kept(buffer: &mut Buffer, memory: &mut Phys<2>) -> Result<bool, All
     requires { AllStand (ram_size 2) memory.old.ram 0x10 buffer.old }
 {
     translate(&REGISTERS, buffer, memory, access(2), &mut NoTouches)?;
-    let kept = keeps(buffer, Purpose::Data) && keeps(buffer, Purpose::Data);
+    let kept = keeps(buffer, Purpose::Load)
+        && keeps(buffer, Purpose::Load)
+        && keeps(buffer, Purpose::Store);
     buffer.forget_page(1);
-    let stays = keeps(buffer, Purpose::Data) && keeps(buffer, Purpose::Fetch);
+    let stays = keeps(buffer, Purpose::Load) && keeps(buffer, Purpose::Fetch);
     buffer.forget_page(0);
-    Ok(kept && stays && !keeps(buffer, Purpose::Data))
+    Ok(kept && stays && !keeps(buffer, Purpose::Load))
 }
 
 /// Where no note can be taken, neither a translation nor a probe answers.

@@ -1,6 +1,6 @@
 //! Translation of a virtual address.
 
-ghost use Rattle.std.specs.Prelude.{◌≡◌, ℕ, ◌<◌, ◌≤◌, ◌+◌, ◌*◌, ◌/◌, ◌%◌, ◌^◌, List, ◌++◌, IfOk, OnOk, OnErr, true, slice_index_or};
+ghost use Rattle.std.specs.Prelude.{◌≡◌, ℕ, ◌<◌, ◌≤◌, ◌+◌, ◌*◌, ◌/◌, ◌%◌, ◌^◌, List, [], ◌++◌, IfOk, IfSome, OnOk, OnErr, true, slice_index_or};
 ghost use Rattle.sv8_model.specs.Outside.{Outside, with_word};
 ghost use Rattle.sv8_model.specs.Does.{Does, kept};
 ghost use Rattle.sv8_phys.specs.Memory.{ram_size};
@@ -44,6 +44,7 @@ pub enum Translated {
 }
 
 /// The fault types of an access type, for each value of ACC.
+#[inline(always)]
 fn fault_types(access_type: u8) -> [u8; 8]
     requires { access_type ≤ 7 }
     ensures { result ≡ fault_types access_type }
@@ -61,6 +62,7 @@ fn fault_types(access_type: u8) -> [u8; 8]
 }
 
 /// The fault type of an access to a page by its entry; 0 where it is allowed.
+#[inline(always)]
 #[tactic(auto, using(crate::proofs::FaultTypes::fault_types_are_small), unfolding(crate::specs::Translation::fault_type, sv8_model::specs::Words::field))]
 fn fault_type(access_type: u8, entry: u32) -> u8
     requires { access_type ≤ 7 }
@@ -72,6 +74,7 @@ fn fault_type(access_type: u8, entry: u32) -> u8
 }
 
 /// The word with bit 5, R, set.
+#[inline(always)]
 fn with_referenced(entry: u32) -> u32
     ensures value { result ≡ with_bit entry 5 }
     ensures kind { entry % 4 ≡ 2 → result % 4 ≡ 2 }
@@ -84,6 +87,7 @@ fn with_referenced(entry: u32) -> u32
 }
 
 /// The word with bit 6, M, set.
+#[inline(always)]
 fn with_modified(entry: u32) -> u32
     ensures value { result ≡ with_bit entry 6 }
     ensures kind { entry % 4 ≡ 2 → result % 4 ≡ 2 }
@@ -96,6 +100,7 @@ fn with_modified(entry: u32) -> u32
 }
 
 /// The entry with the marks of an access.
+#[inline(always)]
 #[tactic(auto, unfolding(crate::specs::Translation::marked))]
 fn marked(access_type: u8, entry: u32) -> u32
     ensures value { result ≡ marked access_type entry }
@@ -109,6 +114,7 @@ fn marked(access_type: u8, entry: u32) -> u32
 }
 
 /// The physical address: bits 35:12 are those of the entry, but for the bits inside the page.
+#[inline(always)]
 #[tactic(auto, unfolding(crate::specs::Translation::physical_address))]
 fn physical_address(entry: u32, level: u8, va: u32) -> u64
     ensures value { result ≡ physical_address entry level va }
@@ -159,16 +165,16 @@ pub fn note_reads<T: Touches>(trail: &Trail, notes: &mut T) -> Result<(), AllocE
 }
 
 /// What the walk of an access is for.
-#[inline]
+#[inline(always)]
 fn purpose_of(access_type: u8) -> Purpose {
     match access_type {
+        0 | 1 => Purpose::Load,
         2 | 3 => Purpose::Fetch,
-        _ => Purpose::Data,
+        _ => Purpose::Store,
     }
 }
 
 /// The walk for a context and a page: one that is kept, or a new one, which is then kept.
-#[inline]
 fn find_walk<const PAGES: usize>(
     table_pointer: u32,
     buffer: &mut Buffer,
@@ -261,7 +267,60 @@ fn settle<const PAGES: usize, T: Touches>(
     }
 }
 
+/// The physical address of an access by the end of a walk, where the access is allowed, RAM serves it, and it leaves the entry
+/// of its page as it is.
+#[inline(always)]
+#[tactic(auto, unfolding(crate::specs::Translation::settled))]
+fn settle_plainly<const PAGES: usize>(
+    phys: &Phys<PAGES>,
+    access: VirtualAccess,
+    end: Walked,
+) -> Option<u64>
+    requires access_type { access.access_type ≤ 7 }
+    ensures settled { IfSome result (λ pa. settled (ram_size PAGES) access.address access.access_type access.reach end ≡ done (Translated.At pa)) }
+    ensures answer { IfSome result (λ pa. IsTranslation access.address (Translated.At pa)) }
+{
+    match end {
+        Walked::Fault { .. } => None,
+        Walked::Page { entry, level, .. } => {
+            if fault_type(access.access_type, entry) != 0 {
+                return None;
+            }
+            if marked(access.access_type, entry) != entry {
+                return None;
+            }
+            let pa = physical_address(entry, level, access.address);
+            if phys.is_ram(pa) { Some(pa) } else { None }
+        }
+    }
+}
+
+/// The physical address of an access, and what the walk of its page read, where that walk was used last and all else is plain.
+#[inline(always)]
+fn find_shortcut<'a, const PAGES: usize>(
+    registers: &MmuRegisters,
+    buffer: &'a Buffer,
+    phys: &Phys<PAGES>,
+    access: VirtualAccess,
+) -> Option<(u64, &'a Trail)>
+    requires on { translates registers.now ≡ true }
+    requires access_type { access.access_type ≤ 7 }
+    requires stand { AllStand (ram_size PAGES) phys.now.ram registers.now.table_pointer buffer.now }
+    ensures answer { IfSome result (λ s. IsTranslation access.address (Translated.At s.0)) }
+    ensures does { IfSome result (λ s. (o : Outside) → Does true (translate (ram_size PAGES) registers.now access.address access.access_type access.reach)
+        (record o { ram = phys.now.ram }) (record o { ram = phys.now.ram }) (Translated.At s.0) [] (reads_of (places_of s.1.now))) }
+{
+    let key = Key {
+        context: registers.context,
+        page: access.address / 0x1000,
+    };
+    let walk = buffer.last(purpose_of(access.access_type), key)?;
+    let pa = settle_plainly(phys, access, walk.end)?;
+    Some((pa, &walk.trail))
+}
+
 /// Translates the address of an access by the tables.
+#[cold]
 #[inline(never)]
 #[tactic(auto, unfolding(crate::specs::Translation::translate))]
 fn translate_by_tables<const PAGES: usize, T: Touches>(
@@ -320,6 +379,10 @@ pub fn translate<const PAGES: usize, T: Touches>(
 {
     if !registers.translates() {
         return Ok(Translated::At(access.address as u64));
+    }
+    if let Some((pa, trail)) = find_shortcut(registers, buffer, phys, access) {
+        note_reads(trail, notes)?;
+        return Ok(Translated::At(pa));
     }
     let answer = translate_by_tables(registers, buffer, phys, access, notes)?;
     Ok(answer)
