@@ -8,22 +8,19 @@ use Rattle.sv8_history.specs.Input as history_input
 use Rattle.sv8_history.specs.Input.{IsFirstTake}
 use Rattle.sv8_history.specs.Patches as history
 use Rattle.sv8_history.specs.Laws.{IsRightCount}
-use Rattle.sv8_history.proofs.Edits.{edit_keeps, edit_counts}
-use Rattle.sv8_history.proofs.Input.{input_edit_keeps, input_edit_counts}
-use Rattle.sv8_history.proofs.Cut.{agrees_keeps}
-use Rattle.sv8_history.proofs.Silent.{later_keeps}
+use Rattle.sv8_history.proofs.Common.{edit_keeps, edit_counts, input_edit_keeps, input_edit_counts, agrees_keeps, later_keeps}
 use Rattle.sv8_time.specs.Schedule.{Schedule, IsTimeline}
 use Rattle.sv8_phys.specs.Memory.{ram_size}
 use Rattle.sv8_source.specs.Text.{Text}
 use Rattle.sv8_cpu.specs.State.{reset_state}
 use Rattle.sv8_cpu.specs.Recorded.{machine, run_of, AreEvents, IsSound}
-use Rattle.sv8_cpu.proofs.RecordedActs.{framed}
+use Rattle.sv8_cpu.proofs.Common.{framed}
 use Rattle.sv8_edits.specs.EditLaws.{CanRun, Edits, Refeeds}
 use Rattle.sv8_trace.specs.declared.patch.Patch.{Patch}
 use Rattle.sv8_trace.specs.Patch.{changes_of}
 use Rattle.sv8_trace.specs.Recording.{Recording, recorded, trace_of}
 use Rattle.sv8_trace.specs.Prepared.{prepared_trace, Near, Preparation}
-use Rattle.sv8_trace.proofs.Nearness.{near_agrees, agrees_along}
+use Rattle.sv8_trace.proofs.Common.{near_agrees, agrees_along}
 use Rattle.sv8_bench.specs.Kept.{Kept}
 use Rattle.sv8_bench.specs.Workbench.{Workbench, IsRun, IsEdited, IsRefed, run_of_kept}
 

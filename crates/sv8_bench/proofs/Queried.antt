@@ -5,16 +5,15 @@ use Rattle.sv8_time.specs.Schedule.{Schedule, bytes_below}
 use Rattle.sv8_history.specs.Machine.{Run}
 use Rattle.sv8_history.specs.Trace.{IsTraceOf}
 use Rattle.sv8_history.specs.Growing.{extended, restored, steps_from}
-use Rattle.sv8_history.proofs.Cut.{agrees_keeps}
-use Rattle.sv8_history.proofs.Growing.{extend_keeps, restore_gives, query_work}
+use Rattle.sv8_history.proofs.Common.{agrees_keeps, extend_keeps, restore_gives, query_work}
 use Rattle.sv8_source.specs.Text.{Text}
 use Rattle.sv8_cpu.specs.State.{State, reset_state}
 use Rattle.sv8_cpu.specs.Run.{step}
 use Rattle.sv8_cpu.specs.Events.{with_events}
 use Rattle.sv8_cpu.specs.Work.{counted}
 use Rattle.sv8_cpu.specs.Recorded.{machine, event_at, run_of, AreEvents}
-use Rattle.sv8_cpu.proofs.RecordedActs.{state_is}
-use Rattle.sv8_edits.proofs.Fed.{fed}
+use Rattle.sv8_cpu.proofs.Common.{state_is}
+use Rattle.sv8_edits.proofs.Common.{fed}
 use Rattle.sv8_trace.specs.Recorder.{steps_on, counted_by, RaisedUpTo}
 use Rattle.sv8_trace.specs.Recording.{Recording, blank, last_point, recorded, trace_of, IsExtended}
 use Rattle.sv8_bench.specs.Kept.{Kept}

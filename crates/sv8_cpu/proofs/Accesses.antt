@@ -5,7 +5,7 @@ use Rattle.sv8_model.specs.Outside.{Outside}
 use Rattle.sv8_model.specs.declared.touch.Touch.{Touch}
 use Rattle.sv8_model.specs.Action.{Action, done, take_input, count_waiting, ◌>>=◌}
 use Rattle.sv8_model.specs.Does.{Does}
-use Rattle.sv8_model.proofs.Deeds.{does_then, does_map, does_done, does_if_true, does_if_false}
+use Rattle.sv8_model.proofs.Common.{does_then, does_map, does_done, does_if_true, does_if_false}
 use Rattle.sv8_phys.specs.declared.fault.BusError.{BusError}
 use Rattle.sv8_phys.specs.declared.size.Size.{Size}
 use Rattle.sv8_phys.specs.declared.size.Size.TheVariants.{Byte, Half, Word, Double}

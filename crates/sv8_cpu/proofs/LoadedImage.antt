@@ -11,7 +11,7 @@ use Rattle.sv8_source.specs.Listing.{ListedLine, numbered}
 use Rattle.sv8_source.specs.Listing.{listing}
 use Rattle.sv8_source.specs.Text.{Text}
 use Rattle.sv8_source.specs.Image.{covers, byte_at, image_byte, image_bytes, Rising}
-use Rattle.sv8_source.proofs.SourceLaws.{lines_rise}
+use Rattle.sv8_source.proofs.Common.{lines_rise}
 use Rattle.sv8_phys.specs.Contents.{Contents}
 use Rattle.sv8_cpu.specs.Loading.{byte_placed, bytes_placed, lines_placed}
 

@@ -9,13 +9,12 @@ use Rattle.sv8_model.specs.Outside.{Outside}
 use Rattle.sv8_model.specs.Cells as cells
 use Rattle.sv8_model.specs.Cells.{Cell, ram_byte, waiting_bytes, pending_level, Value, byte, held, same_cell, Fits}
 use Rattle.sv8_model.specs.Frame.{Alike, only}
-use Rattle.sv8_model.proofs.Lists.{IsByte, set_each}
-use Rattle.sv8_model.proofs.CellLaws.{cells_hold}
+use Rattle.sv8_model.proofs.Common.{IsByte, set_each, cells_hold}
 use Rattle.sv8_history.specs.Framed as framed
 use Rattle.sv8_time.specs.Order.{Each}
 use Rattle.sv8_time.specs.Schedule.{Schedule, BytePoke, IsTimeline, IsPokePlace, IsRequestPlace}
 use Rattle.sv8_time.specs.declared.requests.Request.{Request}
-use Rattle.sv8_time.proofs.Parts.{each_filter, each_map}
+use Rattle.sv8_time.proofs.Common.{each_filter, each_map}
 use Rattle.sv8_phys.specs.Memory.{ram_size}
 use Rattle.sv8_cpu.specs.Events.{poked, marked}
 use Rattle.sv8_cpu.specs.State.{State}

@@ -5,7 +5,7 @@ use Rattle.sv8_model.specs.Outside.{Outside}
 use Rattle.sv8_model.specs.declared.touch.Touch.{Touch}
 use Rattle.sv8_model.specs.Action.{Action, done, ask_levels}
 use Rattle.sv8_model.specs.Does.{Does}
-use Rattle.sv8_model.proofs.Deeds.{does_then, does_map, does_done, does_if_true}
+use Rattle.sv8_model.proofs.Common.{does_then, does_map, does_done, does_if_true}
 use Rattle.sv8_phys.specs.declared.timer.Timer.{Timer}
 use Rattle.sv8_phys.specs.Devices.{tick}
 use Rattle.sv8_trap.specs.declared.table.Trap.{Trap}

@@ -6,3 +6,4 @@ pub mod EditedRequests
 pub mod EditedPokes
 pub mod EditedWords
 pub mod EditedImage
+pub mod Common

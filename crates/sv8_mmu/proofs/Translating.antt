@@ -6,7 +6,7 @@ use Rattle.sv8_model.specs.Words.{field}
 use Rattle.sv8_model.specs.Outside.{Outside}
 use Rattle.sv8_model.specs.Action.{done, store_word, ◌>>=◌}
 use Rattle.sv8_model.specs.Does.{Does, kept}
-use Rattle.sv8_model.proofs.Deeds.{does_done, does_then, does_if_true, does_if_false}
+use Rattle.sv8_model.proofs.Common.{does_done, does_then, does_if_true, does_if_false}
 use Rattle.sv8_mmu.specs.declared.registers.MmuRegisters.{MmuRegisters}
 use Rattle.sv8_mmu.specs.declared.walk.Walk.{Walk}
 use Rattle.sv8_mmu.specs.declared.walk.Walked.{Walked}

@@ -5,7 +5,7 @@ use Rattle.lru.proofs.Splits.{Contains-head, Contains-tail, Contains-cons, Conta
 use Rattle.sv8_model.specs.declared.touch.Touch.TheVariants.{Read}
 use Rattle.sv8_model.specs.Outside.{Outside, word_of, with_word}
 use Rattle.sv8_model.specs.Action.{Action, done, load_word, store_word, load_byte, store_byte, take_input, count_waiting, emit, ask_levels, clear_levels, expire, result_of, after, touches}
-use Rattle.sv8_model.proofs.Lists.{length-with_word, word_other}
+use Rattle.sv8_model.proofs.Common.{length-with_word, word_other}
 use Rattle.sv8_mmu.specs.declared.walk.Walk.{Walk}
 use Rattle.sv8_mmu.specs.declared.walk.Walked.{Walked}
 use Rattle.sv8_mmu.specs.declared.walk.Walked.TheVariants.{Fault}

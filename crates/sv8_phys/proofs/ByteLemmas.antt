@@ -5,7 +5,7 @@ use Rattle.std.specs.Prelude.{nat_lt}
 use Rattle.std.proofs.lemmas.Bool.{lt-ltb, ltb-true, true≢false}
 use Rattle.byteorder.specs.Endian.{big_bytes}
 use Rattle.sv8_model.specs.Outside.{with_word, with_byte}
-use Rattle.sv8_model.proofs.Lists.{IsByte, set_each, word_bytes}
+use Rattle.sv8_model.proofs.Common.{IsByte, set_each, word_bytes}
 use Rattle.sv8_phys.specs.declared.size.Size.{Size}
 use Rattle.sv8_phys.specs.declared.size.Size.TheVariants.{Byte, Half, Word, Double}
 use Rattle.sv8_phys.specs.Bytes.{are_bytes}

@@ -12,3 +12,4 @@ pub mod ChunkLemmas
 pub mod Access
 pub mod Arrivals
 pub mod OnLiterals
+pub mod Common

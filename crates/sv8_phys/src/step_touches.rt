@@ -127,7 +127,7 @@ fn tell_levels<T: Touches>(levels: u16, notes: &mut T) -> Result<(), AllocError>
 }
 
 /// Hands on what is told of some notes.
-#[tactic(auto, using(sv8_model::proofs::Deeds::kept_append), unfolding(crate::specs::Notes::told))]
+#[tactic(auto, using(sv8_model::proofs::Common::kept_append), unfolding(crate::specs::Notes::told))]
 fn tell_all<T: Touches>(from: &[Touch], notes: &mut T) -> Result<(), AllocError>
     ensures ok { OnOk result (T.noted notes.new ≡ T.noted notes.old ++ kept T.KEEPS (told from.now)) }
     ensures err { OnErr result (T.KEEPS ≡ true) }

@@ -9,7 +9,7 @@ use Rattle.sv8_history.specs.Machine.{Machine}
 use Rattle.sv8_history.specs.Trace.{Trace, some_from}
 use Rattle.sv8_history.specs.Reads.{earlier, least_below, first_of_change, first_of_each}
 use Rattle.sv8_history.specs.Patches.{count_after, cut}
-use Rattle.sv8_history.proofs.Least.{Found, found}
+use Rattle.sv8_history.proofs.Common.{Found, found}
 use Rattle.sv8_cpu.specs.Recorded.{machine}
 use Rattle.sv8_trace.specs.declared.patch.Patch.{Patch}
 use Rattle.sv8_trace.specs.Patch.{change_of, changes_of, AreOfOneWord, AreReadAlike, BeginAlike}

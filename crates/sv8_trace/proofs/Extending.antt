@@ -10,8 +10,7 @@ use Rattle.sv8_history.specs.Machine.{Footprint, SameFootprint, Run, touches_of}
 use Rattle.sv8_history.specs.Trace as history
 use Rattle.sv8_history.specs.Trace.{some_from, next_checkpoint}
 use Rattle.sv8_history.specs.Growing.{extended, steps_from, state_after, notes_after, kept_after}
-use Rattle.sv8_history.proofs.Footprints.{footprint_same, footprint_then, footprint_back}
-use Rattle.sv8_history.proofs.Spans.{some_from-like}
+use Rattle.sv8_history.proofs.Common.{footprint_same, footprint_then, footprint_back, some_from-like}
 use Rattle.sv8_time.specs.Schedule.{Schedule}
 use Rattle.sv8_cpu.specs.State.{State}
 use Rattle.sv8_cpu.specs.Run.{step, footprint}

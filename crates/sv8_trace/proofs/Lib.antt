@@ -15,3 +15,4 @@ pub mod Spreading
 pub mod Preparing
 pub mod Committing
 pub mod Editing
+pub mod Common

@@ -6,7 +6,7 @@ use Rattle.sv8_history.specs.Machine.{Machine, Footprint, SameFootprint, Notes, 
 use Rattle.sv8_history.specs.Trace.{Trace, Agrees, some_from, next_checkpoint}
 use Rattle.sv8_history.specs.Changes.{Change, Cause, Image, Poke, Clear, is_live}
 use Rattle.sv8_history.specs.Patches.{patched_point, kept_at_end, kept_by_poke, spread, keeping, set_poke, uncover, patch, patch_all}
-use Rattle.sv8_history.proofs.Footprints.{footprint_same}
+use Rattle.sv8_history.proofs.Common.{footprint_same}
 use Rattle.sv8_trace.specs.Prepared.{Near}
 
 module _ (m : Machine) (k : ℕ) where

@@ -6,7 +6,7 @@ use Rattle.sv8_model.specs.Footprint.{reads_input}
 use Rattle.sv8_model.specs.Cells.{Cell, Value, ram_byte, waiting_bytes, pending_level, is_read, is_written}
 use Rattle.sv8_history.specs.Machine.{Footprint, SameFootprint}
 use Rattle.sv8_history.specs.Trace.{some_from}
-use Rattle.sv8_history.proofs.Spans.{none_from}
+use Rattle.sv8_history.proofs.Common.{none_from}
 use Rattle.sv8_time.specs.Schedule.{Schedule}
 use Rattle.sv8_phys.specs.Notes.{told}
 use Rattle.sv8_cpu.specs.State.{State}

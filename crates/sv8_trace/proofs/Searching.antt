@@ -11,8 +11,7 @@ use Rattle.sv8_history.specs.Trace.{Trace, some_from}
 use Rattle.sv8_history.specs.Changes.{Change}
 use Rattle.sv8_history.specs.Reads.{IsLeast, least_below, reads_change}
 use Rattle.sv8_history.specs.Input.{takes_edit}
-use Rattle.sv8_history.proofs.Spans.{none_at, none_from}
-use Rattle.sv8_history.proofs.Least.{Found, found, found_one}
+use Rattle.sv8_history.proofs.Common.{none_at, none_from, Found, found, found_one}
 use Rattle.sv8_trace.specs.declared.notes.Sought.{Sought}
 use Rattle.sv8_trace.specs.Steps.{Steps, IsFirstBelow, footprint_in}
 use Rattle.sv8_trace.specs.Sought.{is_met}

@@ -8,7 +8,7 @@ use Rattle.sv8_history.specs.Machine.{Machine, writes_of}
 use Rattle.sv8_history.specs.Trace.{Trace, some_from, next_checkpoint}
 use Rattle.sv8_history.specs.Changes.{is_live}
 use Rattle.sv8_history.specs.Patches.{patched_point, kept_at_end, kept_by_poke, spread, keeping, set_poke}
-use Rattle.sv8_history.proofs.Spans.{none_at, none_from, next_above}
+use Rattle.sv8_history.proofs.Common.{none_at, none_from, next_above}
 use Rattle.sv8_trace.specs.Prepared.{Near}
 use Rattle.sv8_trace.specs.Patching.{IsFirstWrite, KeptPut, RaisedAt}
 

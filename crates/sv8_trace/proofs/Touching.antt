@@ -8,7 +8,7 @@ use Rattle.sv8_model.specs.Levels.{timer_level}
 use Rattle.sv8_model.specs.Footprint.{is_read_of, is_write_of, is_input, asks, is_expiry}
 use Rattle.sv8_model.specs.Cells.{Cell, ram_byte, waiting_bytes, pending_level, is_read, is_written}
 use Rattle.sv8_phys.specs.Notes.{told}
-use Rattle.sv8_phys.proofs.ToldLaws.{footprint_told, writes_told}
+use Rattle.sv8_phys.proofs.Common.{footprint_told, writes_told}
 use Rattle.sv8_trace.specs.Touched.{is_touched, is_touched_by, is_told_written}
 
 four : (a b c d : Bool) → ((a || b) || (c || d)) ≡ ((a || c) || (b || d))

@@ -108,7 +108,7 @@ fn keep_levels<const NW: usize, const PAGES: usize>(
 }
 
 /// Keeps what stands in the cells that the events of step n are about to set.
-#[tactic(auto, using(sv8_cpu::proofs::Poking::are_inside))]
+#[tactic(auto, using(sv8_cpu::proofs::Common::are_inside))]
 fn keep_below<const NW: usize, const PAGES: usize>(
     kept: &mut KeptList,
     machine: &Machine<NW, PAGES>,

@@ -177,7 +177,7 @@ fn note_store<T: Touches>(pa: u32, size: Size, notes: &mut T) -> Result<(), Allo
 
 /// Takes two notes, one behind the other.
 #[inline(always)]
-#[tactic(auto, using(sv8_model::proofs::Deeds::kept_append))]
+#[tactic(auto, using(sv8_model::proofs::Common::kept_append))]
 fn note_both<T: Touches>(first: Touch, second: Touch, notes: &mut T) -> Result<(), AllocError>
     ensures ok { OnOk result (T.noted notes.new ≡ T.noted notes.old ++ kept T.KEEPS (first ∷ second ∷ [])) }
     ensures err { OnErr result (T.KEEPS ≡ true) }

@@ -19,15 +19,13 @@ ghost use Rattle.sv8_trace.specs.Patching.{IsFirstWrite, KeptPut, PointsSet, Rai
 use crate::cell::{Cell, Content};
 use crate::column::LevelColumn;
 use crate::kept::KeptList;
+use crate::marks::PAGE_SIZE;
 use crate::notes::Sought;
 use crate::patch::{Cause, Patch};
 use crate::prepared::{Prepared, Staged};
 use crate::runs::PageRuns;
 use crate::trace::{NO_END, Trace};
 use std::alloc::{AllocError, Global};
-
-/// How many bytes a page has.
-const PAGE_SIZE: u32 = 4096;
 
 /// How many interrupt levels there are, with level 0, which is none.
 const LEVELS: usize = 16;

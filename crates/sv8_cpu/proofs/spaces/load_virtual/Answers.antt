@@ -1,5 +1,5 @@
 use Rattle.std.proofs.Common.{refl}
-use Rattle.sv8_model.proofs.Deeds.{does_done}
+use Rattle.sv8_model.proofs.Common.{does_done}
 use Rattle.sv8_phys.specs.Contents.{arrived}
 use Rattle.sv8_phys.specs.Memory.{ram_size}
 use Rattle.sv8_cpu.specs.Access.{loaded_from}

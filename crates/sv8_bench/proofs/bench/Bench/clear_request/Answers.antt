@@ -1,7 +1,7 @@
 use Rattle.std.proofs.Common.{rules, ◌≡◌, ◌+◌, ◌*◌, ◌≤◌, ◌<◌, ◌∙◌, sym, ap, subst, arith}
 use Rattle.sv8_time.specs.Schedule.{Schedule, without_request}
 use Rattle.sv8_edits.specs.Changes.{clear_request_changes}
-use Rattle.sv8_edits.proofs.EditedRequests.{clear_request_edits}
+use Rattle.sv8_edits.proofs.Common.{clear_request_edits}
 use Rattle.sv8_trace.specs.Patch.{changes_of}
 use Rattle.sv8_trace.specs.Recording.{recorded}
 use Rattle.sv8_bench.specs.Kept.{with_timeline}

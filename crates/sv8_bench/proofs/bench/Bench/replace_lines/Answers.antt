@@ -7,7 +7,7 @@ use Rattle.sv8_source.specs.Image.{changes, image_bytes}
 use Rattle.sv8_source.specs.declared.image.Change.{Change}
 use Rattle.sv8_cpu.specs.State.{State, reset_state}
 use Rattle.sv8_edits.specs.Changes.{image_changes}
-use Rattle.sv8_edits.proofs.EditedImage.{image_edits}
+use Rattle.sv8_edits.proofs.Common.{image_edits}
 use Rattle.sv8_trace.specs.Patch.{changes_of}
 use Rattle.sv8_trace.specs.Recording.{recorded}
 use Rattle.sv8_bench.specs.Kept.{edited}

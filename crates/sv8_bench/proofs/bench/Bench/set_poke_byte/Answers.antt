@@ -1,7 +1,7 @@
 use Rattle.std.proofs.Common.{rules, ◌≡◌, ◌+◌, ◌*◌, ◌≤◌, ◌<◌, ◌∙◌, sym, ap, subst, arith}
 use Rattle.sv8_time.specs.Schedule.{Schedule, with_poke_byte}
 use Rattle.sv8_edits.specs.Changes.{poke_byte_changes}
-use Rattle.sv8_edits.proofs.EditedPokes.{poke_byte_edits}
+use Rattle.sv8_edits.proofs.Common.{poke_byte_edits}
 use Rattle.sv8_trace.specs.Patch.{changes_of}
 use Rattle.sv8_trace.specs.Recording.{recorded}
 use Rattle.sv8_bench.specs.Kept.{with_timeline}
