@@ -1,7 +1,7 @@
 -- Each instruction in three parts: the traps that it raises before its access, the access that it asks for, and what becomes of the
 -- processor once the access is answered. A row of the opcode table has its clause in each part; what the clauses say stands in the
 -- file of its group: Arithmetic, Control, Windows, StateRegisters, Memory.
-use Rattle.std.specs.Prelude.{ℕ, Bool, true, not, ◌&&◌, List, [], ◌∷◌, ◌++◌, if◌then◌else◌}
+use Rattle.std.specs.Prelude.{ℕ, not, ◌&&◌, List, [], ◌∷◌, ◌++◌, if◌then◌else◌}
 use Rattle.sv8_isa.specs.Table.{is_queue_store}
 use Rattle.sv8_isa.specs.declared.instr.Instr.{Instr}
 use Rattle.sv8_isa.specs.declared.instr.Instr.TheVariants as row

@@ -8,21 +8,22 @@ ghost use Rattle.sv8_isa.specs.Table.{is_queue_store};
 ghost use Rattle.sv8_cpu.specs.Operands.{operand_value, sum_of_sources};
 ghost use Rattle.sv8_cpu.specs.Memory.{memory_traps};
 ghost use Rattle.sv8_cpu.specs.Instruction.{disabled_traps, immediate_traps, raised, trapped, data_space, asked, complete};
-ghost use Rattle.sv8_cpu.specs.Access.{IsAligned};
+ghost use Rattle.sv8_cpu.specs.Access.{space_of, IsAligned};
 
-mod arithmetic;
+pub mod arithmetic;
 mod control;
 mod memory;
 mod state_registers;
 mod windows;
 
-use crate::access::AccessRequest;
+use crate::access::{AccessRequest, Space};
 use arithmetic::{
     arithmetic, arithmetic_trap, multiply_step, set_upper, shift, tagged, tagged_trap,
 };
-use control::{branch, call, go_back, jump, jump_trap, number_trap, return_trap};
-pub use memory::low_word;
-use memory::{access_of, alternate_trap, finish_access, memory_trap};
+pub use control::branch;
+use control::{call, go_back, jump, jump_trap, number_trap, return_trap};
+use memory::{access_of, alternate_trap};
+pub use memory::{finish_access, low_word, memory_trap};
 use state_registers::{read_state, read_trap, write_state, write_trap};
 use sv8_isa::{Instr, Operand, is_queue_store};
 use sv8_trap::{Processor, Trap};
@@ -55,7 +56,7 @@ fn operand_value<const NW: usize>(p: &Processor<NW>, operand: Operand) -> u32
 /// r[rs1] plus the second source.
 #[inline(always)]
 #[tactic(auto, unfolding(crate::specs::Operands::sum_of_sources))]
-fn sum_of_sources<const NW: usize>(p: &Processor<NW>, rs1: u8, operand: Operand) -> u32
+pub fn sum_of_sources<const NW: usize>(p: &Processor<NW>, rs1: u8, operand: Operand) -> u32
     requires rs1 { rs1 < 32 }
     requires operand { OperandHasRegister operand }
     ensures { result ≡ sum_of_sources NW p.now rs1 operand }
@@ -153,8 +154,10 @@ pub fn take<const NW: usize>(p: &mut Processor<NW>, instr: Instr, trap: Trap)
 
 /// The address space of plain loads and stores.
 #[inline(always)]
-fn data_space<const NW: usize>(p: &Processor<NW>) -> u8
-    ensures { result ≡ data_space p.now }
+#[tactic(auto, unfolding(crate::specs::Access::space_of))]
+pub fn data_space<const NW: usize>(p: &Processor<NW>) -> u8
+    ensures value { result ≡ data_space p.now }
+    ensures space { space_of result ≡ Space.Virtual }
 {
     if p.registers().psr().s { 0x0b } else { 0x0a }
 }

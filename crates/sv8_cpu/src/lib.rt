@@ -3,6 +3,7 @@
 
 mod access;
 mod events;
+mod frequent;
 mod instruction;
 mod laws;
 mod loading;

@@ -138,7 +138,11 @@ impl<const NW: usize, const PAGES: usize> Parts<NW, PAGES> {
                 Ok(())
             }
             Response::Value(value) => {
-                self.carry_out_word(low_word(value), before, timeline, notes)?;
+                let word = low_word(value);
+                if self.carry_out_frequent(word, before, timeline, notes)? {
+                    return Ok(());
+                }
+                self.carry_out_word(word, before, timeline, notes)?;
                 Ok(())
             }
         }

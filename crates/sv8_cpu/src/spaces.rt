@@ -1,8 +1,9 @@
 //! Accesses by address space (Appendices H and I).
 
-ghost use Rattle.std.specs.Prelude.{◌≡◌, ℕ, ◌+◌, ◌*◌, ◌%◌, ◌/◌, ◌^◌, ◌≤◌, ◌<◌, List, true, IfOk, OnOk, OnErr};
+ghost use Rattle.std.specs.Prelude.{◌≡◌, ℕ, ◌+◌, ◌*◌, ◌%◌, ◌/◌, ◌^◌, ◌≤◌, ◌<◌, List, true, false, IfOk, OnOk, OnErr};
 ghost use Rattle.sv8_time.specs.Schedule.{bytes_below};
 ghost use Rattle.sv8_phys.specs.declared.size.Size.{Size};
+ghost use Rattle.sv8_mmu.specs.Registers.{translates};
 ghost use Rattle.sv8_phys.specs.Memory.{bytes_in, ram_size};
 ghost use Rattle.sv8_phys.specs.Contents.{arrived};
 ghost use Rattle.sv8_cpu.specs.Units.{served, failed};
@@ -500,6 +501,56 @@ fn exchange<const PAGES: usize, T: Touches>(
             Trap::DataAccessException,
         )),
     }
+}
+
+/// Loads from RAM or a device at an address that is not translated.
+#[inline(always)]
+pub fn load_untranslated<const PAGES: usize, T: Touches>(
+    physical: &mut Physical<PAGES>,
+    buffer: &Buffer,
+    size: Size,
+    asi: u8,
+    at: u32,
+    before: u32,
+    timeline: &Timeline,
+    notes: &mut T,
+) -> Result<Response, AllocError>
+    requires untranslated { translates physical.old.mmu ≡ false }
+    requires space { space_of asi ≡ Space.Virtual }
+    requires aligned { at % bytes_in size ≡ 0 }
+    requires delivered { physical.old.phys.taken ≤ bytes_below before timeline.now.inputs }
+    requires serves { Serves physical.old buffer.now }
+    ensures ok { IfOk result (λ r. MemoryDoes T.KEEPS (arrived before timeline.now) (access (ram_size PAGES) (units_of physical.old) (AccessRequest.Load size asi at))
+        physical.old physical.new r (T.noted notes.old) (T.noted notes.new)) }
+    ensures taken { OnOk result (physical.new.phys.taken ≤ bytes_below before timeline.now.inputs) }
+    ensures serves { Serves physical.new buffer.now }
+{
+    let response = physical.load(size, asi, at, at as u64, before, timeline, notes)?;
+    Ok(response)
+}
+
+/// Stores to RAM or a device at an address that is not translated.
+#[inline(always)]
+pub fn store_untranslated<const PAGES: usize, T: Touches>(
+    physical: &mut Physical<PAGES>,
+    buffer: &mut Buffer,
+    size: Size,
+    asi: u8,
+    at: u32,
+    value: u64,
+    notes: &mut T,
+) -> Result<Response, AllocError>
+    requires untranslated { translates physical.old.mmu ≡ false }
+    requires space { space_of asi ≡ Space.Virtual }
+    requires aligned { at % bytes_in size ≡ 0 }
+    requires serves { Serves physical.old buffer.old }
+    ensures ok { IfOk result (λ r. (bytes : List ℕ) → MemoryDoes T.KEEPS bytes (access (ram_size PAGES) (units_of physical.old) (AccessRequest.Store size asi at value))
+        physical.old physical.new r (T.noted notes.old) (T.noted notes.new)) }
+    ensures taken { OnOk result (physical.new.phys.taken ≡ physical.old.phys.taken) }
+    ensures serves { Serves physical.new buffer.new }
+{
+    let response = store_physical(physical, buffer, size, asi, at, at as u64, value, notes)?;
+    Ok(response)
 }
 
 /// Makes an access. The bytes that came in at the console at the steps below `before` have arrived.

@@ -1,6 +1,9 @@
 //! From words to instructions, and back.
 
-ghost use Rattle.std.specs.Prelude.{◌≡◌, IfSome};
+ghost use Rattle.std.specs.Prelude.{◌≡◌, ◌==◌, IfSome};
+ghost use Rattle.sv8_model.specs.Words.{field, signed};
+ghost use Rattle.sv8_isa.specs.declared.instr.Instr.TheVariants.{Bicc};
+ghost use Rattle.sv8_isa.specs.Operands.{condition_of};
 ghost use Rattle.sv8_isa.specs.Encoding.{encoding};
 ghost use Rattle.sv8_isa.specs.Registers.{HasRegisters};
 ghost use Rattle.sv8_isa.specs.Table.{meaning, is_queue_store};
@@ -77,6 +80,18 @@ macro_rules! opcodes {
     };
 }
 
+/// Bicc with the fields of a word.
+#[inline(always)]
+fn branch(word: u32) -> Instr
+    ensures { result ≡ Bicc (condition_of (field word 28 25)) (field word 29 29 == 1) (signed (field word 21 0) 22) }
+{
+    Instr::Bicc {
+        cond: condition(word),
+        annul: bits(word, 29, 29) == 1,
+        disp22: sign_extend(bits(word, 21, 0), 22),
+    }
+}
+
 /// A `match` on a word, from the list.
 macro_rules! decode_rows {
     (
@@ -106,11 +121,7 @@ macro_rules! decode_rows {
         match bits($word, 31, 30) {
             0 => match bits($word, 24, 22) {
                 $unimp => Instr::Unimp(bits($word, 21, 0)),
-                $bicc => Instr::Bicc {
-                    cond: condition($word),
-                    annul: bits($word, 29, 29) == 1,
-                    disp22: sign_extend(bits($word, 21, 0), 22),
-                },
+                $bicc => branch($word),
                 $sethi => Instr::Sethi { imm22: bits($word, 21, 0), rd },
                 $($near_code => Instr::$near($word),)*
                 _ => Instr::Illegal,
@@ -175,6 +186,104 @@ pub fn decode(word: u32) -> Instr
     ensures registers { HasRegisters result }
 {
     opcodes!(decode_rows!(word))
+}
+
+/// A `match` on op3, from the group of arithmetic and logic.
+macro_rules! arithmetic_rows {
+    ([$word:ident] arith { $($arith:ident $plain:literal $cc:literal),* } $($later:tt)*) => {{
+        let rd = register($word, 25);
+        let rs1 = register($word, 14);
+        let operand = operand($word);
+        match bits($word, 24, 19) {
+            $(
+                $plain => Some(Instr::Arith { op: ArithOp::$arith, cc: false, rd, rs1, operand }),
+                $cc => Some(Instr::Arith { op: ArithOp::$arith, cc: true, rd, rs1, operand }),
+            )*
+            _ => None,
+        }
+    }};
+    ([$word:ident] $group:ident $rows:tt $($later:tt)*) => {
+        arithmetic_rows!([$word] $($later)*)
+    };
+}
+
+/// A `match` on op3, from the group of loads and stores.
+macro_rules! memory_rows {
+    ([$word:ident] memory { $($memory:ident $normal:literal $alternate:literal),* } $($later:tt)*) => {{
+        let rd = register($word, 25);
+        let rs1 = register($word, 14);
+        let operand = operand($word);
+        match bits($word, 24, 19) {
+            $($normal => Some(Instr::Memory { op: MemoryOp::$memory, rd, rs1, operand }),)*
+            _ => None,
+        }
+    }};
+    ([$word:ident] $group:ident $rows:tt $($later:tt)*) => {
+        memory_rows!([$word] $($later)*)
+    };
+}
+
+/// The instruction of a word, if it is one of arithmetic and logic that has a form which sets the condition codes.
+///
+/// It is `decode` for these alone, for a caller that has a way of its own for them. `None` says nothing of the word.
+#[tactic(auto, unfolding(crate::specs::Table::meaning))]
+#[inline(always)]
+pub fn decode_arithmetic(word: u32) -> Option<Instr>
+    ensures value { IfSome result (λ i. i ≡ meaning word) }
+    ensures registers { IfSome result (λ i. HasRegisters i) }
+{
+    if bits(word, 31, 30) != 2 {
+        return None;
+    }
+    opcodes!(arithmetic_rows!(word))
+}
+
+/// The instruction of a word, if it is a load or a store of an integer register with no address space of its own.
+///
+/// It is `decode` for these alone, for a caller that has a way of its own for them. `None` says nothing of the word.
+#[tactic(auto, unfolding(crate::specs::Table::meaning))]
+#[inline(always)]
+pub fn decode_memory(word: u32) -> Option<Instr>
+    ensures value { IfSome result (λ i. i ≡ meaning word) }
+    ensures registers { IfSome result (λ i. HasRegisters i) }
+{
+    if bits(word, 31, 30) != 3 {
+        return None;
+    }
+    opcodes!(memory_rows!(word))
+}
+
+/// A `match` on op2, from the group of op 0.
+macro_rules! format_2_rows {
+    (
+        [$word:ident]
+        format_2 { Unimp $unimp:literal, Bicc $bicc:literal, Sethi $sethi:literal }
+        $($later:tt)*
+    ) => {
+        match bits($word, 24, 22) {
+            $bicc => Some(branch($word)),
+            $sethi => Some(Instr::Sethi { imm22: bits($word, 21, 0), rd: register($word, 25) }),
+            _ => None,
+        }
+    };
+    ([$word:ident] $group:ident $rows:tt $($later:tt)*) => {
+        format_2_rows!([$word] $($later)*)
+    };
+}
+
+/// The instruction of a word, if it is Bicc or SETHI.
+///
+/// It is `decode` for these alone, for a caller that has a way of its own for them. `None` says nothing of the word.
+#[tactic(auto, unfolding(crate::specs::Table::meaning))]
+#[inline(always)]
+pub fn decode_format_2(word: u32) -> Option<Instr>
+    ensures value { IfSome result (λ i. i ≡ meaning word) }
+    ensures registers { IfSome result (λ i. HasRegisters i) }
+{
+    if bits(word, 31, 30) != 0 {
+        return None;
+    }
+    opcodes!(format_2_rows!(word))
 }
 
 /// A `match` on an instruction, from the list.

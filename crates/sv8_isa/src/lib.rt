@@ -9,5 +9,5 @@ pub mod laws;
 mod tests;
 mod word;
 
-pub use codec::{decode, encode, is_queue_store};
+pub use codec::{decode, decode_arithmetic, decode_format_2, decode_memory, encode, is_queue_store};
 pub use instr::{ArithOp, Cond, Instr, MemoryOp, Operand, ShiftOp, StateRegister, TaggedOp};

@@ -122,7 +122,7 @@ pub fn arithmetic<const NW: usize>(
 }
 
 #[inline(always)]
-fn divides(op: ArithOp) -> bool
+pub fn divides(op: ArithOp) -> bool
     ensures { result ≡ divides op }
 {
     matches!(op, ArithOp::Udiv | ArithOp::Sdiv)

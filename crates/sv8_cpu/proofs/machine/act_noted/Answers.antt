@@ -1,4 +1,4 @@
-use Rattle.std.proofs.Common.{refl, sym}
+use Rattle.std.proofs.Common.{refl}
 use Rattle.sv8_phys.proofs.Common.{length-arrived}
 use Rattle.sv8_cpu.specs.Whole.{inner_of_parts}
 use Rattle.sv8_cpu.proofs.Leaving.{left}

@@ -1,4 +1,4 @@
-use Rattle.std.proofs.Common.{◌≡◌, ℕ, ◌-◌, length, drop, arith}
+use Rattle.std.proofs.Common.{arith}
 use Rattle.sv8_phys.specs.Contents.{arrived}
 use Rattle.sv8_phys.proofs.Common.{length-arrived}
 use Rattle.sv8_cpu.proofs.Leaving.{length-dropped}
