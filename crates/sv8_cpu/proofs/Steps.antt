@@ -18,16 +18,16 @@ use Rattle.sv8_trap.specs.declared.table.Trap.{Trap}
 use Rattle.sv8_trap.specs.Table.{taken}
 use Rattle.sv8_trap.specs.Processor.{Processor}
 use Rattle.sv8_trap.specs.Interrupt.{unmasked}
-use Rattle.sv8_cpu.specs.declared.access.AccessRequest.{AccessRequest}
-use Rattle.sv8_cpu.specs.declared.access.AccessRequest.TheVariants.{Nothing, Fetch}
-use Rattle.sv8_cpu.specs.declared.access.Response.{Response}
+use Rattle.sv8_iu.specs.declared.request.AccessRequest.{AccessRequest}
+use Rattle.sv8_iu.specs.declared.request.AccessRequest.TheVariants.{Nothing, Fetch}
+use Rattle.sv8_iu.specs.declared.request.Response.{Response}
 use Rattle.sv8_cpu.specs.declared.machine.Parts.{Parts}
 use Rattle.sv8_cpu.specs.Units.{Units, Served, served}
 use Rattle.sv8_cpu.specs.Access.{access}
-use Rattle.sv8_cpu.specs.Operands.{sum_of_sources}
-use Rattle.sv8_cpu.specs.Memory.{memory_traps, access_of}
-use Rattle.sv8_cpu.specs.Instruction.{raised, asked, trapped, data_space}
-use Rattle.sv8_cpu.specs.Step.{Inner, answered, finished_access, executed, carried_out, IsPlain, fetched, instruction, requested, interruptible, with_timer, awake}
+use Rattle.sv8_iu.specs.Operands.{sum_of_sources}
+use Rattle.sv8_iu.specs.Memory.{memory_traps, access_of}
+use Rattle.sv8_iu.specs.Instruction.{raised, asked, trapped, data_space, IsPlain}
+use Rattle.sv8_cpu.specs.Step.{Inner, answered, finished_access, executed, carried_out, fetched, instruction, requested, interruptible, with_timer, awake}
 use Rattle.sv8_cpu.specs.Whole.{inner_of_parts, MayCarryOut}
 
 module _ (keeps : Bool) (windows limit : ℕ) (m : Inner) where

@@ -1,11 +1,10 @@
 -- One access to memory, as an action: by the address space, the translation of the address and then RAM, the console, another device, or a fault; the
 -- registers of the memory management unit; or a probe of its tables (Appendix H, Appendix I for the address spaces).
-use Rattle.std.specs.Prelude.{◌≡◌, ℕ, ◌+◌, ◌*◌, ◌/◌, ◌%◌, ◌^◌, ◌==◌, ◌&&◌, Bool, true, false, nat_lt, nat_le, Result, Ok, Err, Option, Some, None, if◌then◌else◌}
+use Rattle.std.specs.Prelude.{ℕ, ◌+◌, ◌*◌, ◌%◌, ◌^◌, ◌==◌, ◌&&◌, Bool, true, false, nat_lt, Result, Ok, Err, Option, Some, None, if◌then◌else◌}
 use Rattle.sv8_model.specs.Action.{Action, done, take_input, count_waiting, ◌>>=◌}
 use Rattle.sv8_phys.specs.declared.fault.BusError.{BusError}
 use Rattle.sv8_phys.specs.declared.size.Size.{Size}
 use Rattle.sv8_phys.specs.declared.size.Size.TheVariants.{Byte, Half, Word, Double}
-use Rattle.sv8_phys.specs.Memory.{bytes_in}
 use Rattle.sv8_phys.specs.Devices.{Stored, load, store, ram_load, ram_store, input_address, waiting_address}
 use Rattle.sv8_mmu.specs.declared.registers.Fault.{Fault}
 use Rattle.sv8_mmu.specs.declared.translation.Reach.{Reach}
@@ -18,22 +17,14 @@ use Rattle.sv8_mmu.specs.Probe.{probe}
 use Rattle.sv8_trap.specs.declared.table.Trap.{Trap}
 use Rattle.sv8_trap.specs.declared.table.Trap.TheVariants.{InstructionAccessException, DataAccessException}
 use Rattle.sv8_cpu.specs.Units.{Units, Served, served, failed}
-use Rattle.sv8_cpu.specs.declared.access.AccessRequest.{AccessRequest}
-use Rattle.sv8_cpu.specs.declared.access.AccessRequest.TheVariants as request
-use Rattle.sv8_cpu.specs.declared.access.Response.TheVariants.{Refused}
-use Rattle.sv8_cpu.specs.declared.access.Space.{Space}
-use Rattle.sv8_cpu.specs.declared.access.Space.TheVariants as space
+use Rattle.sv8_iu.specs.declared.request.AccessRequest.{AccessRequest}
+use Rattle.sv8_iu.specs.declared.request.AccessRequest.TheVariants as request
+use Rattle.sv8_iu.specs.declared.request.Response.TheVariants.{Refused}
+use Rattle.sv8_iu.specs.declared.request.Space.{Space}
+use Rattle.sv8_iu.specs.declared.request.Space.TheVariants as space
+use Rattle.sv8_iu.specs.Requests.{space_of}
 
 -- ---- address spaces
-
--- 3 probes the tables, 4 has the registers of the unit; 8 to B are user and supervisor instructions and data, and 20 to 2F physical addresses, of which
--- they are bits 35:32
-unfoldable pub space_of : ℕ → Space
-space_of asi =
-    if asi == 0x03 then space.Probing else
-    (if asi == 0x04 then space.Registers else
-    (if nat_le 0x08 asi && nat_le asi 0x0b then space.Virtual else
-    (if asi / 16 == 2 then space.Physical (asi % 16) else space.Unassigned)))
 
 -- the space that instructions are fetched from
 abbrev pub instruction_space : Bool → ℕ
@@ -182,11 +173,3 @@ access limit u (request.Fetch supervisor at) = fetched_in limit u (instruction_s
 access limit u (request.Load size asi at) = loaded_in limit u size asi at (space_of asi)
 access limit u (request.Store size asi at value) = stored_in limit u size asi at value (space_of asi)
 access limit u (request.Exchange size asi at value) = exchanged_in limit u size asi at value (space_of asi)
-
--- the address is a multiple of the size
-abbrev pub IsAligned : AccessRequest → Type 0
-IsAligned request.Nothing = Unit {0}
-IsAligned (request.Fetch supervisor at) = at % 4 ≡ 0
-IsAligned (request.Load size asi at) = at % bytes_in size ≡ 0
-IsAligned (request.Store size asi at value) = at % bytes_in size ≡ 0
-IsAligned (request.Exchange size asi at value) = at % bytes_in size ≡ 0

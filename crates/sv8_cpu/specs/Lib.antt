@@ -1,10 +1,3 @@
-pub mod Operands
-pub mod Arithmetic
-pub mod Control
-pub mod Windows
-pub mod StateRegisters
-pub mod Memory
-pub mod Instruction
 pub mod Units
 pub mod Access
 pub mod Step

@@ -1,5 +1,5 @@
 -- One step of the machine behind its events, as an action: the timer, and then an interrupt, an annulled slot, or one instruction.
-use Rattle.std.specs.Prelude.{◌≡◌, ℕ, ◌==◌, Option, Some, None, if◌then◌else◌}
+use Rattle.std.specs.Prelude.{ℕ, ◌==◌, Option, Some, None, if◌then◌else◌}
 use Rattle.sv8_isa.specs.declared.instr.Instr.{Instr}
 use Rattle.sv8_isa.specs.Table.{meaning}
 use Rattle.sv8_model.specs.Action.{Action, done, ask_levels, ◌>>=◌}
@@ -10,11 +10,11 @@ use Rattle.sv8_trap.specs.Table.{taken}
 use Rattle.sv8_trap.specs.Processor.{Processor, slot_skipped}
 use Rattle.sv8_trap.specs.Entry.{with_trap, interrupted}
 use Rattle.sv8_trap.specs.Interrupt.{unmasked, highest}
-use Rattle.sv8_cpu.specs.declared.access.AccessRequest.TheVariants.{Nothing, Fetch}
-use Rattle.sv8_cpu.specs.declared.access.Response.{Response}
-use Rattle.sv8_cpu.specs.declared.access.Response.TheVariants.{Value, Refused}
-use Rattle.sv8_cpu.specs.Memory.{low_word}
-use Rattle.sv8_cpu.specs.Instruction.{raised, trapped, asked, complete}
+use Rattle.sv8_iu.specs.declared.request.AccessRequest.TheVariants.{Fetch}
+use Rattle.sv8_iu.specs.declared.request.Response.{Response}
+use Rattle.sv8_iu.specs.declared.request.Response.TheVariants.{Value, Refused}
+use Rattle.sv8_iu.specs.Memory.{low_word}
+use Rattle.sv8_iu.specs.Instruction.{raised, trapped, asked, complete}
 use Rattle.sv8_cpu.specs.Units.{Units, Served}
 use Rattle.sv8_cpu.specs.Access.{access}
 
@@ -41,10 +41,6 @@ executed windows limit m i None = access limit m.units (asked windows m.processo
 -- the word that was fetched is carried out
 abbrev pub carried_out : ℕ → ℕ → Inner → ℕ → Action Inner
 carried_out windows limit m word = executed windows limit m (meaning word) (taken (raised windows m.processor (meaning word)))
-
--- the instruction raises no trap, asks for no access, and makes q of the processor p
-abbrev pub IsPlain : ℕ → Processor → Instr → Processor → Type 0
-IsPlain windows p i q = (taken (raised windows p i) ≡ None) × (asked windows p i ≡ Nothing) × (q ≡ complete windows p i 0)
 
 abbrev pub fetched : ℕ → ℕ → Processor → Response → Units → Action Inner
 fetched windows limit p (Refused t) u = done (record { processor = with_trap windows p t; units = u })

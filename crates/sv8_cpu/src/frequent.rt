@@ -1,4 +1,4 @@
-//! Ways of their own for the instructions that programs are mostly made of.
+//! A way of its own for the frequent loads and stores, beside that of other frequent instructions (`sv8_iu`).
 //!
 //! `carry_out_word` of the machine carries out every instruction. What is here carries out some of them by a shorter way, tells
 //! whether it has, and leaves all others as they are.
@@ -11,72 +11,26 @@ ghost use Rattle.sv8_phys.specs.Contents.{arrived};
 ghost use Rattle.sv8_phys.specs.Memory.{bytes_in, ram_size};
 ghost use Rattle.sv8_time.specs.Schedule.{bytes_below};
 ghost use Rattle.sv8_cpu.specs.Access.{access};
-ghost use Rattle.sv8_cpu.specs.Instruction.{data_space};
-ghost use Rattle.sv8_cpu.specs.Memory.{size_of, access_of};
-ghost use Rattle.sv8_cpu.specs.Step.{answered, IsPlain};
+ghost use Rattle.sv8_iu.specs.Instruction.{data_space};
+ghost use Rattle.sv8_iu.specs.Memory.{size_of, access_of};
+ghost use Rattle.sv8_cpu.specs.Step.{answered};
 ghost use Rattle.sv8_cpu.specs.View.{MemoryDoes, units_of};
 ghost use Rattle.sv8_cpu.specs.Whole.{MayCarryOut};
 
-use crate::access::Response;
-use crate::instruction::arithmetic::{arithmetic, divides, set_upper};
-use crate::instruction::{branch, data_space, finish_access, memory_trap, sum_of_sources};
 use crate::machine::Parts;
 use crate::memory::Memory;
 use std::alloc::AllocError;
-use sv8_isa::{Instr, MemoryOp, Operand, decode_arithmetic, decode_format_2, decode_memory};
+use sv8_isa::{Group, Instr, MemoryOp, Operand, decode_memory, group};
+use sv8_iu::{
+    Response, carry_out_plainly, data_space, finish_access, memory_trap, sum_of_sources,
+};
 use sv8_phys::{Size, Touches};
 use sv8_time::Timeline;
 use sv8_trap::Processor;
 
-/// Carries out arithmetic and logic, but no division, which may trap (Appendices B.11 to B.18).
-#[inline(never)]
-fn carry_out_arithmetic<const NW: usize>(p: &mut Processor<NW>, word: u32) -> bool
-    ensures { MatchBool result (IsPlain NW p.old (meaning word) p.new) (p.new ≡ p.old) }
-{
-    match decode_arithmetic(word) {
-        Some(
-            Instr::Arith {
-                op,
-                cc,
-                rd,
-                rs1,
-                operand,
-            },
-        ) if !divides(op) => {
-            arithmetic(p, op, cc, rd, rs1, operand);
-            true
-        }
-        _ => false,
-    }
-}
-
-/// Carries out Bicc and SETHI (Appendices B.21 and B.9).
-#[inline(never)]
-fn carry_out_format_2<const NW: usize>(p: &mut Processor<NW>, word: u32) -> bool
-    ensures { MatchBool result (IsPlain NW p.old (meaning word) p.new) (p.new ≡ p.old) }
-{
-    match decode_format_2(word) {
-        Some(
-            Instr::Bicc {
-                cond,
-                annul,
-                disp22,
-            },
-        ) => {
-            branch(p, cond, annul, disp22);
-            true
-        }
-        Some(Instr::Sethi { imm22, rd }) => {
-            set_upper(p, rd, imm22);
-            true
-        }
-        _ => false,
-    }
-}
-
 /// Makes the access of a load or a store of a word or a byte, where addresses are not translated.
 #[inline(always)]
-#[tactic(auto, unfolding(crate::specs::Memory::access_of))]
+#[tactic(auto, unfolding(sv8_iu::specs::Memory::access_of))]
 fn make_access<const NW: usize, const PAGES: usize, T: Touches>(
     p: &Processor<NW>,
     memory: &mut Memory<PAGES>,
@@ -129,7 +83,7 @@ fn finish<const NW: usize>(p: &mut Processor<NW>, op: MemoryOp, rd: u8, response
 impl<const NW: usize, const PAGES: usize> Parts<NW, PAGES> {
     /// Carries out a load or a store with these fields, if it is one of a word or a byte and raises no trap before its access.
     #[inline(always)]
-    #[tactic(auto, using(crate::proofs::Choices::aligned_access))]
+    #[tactic(auto, using(sv8_iu::proofs::Choices::aligned_access))]
     fn transfer<T: Touches>(
         &mut self,
         op: MemoryOp,
@@ -213,14 +167,12 @@ impl<const NW: usize, const PAGES: usize> Parts<NW, PAGES> {
         ensures ok { IfOk result (MayCarryOut T.KEEPS (arrived before timeline.now) word self.old self.new (T.noted notes.old) (T.noted notes.new)) }
         ensures taken { OnOk result (self.new.memory.phys.taken ≤ bytes_below before timeline.now.inputs) }
     {
-        match word >> 30 {
-            0 => Ok(carry_out_format_2(&mut self.processor, word)),
-            2 => Ok(carry_out_arithmetic(&mut self.processor, word)),
-            3 => {
+        match group(word) {
+            Group::Memory => {
                 let found = self.carry_out_access(word, before, timeline, notes)?;
                 Ok(found)
             }
-            _ => Ok(false),
+            _ => Ok(carry_out_plainly(&mut self.processor, word)),
         }
     }
 }

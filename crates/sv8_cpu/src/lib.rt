@@ -1,10 +1,8 @@
 //! The machine: its state, and one step of it (The SPARC Architecture Manual, Version 8).
 #![tactic(auto)]
 
-mod access;
 mod events;
 mod frequent;
-mod instruction;
 mod laws;
 mod loading;
 mod machine;

@@ -9,15 +9,16 @@ ghost use Rattle.sv8_phys.specs.Contents.{arrived, outside_of};
 ghost use Rattle.sv8_phys.specs.Devices.{tick};
 ghost use Rattle.sv8_mmu.specs.Registers.{registers_at_reset, translates};
 ghost use Rattle.sv8_cpu.specs.Events.{with_events};
-ghost use Rattle.sv8_cpu.specs.Access.{access, space_of, IsAligned};
+ghost use Rattle.sv8_iu.specs.Requests.{space_of, IsAligned};
+ghost use Rattle.sv8_cpu.specs.Access.{access};
 ghost use Rattle.sv8_cpu.specs.View.{MemoryDoes, units_of};
 
-use crate::access::{AccessRequest, Response, Space};
 use crate::events::happen;
 use crate::physical::Physical;
 use crate::spaces::{access, load_untranslated, store_untranslated};
 use std::alloc::{AllocError, Global};
 use std::marker::Model;
+use sv8_iu::{AccessRequest, Response, Space};
 use sv8_mmu::{Buffer, MmuRegisters};
 use sv8_phys::{Page, Phys, Size, Touches};
 use sv8_time::Timeline;

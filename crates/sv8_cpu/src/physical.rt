@@ -10,8 +10,8 @@ ghost use Rattle.sv8_cpu.specs.Units.{served, failed, is_hidden};
 ghost use Rattle.sv8_cpu.specs.Access.{load_type, store_type, bus_fault, fetched_from, load_answer, is_word, takes_byte, counts_bytes, plainly_loaded, loaded_from, answer_to_store, stored_at, exchanged_at};
 ghost use Rattle.sv8_cpu.specs.View.{MemoryDoes, units_of};
 
-use crate::access::Response;
 use std::alloc::AllocError;
+use sv8_iu::Response;
 use sv8_mmu::{Fault, MmuRegisters};
 use sv8_phys::{BusError, INPUT, Phys, Size, Touches, WAITING};
 use sv8_time::Timeline;

@@ -7,13 +7,14 @@ ghost use Rattle.sv8_mmu.specs.Registers.{translates};
 ghost use Rattle.sv8_phys.specs.Memory.{bytes_in, ram_size};
 ghost use Rattle.sv8_phys.specs.Contents.{arrived};
 ghost use Rattle.sv8_cpu.specs.Units.{served, failed};
-ghost use Rattle.sv8_cpu.specs.Access.{load_type, store_type, physical_place, fetched_in, loaded_in, stored_in, exchanged_in, stored_at, exchanged_at, reach_of, space_of, instruction_space, is_word, no_such_access, answer_of_register, register_loaded, register_stored, probed, access, IsAligned};
+ghost use Rattle.sv8_iu.specs.Requests.{space_of, IsAligned};
+ghost use Rattle.sv8_cpu.specs.Access.{load_type, store_type, physical_place, fetched_in, loaded_in, stored_in, exchanged_in, stored_at, exchanged_at, reach_of, instruction_space, is_word, no_such_access, answer_of_register, register_loaded, register_stored, probed, access};
 ghost use Rattle.sv8_cpu.specs.View.{MemoryDoes, units_of, Serves};
 ghost use Rattle.sv8_cpu.specs.Locating.{Locates, IsPlace};
 
-use crate::access::{AccessRequest, Response, Space, space_of};
 use crate::physical::{Physical, is_word, load_type, store_type};
 use std::alloc::AllocError;
+use sv8_iu::{AccessRequest, Response, Space, space_of};
 use sv8_mmu::{Buffer, Fault, Reach, Translated, VirtualAccess, probe, translate, write_register};
 use sv8_phys::{Size, Touches};
 use sv8_time::Timeline;

@@ -12,7 +12,10 @@ use crate::Operand::{Immediate, Register};
 use crate::ShiftOp::{Sll, Sra, Srl};
 use crate::StateRegister::{Psr, Tbr, Wim, Y};
 use crate::TaggedOp::{TaddCc, TaddCcTv, TsubCc, TsubCcTv};
-use crate::{Instr, decode, decode_arithmetic, decode_format_2, decode_memory, encode};
+use crate::{
+    Instr, decode, decode_arithmetic, decode_call, decode_format_2, decode_memory,
+    decode_three_fields, encode,
+};
 use std::test::Fail;
 
 /// An instruction, from its fields in the order of `Instr`.
@@ -326,6 +329,10 @@ fn decode_of_its_group(word: u32, instr: Instr) -> Option<Instr> {
     match instr {
         Instr::Arith { .. } => decode_arithmetic(word),
         Instr::Memory { .. } => decode_memory(word),
+        Instr::Call { .. } => decode_call(word),
+        Instr::Mulscc { .. } | Instr::Jmpl { .. } | Instr::Save { .. } | Instr::Restore { .. } => {
+            decode_three_fields(word)
+        }
         Instr::Bicc { .. } | Instr::Sethi { .. } => decode_format_2(word),
         _ => Some(instr),
     }

@@ -10,9 +10,9 @@ use Rattle.sv8_regs.specs.Ring.{read}
 use Rattle.sv8_trap.specs.declared.table.Trap.{Trap}
 use Rattle.sv8_trap.specs.declared.table.Trap.TheVariants.{IllegalInstruction, MemAddressNotAligned}
 use Rattle.sv8_trap.specs.Processor.{Processor, advanced, with_register, with_result}
-use Rattle.sv8_cpu.specs.Operands.{when}
-use Rattle.sv8_cpu.specs.declared.access.AccessRequest.{AccessRequest}
-use Rattle.sv8_cpu.specs.declared.access.AccessRequest.TheVariants.{Load, Store, Exchange}
+use Rattle.sv8_iu.specs.Operands.{when}
+use Rattle.sv8_iu.specs.declared.request.AccessRequest.{AccessRequest}
+use Rattle.sv8_iu.specs.declared.request.AccessRequest.TheVariants.{Load, Store, Exchange}
 
 -- how much it loads or stores
 abbrev pub size_of : MemoryOp → Size

@@ -4,10 +4,10 @@ ghost use Rattle.std.specs.Prelude.{◌≡◌, ◌<◌, ◌≤◌, ◌*◌, ◌%
 ghost use Rattle.sv8_isa.specs.Registers.{OperandHasRegister};
 ghost use Rattle.sv8_trap.specs.Table.{taken};
 ghost use Rattle.sv8_trap.specs.Entry.{returned};
-ghost use Rattle.sv8_cpu.specs.Operands.{sum_of_sources};
-ghost use Rattle.sv8_cpu.specs.Control.{is_less, holds, is_always, distance, branched, called, is_misaligned, jump_traps, jumped, return_traps, number_traps};
+ghost use Rattle.sv8_iu.specs.Operands.{sum_of_sources};
+ghost use Rattle.sv8_iu.specs.Control.{is_less, holds, is_always, distance, branched, called, is_misaligned, jump_traps, jumped, return_traps, number_traps};
 
-use super::{sum_of_sources, word_of};
+use crate::operands::{sum_of_sources, word_of};
 use sv8_isa::{Cond, Operand};
 use sv8_regs::Psr;
 use sv8_trap::{Processor, Trap};

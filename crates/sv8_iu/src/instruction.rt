@@ -2,68 +2,24 @@
 
 ghost use Rattle.std.specs.Prelude.{◌≡◌, ◌<◌, ◌≤◌, ◌%◌, ◌*◌, ◌^◌, ◌⊎◌, None};
 ghost use Rattle.sv8_isa.specs.Registers.{HasRegisters, OperandHasRegister};
-ghost use Rattle.sv8_model.specs.Words.{word_of_number};
 ghost use Rattle.sv8_trap.specs.Table.{taken};
 ghost use Rattle.sv8_isa.specs.Table.{is_queue_store};
-ghost use Rattle.sv8_cpu.specs.Operands.{operand_value, sum_of_sources};
-ghost use Rattle.sv8_cpu.specs.Memory.{memory_traps};
-ghost use Rattle.sv8_cpu.specs.Instruction.{disabled_traps, immediate_traps, raised, trapped, data_space, asked, complete};
-ghost use Rattle.sv8_cpu.specs.Access.{space_of, IsAligned};
+ghost use Rattle.sv8_iu.specs.Operands.{sum_of_sources};
+ghost use Rattle.sv8_iu.specs.Memory.{memory_traps};
+ghost use Rattle.sv8_iu.specs.Instruction.{disabled_traps, immediate_traps, raised, trapped, data_space, asked, complete};
+ghost use Rattle.sv8_iu.specs.Requests.{space_of, IsAligned};
 
-pub mod arithmetic;
-mod control;
-mod memory;
-mod state_registers;
-mod windows;
-
-use crate::access::{AccessRequest, Space};
-use arithmetic::{
+use crate::arithmetic::{
     arithmetic, arithmetic_trap, multiply_step, set_upper, shift, tagged, tagged_trap,
 };
-pub use control::branch;
-use control::{call, go_back, jump, jump_trap, number_trap, return_trap};
-use memory::{access_of, alternate_trap};
-pub use memory::{finish_access, low_word, memory_trap};
-use state_registers::{read_state, read_trap, write_state, write_trap};
+use crate::control::{branch, call, go_back, jump, jump_trap, number_trap, return_trap};
+use crate::memory::{access_of, alternate_trap, finish_access, memory_trap};
+use crate::operands::sum_of_sources;
+use crate::request::{AccessRequest, Space};
+use crate::state_registers::{read_state, read_trap, write_state, write_trap};
+use crate::windows::{restore, restore_trap, save, save_trap};
 use sv8_isa::{Instr, Operand, is_queue_store};
 use sv8_trap::{Processor, Trap};
-use windows::{restore, restore_trap, save, save_trap};
-
-/// The word that stands for a number in two's complement.
-#[inline(always)]
-fn word_of(number: i32) -> u32
-    ensures { result ≡ word_of_number number }
-{
-    if number < 0 {
-        (i64::from(number) + 0x1_0000_0000) as u32
-    } else {
-        number as u32
-    }
-}
-
-/// The value of a second source.
-#[inline(always)]
-fn operand_value<const NW: usize>(p: &Processor<NW>, operand: Operand) -> u32
-    requires { OperandHasRegister operand }
-    ensures { result ≡ operand_value NW p.now operand }
-{
-    match operand {
-        Operand::Register(register) => p.registers().get(u32::from(register)),
-        Operand::Immediate(number) => word_of(number),
-    }
-}
-
-/// r[rs1] plus the second source.
-#[inline(always)]
-#[tactic(auto, unfolding(crate::specs::Operands::sum_of_sources))]
-pub fn sum_of_sources<const NW: usize>(p: &Processor<NW>, rs1: u8, operand: Operand) -> u32
-    requires rs1 { rs1 < 32 }
-    requires operand { OperandHasRegister operand }
-    ensures { result ≡ sum_of_sources NW p.now rs1 operand }
-{
-    let first = p.registers().get(u32::from(rs1));
-    first.wrapping_add(operand_value(p, operand))
-}
 
 /// The trap of an instruction of a unit that is not there.
 #[tactic(auto, using(crate::proofs::Choices::privileged_choice), unfolding(crate::specs::Instruction::disabled_traps))]
@@ -143,7 +99,7 @@ pub fn raised_by<const NW: usize>(p: &Processor<NW>, instr: Instr) -> Option<Tra
 }
 
 /// Takes a trap that an instruction raises; RETT's are special.
-pub fn take<const NW: usize>(p: &mut Processor<NW>, instr: Instr, trap: Trap)
+pub fn take_trap<const NW: usize>(p: &mut Processor<NW>, instr: Instr, trap: Trap)
     ensures { p.new ≡ trapped NW p.old instr trap }
 {
     match instr {
@@ -154,7 +110,7 @@ pub fn take<const NW: usize>(p: &mut Processor<NW>, instr: Instr, trap: Trap)
 
 /// The address space of plain loads and stores.
 #[inline(always)]
-#[tactic(auto, unfolding(crate::specs::Access::space_of))]
+#[tactic(auto, unfolding(crate::specs::Requests::space_of))]
 pub fn data_space<const NW: usize>(p: &Processor<NW>) -> u8
     ensures value { result ≡ data_space p.now }
     ensures space { space_of result ≡ Space.Virtual }

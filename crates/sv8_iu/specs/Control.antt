@@ -10,7 +10,7 @@ use Rattle.sv8_regs.specs.declared.Psr.{Psr}
 use Rattle.sv8_trap.specs.declared.table.Trap.{Trap}
 use Rattle.sv8_trap.specs.declared.table.Trap.TheVariants.{PrivilegedInstruction, IllegalInstruction, WindowUnderflow, MemAddressNotAligned, TrapInstruction}
 use Rattle.sv8_trap.specs.Processor.{Processor, plus, transferred, with_register}
-use Rattle.sv8_cpu.specs.Operands.{sum_of_sources, when}
+use Rattle.sv8_iu.specs.Operands.{sum_of_sources, when}
 
 -- ---- conditions
 

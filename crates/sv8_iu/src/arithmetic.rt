@@ -4,10 +4,10 @@ ghost use Rattle.std.specs.Prelude.{◌≡◌, ◌<◌, ◌≤◌, ◌*◌, ◌%
 ghost use Rattle.sv8_isa.specs.Registers.{OperandHasRegister};
 ghost use Rattle.sv8_regs.specs.Ring.{read};
 ghost use Rattle.sv8_trap.specs.Table.{taken};
-ghost use Rattle.sv8_cpu.specs.Operands.{operand_value};
-ghost use Rattle.sv8_cpu.specs.Arithmetic.{codes_of, icc_of_psr, finished, finished_product, finished_quotient, operated, arithmetic, divides, arithmetic_traps, traps_on_overflow, tagged_of, tagged, tagged_traps, stepped, multiply_step, shift_form, shifted, upper_set};
+ghost use Rattle.sv8_iu.specs.Operands.{operand_value};
+ghost use Rattle.sv8_iu.specs.Arithmetic.{codes_of, icc_of_psr, finished, finished_product, finished_quotient, operated, arithmetic, divides, arithmetic_traps, traps_on_overflow, tagged_of, tagged, tagged_traps, stepped, multiply_step, shift_form, shifted, upper_set};
 
-use super::operand_value;
+use crate::operands::operand_value;
 use sv8_alu::{Answer, Icc, Logical, Product, ShiftForm, Step};
 use sv8_isa::{ArithOp, Operand, ShiftOp, TaggedOp};
 use sv8_regs::{ConditionCodes, Psr};

@@ -4,9 +4,9 @@ ghost use Rattle.std.specs.Prelude.{◌≡◌, ◌<◌, ◌≤◌, [], ◌++◌,
 ghost use Rattle.sv8_isa.specs.Registers.{OperandHasRegister};
 ghost use Rattle.sv8_regs.specs.Control.{window_field};
 ghost use Rattle.sv8_trap.specs.Table.{taken};
-ghost use Rattle.sv8_cpu.specs.StateRegisters.{is_privileged, privilege_traps, state_word, state_read, written_word, names_no_window, write_traps, with_state, state_written};
+ghost use Rattle.sv8_iu.specs.StateRegisters.{is_privileged, privilege_traps, state_word, state_read, written_word, names_no_window, write_traps, with_state, state_written};
 
-use super::operand_value;
+use crate::operands::operand_value;
 use sv8_isa::{Operand, StateRegister};
 use sv8_regs::Regs;
 use sv8_trap::{Processor, Trap};

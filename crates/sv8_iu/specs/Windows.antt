@@ -6,7 +6,7 @@ use Rattle.sv8_regs.specs.Control.{below, above}
 use Rattle.sv8_trap.specs.declared.table.Trap.{Trap}
 use Rattle.sv8_trap.specs.declared.table.Trap.TheVariants.{WindowOverflow, WindowUnderflow}
 use Rattle.sv8_trap.specs.Processor.{Processor, with_result, in_window}
-use Rattle.sv8_cpu.specs.Operands.{sum_of_sources, when}
+use Rattle.sv8_iu.specs.Operands.{sum_of_sources, when}
 
 -- they trap where WIM marks the window that they go to
 abbrev pub save_traps : ℕ → Processor → List Trap

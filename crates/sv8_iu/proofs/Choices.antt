@@ -11,13 +11,13 @@ use Rattle.sv8_isa.specs.declared.instr.Operand.{Operand}
 use Rattle.sv8_isa.specs.declared.instr.StateRegister.{StateRegister}
 use Rattle.sv8_isa.specs.declared.instr.MemoryOp.{MemoryOp}
 use Rattle.sv8_phys.specs.Memory.{bytes_in}
-use Rattle.sv8_cpu.specs.Operands.{sum_of_sources, when}
-use Rattle.sv8_cpu.specs.Control.{is_misaligned, jump_traps, return_traps}
-use Rattle.sv8_cpu.specs.StateRegisters.{is_privileged, names_no_window, written_word, write_traps}
+use Rattle.sv8_iu.specs.Operands.{sum_of_sources, when}
+use Rattle.sv8_iu.specs.Control.{is_misaligned, jump_traps, return_traps}
+use Rattle.sv8_iu.specs.StateRegisters.{is_privileged, names_no_window, written_word, write_traps}
 use Rattle.sv8_isa.specs.declared.instr.MemoryOp.TheVariants as memory
-use Rattle.sv8_cpu.specs.Access.{IsAligned}
-use Rattle.sv8_cpu.specs.Memory.{size_of, takes_pair, memory_traps, access_of}
-use Rattle.sv8_cpu.specs.Instruction.{alternate_traps}
+use Rattle.sv8_iu.specs.Requests.{IsAligned}
+use Rattle.sv8_iu.specs.Memory.{size_of, takes_pair, memory_traps, access_of}
+use Rattle.sv8_iu.specs.Instruction.{alternate_traps}
 
 -- one condition
 pub alone : (b : Bool) (t : Trap) → taken (when b t) ≡ cond b (Some t) None

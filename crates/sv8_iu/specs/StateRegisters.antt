@@ -8,7 +8,7 @@ use Rattle.sv8_regs.specs.Ring.{Registers, read}
 use Rattle.sv8_trap.specs.declared.table.Trap.{Trap}
 use Rattle.sv8_trap.specs.declared.table.Trap.TheVariants.{PrivilegedInstruction, IllegalInstruction}
 use Rattle.sv8_trap.specs.Processor.{Processor, advanced, with_result, with_y}
-use Rattle.sv8_cpu.specs.Operands.{operand_value, when}
+use Rattle.sv8_iu.specs.Operands.{operand_value, when}
 
 -- all but Y are the supervisor's
 abbrev pub is_privileged : StateRegister → Bool

@@ -1,7 +1,7 @@
 //! One access to memory, as the processor asks for it and as it is answered.
 
 ghost use Rattle.std.specs.Prelude.{◌≡◌};
-ghost use Rattle.sv8_cpu.specs.Access.{space_of};
+ghost use Rattle.sv8_iu.specs.Requests.{space_of};
 
 use sv8_phys::Size;
 use sv8_trap::Trap;
@@ -61,7 +61,7 @@ pub enum Space {
 
 /// The space of an address space identifier.
 #[inline(always)]
-#[tactic(auto, unfolding(crate::specs::Access::space_of))]
+#[tactic(auto, unfolding(crate::specs::Requests::space_of))]
 pub fn space_of(asi: u8) -> Space
     ensures value { result ≡ space_of asi }
 {

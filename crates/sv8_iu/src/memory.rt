@@ -4,11 +4,11 @@ ghost use Rattle.std.specs.Prelude.{◌≡◌, ◌<◌, ◌≤◌, ◌+◌, ◌*
 ghost use Rattle.sv8_model.specs.Words.{signed};
 ghost use Rattle.sv8_phys.specs.Memory.{bytes_in};
 ghost use Rattle.sv8_trap.specs.Table.{taken};
-ghost use Rattle.sv8_cpu.specs.Memory.{size_of, odd_register, takes_pair, memory_traps, pair, access_of, low_word, sign_extended, with_pair, transferred_data};
-ghost use Rattle.sv8_cpu.specs.Instruction.{alternate_traps};
+ghost use Rattle.sv8_iu.specs.Memory.{size_of, odd_register, takes_pair, memory_traps, pair, access_of, low_word, sign_extended, with_pair, transferred_data};
+ghost use Rattle.sv8_iu.specs.Instruction.{alternate_traps};
 
-use super::word_of;
-use crate::access::AccessRequest;
+use crate::operands::word_of;
+use crate::request::AccessRequest;
 use sv8_isa::MemoryOp;
 use sv8_phys::Size;
 use sv8_trap::{Processor, Trap};

@@ -3,9 +3,9 @@
 ghost use Rattle.std.specs.Prelude.{◌≡◌, ◌<◌, ◌≤◌, [], true};
 ghost use Rattle.sv8_isa.specs.Registers.{OperandHasRegister};
 ghost use Rattle.sv8_trap.specs.Table.{taken};
-ghost use Rattle.sv8_cpu.specs.Windows.{save_traps, restore_traps, moved, saved, restored};
+ghost use Rattle.sv8_iu.specs.Windows.{save_traps, restore_traps, moved, saved, restored};
 
-use super::sum_of_sources;
+use crate::operands::sum_of_sources;
 use sv8_isa::Operand;
 use sv8_trap::{Processor, Trap};
 

@@ -1,23 +1,24 @@
 -- Each instruction in three parts: the traps that it raises before its access, the access that it asks for, and what becomes of the
 -- processor once the access is answered. A row of the opcode table has its clause in each part; what the clauses say stands in the
 -- file of its group: Arithmetic, Control, Windows, StateRegisters, Memory.
-use Rattle.std.specs.Prelude.{ℕ, not, ◌&&◌, List, [], ◌∷◌, ◌++◌, if◌then◌else◌}
+use Rattle.std.specs.Prelude.{◌≡◌, ℕ, None, not, ◌&&◌, List, [], ◌∷◌, ◌++◌, if◌then◌else◌}
 use Rattle.sv8_isa.specs.Table.{is_queue_store}
 use Rattle.sv8_isa.specs.declared.instr.Instr.{Instr}
 use Rattle.sv8_isa.specs.declared.instr.Instr.TheVariants as row
 use Rattle.sv8_isa.specs.declared.instr.Operand.TheVariants.{Register}
 use Rattle.sv8_trap.specs.declared.table.Trap.{Trap}
 use Rattle.sv8_trap.specs.declared.table.Trap.TheVariants.{PrivilegedInstruction, IllegalInstruction, FpDisabled, CpDisabled}
+use Rattle.sv8_trap.specs.Table.{taken}
 use Rattle.sv8_trap.specs.Entry.{with_trap, with_return_trap, returned}
 use Rattle.sv8_trap.specs.Processor.{Processor, advanced}
-use Rattle.sv8_cpu.specs.declared.access.AccessRequest.{AccessRequest}
-use Rattle.sv8_cpu.specs.declared.access.AccessRequest.TheVariants.{Nothing}
-use Rattle.sv8_cpu.specs.Operands.{sum_of_sources, when}
-use Rattle.sv8_cpu.specs.Arithmetic.{arithmetic, arithmetic_traps, tagged, tagged_traps, multiply_step, shifted, upper_set}
-use Rattle.sv8_cpu.specs.Control.{branched, called, jump_traps, jumped, return_traps, number_traps}
-use Rattle.sv8_cpu.specs.Windows.{save_traps, restore_traps, saved, restored}
-use Rattle.sv8_cpu.specs.StateRegisters.{privilege_traps, state_read, write_traps, written_word, state_written}
-use Rattle.sv8_cpu.specs.Memory.{memory_traps, access_of, transferred_data}
+use Rattle.sv8_iu.specs.declared.request.AccessRequest.{AccessRequest}
+use Rattle.sv8_iu.specs.declared.request.AccessRequest.TheVariants.{Nothing}
+use Rattle.sv8_iu.specs.Operands.{sum_of_sources, when}
+use Rattle.sv8_iu.specs.Arithmetic.{arithmetic, arithmetic_traps, tagged, tagged_traps, multiply_step, shifted, upper_set}
+use Rattle.sv8_iu.specs.Control.{branched, called, jump_traps, jumped, return_traps, number_traps}
+use Rattle.sv8_iu.specs.Windows.{save_traps, restore_traps, saved, restored}
+use Rattle.sv8_iu.specs.StateRegisters.{privilege_traps, state_read, write_traps, written_word, state_written}
+use Rattle.sv8_iu.specs.Memory.{memory_traps, access_of, transferred_data}
 
 -- ---- before the access
 
@@ -100,3 +101,9 @@ complete windows p (row.Restore rd rs1 operand) value = restored windows p rd rs
 complete windows p (row.Memory op rd rs1 operand) value = transferred_data windows p op rd value
 complete windows p (row.Alternate op rd rs1 rs2 asi) value = transferred_data windows p op rd value
 complete windows p i value = advanced p
+
+-- ---- all three at once
+
+-- the instruction raises no trap, asks for no access, and makes q of the processor p
+abbrev pub IsPlain : ℕ → Processor → Instr → Processor → Type 0
+IsPlain windows p i q = (taken (raised windows p i) ≡ None) × (asked windows p i ≡ Nothing) × (q ≡ complete windows p i 0)

@@ -21,7 +21,7 @@ use Rattle.sv8_regs.specs.declared.ConditionCodes.{ConditionCodes}
 use Rattle.sv8_trap.specs.declared.table.Trap.{Trap}
 use Rattle.sv8_trap.specs.declared.table.Trap.TheVariants.{TagOverflow, DivisionByZero}
 use Rattle.sv8_trap.specs.Processor.{Processor, advanced, with_result, with_codes, with_y}
-use Rattle.sv8_cpu.specs.Operands.{operand_value, when}
+use Rattle.sv8_iu.specs.Operands.{operand_value, when}
 
 -- ---- how an operation ends
 
