@@ -21,9 +21,7 @@ use crate::machine::Parts;
 use crate::memory::Memory;
 use std::alloc::AllocError;
 use sv8_isa::{Group, Instr, MemoryOp, Operand, decode_memory, group};
-use sv8_iu::{
-    Response, carry_out_plainly, data_space, finish_access, memory_trap, sum_of_sources,
-};
+use sv8_iu::{Response, carry_out_plainly, data_space, finish_access, memory_trap, sum_of_sources};
 use sv8_phys::{Size, Touches};
 use sv8_time::Timeline;
 use sv8_trap::Processor;
