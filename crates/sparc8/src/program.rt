@@ -22,6 +22,20 @@ const PAGES: usize = 256;
 /// The steps from one checkpoint to the next.
 const CHECKPOINT_STEPS: u32 = 256;
 
+/// Runs a script on a workbench.
+fn run_on<const NW: usize, R: Read, W: Write>(
+    alloc: Global,
+    bench: &mut Bench<NW, PAGES, CHECKPOINT_STEPS>,
+    reader: &mut R,
+    writer: &mut W,
+) -> End
+    ensures run { IsTrue (is_run_end result) }
+    ensures serves { Serves bench.old.kept result (R.remaining reader.old) (R.remaining reader.new)
+        (W.contents writer.old) (W.contents writer.new) }
+{
+    end_of(run(alloc, bench, reader, writer))
+}
+
 /// Runs a script on a new workbench of so many windows.
 pub fn serve<const NW: usize, R: Read, W: Write>(
     alloc: Global,
@@ -40,7 +54,7 @@ pub fn serve<const NW: usize, R: Read, W: Write>(
     let Ok(mut bench) = Bench::<NW, PAGES, CHECKPOINT_STEPS>::new(alloc) else {
         return End::Memory;
     };
-    end_of(run(alloc, &mut bench, reader, writer))
+    run_on(alloc, &mut bench, reader, writer)
 }
 
 /// Calls `serve` with the number of windows that was chosen.

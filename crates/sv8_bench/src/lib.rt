@@ -4,8 +4,6 @@
 mod bench;
 mod fault;
 mod shown;
-#[cfg(test)]
-mod tests;
 
 pub use bench::{Bench, LAST_STEP};
 pub use fault::BenchFault;

@@ -79,10 +79,10 @@ fn finish<const NW: usize>(p: &mut Processor<NW>, op: MemoryOp, rd: u8, response
 }
 
 impl<const NW: usize, const PAGES: usize> Parts<NW, PAGES> {
-    /// Carries out a load or a store with these fields, if it is one of a word or a byte and raises no trap before its access.
+    /// Makes the access of a load or a store with these fields and completes it, if it is one of a word or a byte and raises no trap before its access.
     #[inline(always)]
     #[tactic(auto, using(sv8_iu::proofs::Choices::aligned_access))]
-    fn transfer<T: Touches>(
+    fn complete_transfer<T: Touches>(
         &mut self,
         op: MemoryOp,
         rd: u8,
@@ -115,6 +115,48 @@ impl<const NW: usize, const PAGES: usize> Parts<NW, PAGES> {
                     }
                 }
             }
+        }
+    }
+
+    /// The same, with an arm for each operation: so the built program asks once which one it is, and has code for each.
+    #[inline(always)]
+    fn transfer<T: Touches>(
+        &mut self,
+        op: MemoryOp,
+        rd: u8,
+        rs1: u8,
+        operand: Operand,
+        before: u32,
+        timeline: &Timeline,
+        notes: &mut T,
+    ) -> Result<bool, AllocError>
+        requires untranslated { translates self.old.memory.mmu ≡ false }
+        requires rd { rd < 32 }
+        requires rs1 { rs1 < 32 }
+        requires operand { OperandHasRegister operand }
+        requires delivered { self.old.memory.phys.taken ≤ bytes_below before timeline.now.inputs }
+        ensures ok { IfOk result (λ found. (word : ℕ) → Instr.Memory op rd rs1 operand ≡ meaning word
+            → MayCarryOut T.KEEPS (arrived before timeline.now) word self.old self.new (T.noted notes.old) (T.noted notes.new) found) }
+        ensures taken { OnOk result (self.new.memory.phys.taken ≤ bytes_below before timeline.now.inputs) }
+    {
+        match op {
+            MemoryOp::Ld => {
+                let op = MemoryOp::Ld;
+                self.complete_transfer(op, rd, rs1, operand, before, timeline, notes)
+            }
+            MemoryOp::Ldub => {
+                let op = MemoryOp::Ldub;
+                self.complete_transfer(op, rd, rs1, operand, before, timeline, notes)
+            }
+            MemoryOp::St => {
+                let op = MemoryOp::St;
+                self.complete_transfer(op, rd, rs1, operand, before, timeline, notes)
+            }
+            MemoryOp::Stb => {
+                let op = MemoryOp::Stb;
+                self.complete_transfer(op, rd, rs1, operand, before, timeline, notes)
+            }
+            _ => Ok(false),
         }
     }
 

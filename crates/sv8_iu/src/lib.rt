@@ -10,8 +10,6 @@ mod operands;
 mod plain;
 mod request;
 mod state_registers;
-#[cfg(test)]
-mod tests;
 mod windows;
 
 pub use instruction::{asked, complete, data_space, raised_by, take_trap};

@@ -4,8 +4,7 @@
 //! whether it has, and leaves all others as they are. Each group is a function of its own, so that a word comes in and no decoded
 //! instruction goes from one function to another.
 
-ghost use Rattle.std.specs.Prelude.{◌≡◌, ◌<◌, MatchBool};
-ghost use Rattle.sv8_isa.specs.Registers.{OperandHasRegister};
+ghost use Rattle.std.specs.Prelude.{◌≡◌, MatchBool};
 ghost use Rattle.sv8_isa.specs.Table.{meaning};
 ghost use Rattle.sv8_iu.specs.Instruction.{IsPlain};
 
@@ -13,8 +12,7 @@ use crate::arithmetic::{arithmetic, divides, set_upper};
 use crate::control::{branch, call, jump, jump_trap};
 use crate::windows::{restore, restore_trap, save, save_trap};
 use sv8_isa::{
-    Group, Instr, Operand, decode_arithmetic, decode_call, decode_format_2, decode_three_fields,
-    group,
+    Group, Instr, decode_arithmetic, decode_call, decode_format_2, decode_three_fields, group,
 };
 use sv8_trap::Processor;
 
@@ -78,81 +76,24 @@ fn carry_out_arithmetic<const NW: usize>(p: &mut Processor<NW>, word: u32) -> bo
     }
 }
 
-/// JMPL, unless it traps.
-#[inline(always)]
-fn jump_without_trap<const NW: usize>(
-    p: &mut Processor<NW>,
-    rd: u8,
-    rs1: u8,
-    operand: Operand,
-) -> bool
-    requires rd { rd < 32 }
-    requires rs1 { rs1 < 32 }
-    requires operand { OperandHasRegister operand }
-    ensures { MatchBool result (IsPlain NW p.old (Instr.Jmpl rd rs1 operand) p.new) (p.new ≡ p.old) }
-{
-    match jump_trap(p, rs1, operand) {
-        Some(_) => false,
-        None => {
-            jump(p, rd, rs1, operand);
-            true
-        }
-    }
-}
-
-/// SAVE, unless it traps.
-#[inline(always)]
-fn save_without_trap<const NW: usize>(
-    p: &mut Processor<NW>,
-    rd: u8,
-    rs1: u8,
-    operand: Operand,
-) -> bool
-    requires rd { rd < 32 }
-    requires rs1 { rs1 < 32 }
-    requires operand { OperandHasRegister operand }
-    ensures { MatchBool result (IsPlain NW p.old (Instr.Save rd rs1 operand) p.new) (p.new ≡ p.old) }
-{
-    match save_trap(p) {
-        Some(_) => false,
-        None => {
-            save(p, rd, rs1, operand);
-            true
-        }
-    }
-}
-
-/// RESTORE, unless it traps.
-#[inline(always)]
-fn restore_without_trap<const NW: usize>(
-    p: &mut Processor<NW>,
-    rd: u8,
-    rs1: u8,
-    operand: Operand,
-) -> bool
-    requires rd { rd < 32 }
-    requires rs1 { rs1 < 32 }
-    requires operand { OperandHasRegister operand }
-    ensures { MatchBool result (IsPlain NW p.old (Instr.Restore rd rs1 operand) p.new) (p.new ≡ p.old) }
-{
-    match restore_trap(p) {
-        Some(_) => false,
-        None => {
-            restore(p, rd, rs1, operand);
-            true
-        }
-    }
-}
-
 /// Carries out JMPL, SAVE and RESTORE where they raise no trap (Appendices B.25 and B.20).
 #[inline(never)]
 fn carry_out_linkage<const NW: usize>(p: &mut Processor<NW>, word: u32) -> bool
     ensures { MatchBool result (IsPlain NW p.old (meaning word) p.new) (p.new ≡ p.old) }
 {
     match decode_three_fields(word) {
-        Some(Instr::Jmpl { rd, rs1, operand }) => jump_without_trap(p, rd, rs1, operand),
-        Some(Instr::Save { rd, rs1, operand }) => save_without_trap(p, rd, rs1, operand),
-        Some(Instr::Restore { rd, rs1, operand }) => restore_without_trap(p, rd, rs1, operand),
+        Some(Instr::Jmpl { rd, rs1, operand }) if jump_trap(p, rs1, operand).is_none() => {
+            jump(p, rd, rs1, operand);
+            true
+        }
+        Some(Instr::Save { rd, rs1, operand }) if save_trap(p).is_none() => {
+            save(p, rd, rs1, operand);
+            true
+        }
+        Some(Instr::Restore { rd, rs1, operand }) if restore_trap(p).is_none() => {
+            restore(p, rd, rs1, operand);
+            true
+        }
         _ => false,
     }
 }

@@ -25,6 +25,14 @@ impl Interval {
         }
     }
 
+    /// Lets all go; the memory stays.
+    pub(crate) fn clear(&mut self)
+        ensures { self.new ≡ no_interval }
+    {
+        self.notes.clear();
+        self.kept.clear();
+    }
+
     /// The same once more, in no more memory than it needs.
     ///
     /// # Errors

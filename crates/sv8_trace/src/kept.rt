@@ -55,6 +55,13 @@ impl KeptList {
         }
     }
 
+    /// Lets all values go; the memory stays.
+    pub(crate) fn clear(&mut self)
+        ensures { self.new ≡ [] }
+    {
+        self.values.clear();
+    }
+
     /// The same values once more.
     pub(crate) fn copy(&self) -> Result<KeptList, AllocError>
         ensures { IfOk result (λ l. l ≡ self.now) }

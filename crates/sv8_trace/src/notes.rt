@@ -182,6 +182,17 @@ impl Notes {
         }
     }
 
+    /// Lets all notes go; the memory stays.
+    pub(crate) fn clear(&mut self)
+        ensures { self.new ≡ no_steps }
+    {
+        self.reads.clear();
+        self.writes.clear();
+        self.levels.clear();
+        self.inputs.clear();
+        self.expiries.clear();
+    }
+
     /// The same notes once more, in no more memory than they need.
     ///
     /// # Errors

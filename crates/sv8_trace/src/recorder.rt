@@ -20,7 +20,7 @@ use crate::cell::{Cell, Content};
 use crate::interval::Interval;
 use crate::kept::KeptList;
 use crate::step_notes::StepNotes;
-use std::alloc::{AllocError, Global};
+use std::alloc::AllocError;
 use sv8_cpu::{Machine, Work};
 use sv8_time::{Request, Timeline, WordPoke};
 
@@ -162,18 +162,20 @@ fn record_step<const NW: usize, const PAGES: usize>(
     Ok(machine)
 }
 
-/// Makes so many steps from the machine of step n on, and records them.
+/// Makes so many steps from the machine of step n on, and records them. `touches` and `draft` are places for what is gathered
+/// meanwhile, whose memory the next call uses again.
 ///
 /// # Errors
 ///
 /// `AllocError` where memory for a step or its notes cannot be had. The machine is given up with it; `work` counts the steps that
 /// were made.
 pub(crate) fn record<const NW: usize, const PAGES: usize>(
-    alloc: Global,
     machine: Machine<NW, PAGES>,
     timeline: &Timeline,
     n: u32,
     count: u32,
+    touches: &mut StepNotes,
+    draft: &mut Interval,
     work: &mut Work,
 ) -> Result<(Machine<NW, PAGES>, Interval), AllocError>
     requires few_windows { NW ≤ 32 }
@@ -187,19 +189,10 @@ pub(crate) fn record<const NW: usize, const PAGES: usize>(
     ensures counted { OnOk result (work.new ≡ counted_by count work.old) }
     ensures raised { RaisedUpTo count work.old work.new }
 {
-    let mut touches = StepNotes::new(alloc);
-    let mut interval = Interval::new(alloc);
+    draft.clear();
     let mut machine = machine;
     for offset in 0..count {
-        machine = record_step(
-            machine,
-            timeline,
-            n + offset,
-            offset,
-            &mut touches,
-            &mut interval,
-            work,
-        )?;
+        machine = record_step(machine, timeline, n + offset, offset, touches, draft, work)?;
     }
-    Ok((machine, interval.copy()?))
+    Ok((machine, draft.copy()?))
 }

@@ -16,6 +16,7 @@ mod search;
 use crate::interval::Interval;
 use crate::marks::Marks;
 use crate::recorder::record;
+use crate::step_notes::StepNotes;
 use std::alloc::{AllocError, Global};
 use std::marker::Model;
 use sv8_cpu::{Machine, Work};
@@ -31,6 +32,9 @@ pub struct Trace<const NW: usize, const PAGES: usize, const K: u32> {
     points: Vec<Machine<NW, PAGES>>,
     intervals: Vec<Interval>,
     marks: Marks,
+    /// Places for the notes of the step and of the interval under way.
+    touches: StepNotes,
+    draft: Interval,
 }
 
 impl<const NW: usize, const PAGES: usize, const K: u32> Model for Trace<NW, PAGES, K> {
@@ -70,6 +74,8 @@ impl<const NW: usize, const PAGES: usize, const K: u32> Trace<NW, PAGES, K> {
             points,
             intervals: Vec::new(alloc),
             marks: Marks::new(alloc),
+            touches: StepNotes::new(alloc),
+            draft: Interval::new(alloc),
         })
     }
 
@@ -121,7 +127,10 @@ impl<const NW: usize, const PAGES: usize, const K: u32> Trace<NW, PAGES, K> {
     {
         let count = self.intervals.len();
         let machine = self.points[count].snapshot(alloc)?;
-        let (machine, interval) = record(alloc, machine, timeline, K * count as u32, K, work)?;
+        let n = K * count as u32;
+        let touches = &mut self.touches;
+        let draft = &mut self.draft;
+        let (machine, interval) = record(machine, timeline, n, K, touches, draft, work)?;
         self.add(alloc, machine, interval)?;
         Ok(())
     }

@@ -1,9 +1,8 @@
-//! That the calls which take memory answer where there is enough of it: a body that always gave up would meet every contract.
+//! That the calls of a source which take memory answer where there is enough of it: a body that always gave up would meet every contract.
 
-use crate::fault::SourceFault;
-use crate::source::Source;
 use std::alloc::Global;
 use std::test::*;
+use sv8_source::{Source, SourceFault};
 
 /// These lines.
 fn lines(alloc: Global, texts: &[&[u8]]) -> Result<Vec<Vec<u8>>, Fail> {

@@ -1,10 +1,8 @@
-//! That the calls which take memory answer where there is enough of it: a body that always gave up would meet every contract.
+//! That the assembler's calls which take memory answer where there is enough of it: a body that always gave up would meet every contract.
 
-use crate::code::assemble;
-use crate::size::size_of;
-use crate::symbols::Symbols;
 use std::alloc::Global;
 use std::test::*;
+use sv8_asm::{Symbols, assemble, size_of};
 use sv8_syntax::parse_line;
 
 /// Gives a name its value, and two lines a local label.

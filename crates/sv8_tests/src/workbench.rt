@@ -1,10 +1,10 @@
-//! Edits and queries of a workbench, with answers worked out by hand.
+//! Edits and queries of a workbench by its calls, with answers worked out by hand.
 
 ghost use Rattle.std.specs.Prelude.{◌≤◌};
 
-use super::*;
 use std::alloc::{AllocError, Global};
 use std::test::Fail;
+use sv8_bench::{Bench, BenchFault, Shown};
 use sv8_cpu::Machine;
 use sv8_phys::Page;
 use sv8_source::Source;

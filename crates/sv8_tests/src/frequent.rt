@@ -1,7 +1,7 @@
 //! Which words have a way of their own.
 
-use crate::carry_out_plainly;
 use std::test::Fail;
+use sv8_iu::carry_out_plainly;
 use sv8_trap::Processor;
 
 /// Whether a word is carried out plainly just after reset, on eight windows.

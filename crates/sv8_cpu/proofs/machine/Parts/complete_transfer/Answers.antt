@@ -1,6 +1,6 @@
 use Rattle.std.proofs.Common.{refl, sym, ◌∙◌}
 use Rattle.sv8_cpu.proofs.Steps.{transferred}
-use Rattle.sv8_cpu.proofs.machine.Parts.transfer.Goals as goal
+use Rattle.sv8_cpu.proofs.machine.Parts.complete_transfer.Goals as goal
 
 pub returns-in-Some-2-clause-ok : goal.returns-in-Some-2-clause-ok
 returns-in-Some-2-clause-ok g c =

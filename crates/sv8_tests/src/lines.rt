@@ -1,10 +1,9 @@
 //! That lines are read at all, and a refused one is not taken for want of memory: what each is read as, the contracts
 //! say.
 
-use crate::fault::LineFault;
-use crate::line::parse_line;
 use std::alloc::Global;
 use std::test::*;
+use sv8_syntax::{LineFault, parse_line};
 
 fn fault(alloc: Global, text: &[u8]) -> Option<LineFault> {
     match parse_line(alloc, text) {
