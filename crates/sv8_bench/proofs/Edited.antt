@@ -1,6 +1,5 @@
 -- What an edit makes of a workbench, once its changes are made of the trace.
-use Rattle.std.proofs.Common.{◌≡◌, ℕ, ◌*◌, ◌<◌, ◌≤◌, List, length, refl, sym, ◌∙◌, ap, subst}
-use Rattle.sv8_history.specs.Machine.{Run}
+use Rattle.std.proofs.Common.{◌≡◌, ℕ, ◌*◌, ◌<◌, ◌≤◌, List, length, refl, sym, subst}
 use Rattle.sv8_history.specs.Trace.{Trace, IsTraceOf, Agrees}
 use Rattle.sv8_history.specs.Changes.{Change}
 use Rattle.sv8_history.specs.Reads.{IsFirstRead}
@@ -12,8 +11,7 @@ use Rattle.sv8_history.proofs.Common.{edit_keeps, edit_counts, input_edit_keeps,
 use Rattle.sv8_time.specs.Schedule.{Schedule, IsTimeline}
 use Rattle.sv8_phys.specs.Memory.{ram_size}
 use Rattle.sv8_source.specs.Text.{Text}
-use Rattle.sv8_cpu.specs.State.{reset_state}
-use Rattle.sv8_cpu.specs.Recorded.{machine, run_of, AreEvents, IsSound}
+use Rattle.sv8_cpu.specs.Recorded.{machine, run_of, AreEvents}
 use Rattle.sv8_cpu.proofs.Common.{framed}
 use Rattle.sv8_edits.specs.EditLaws.{CanRun, Edits, Refeeds}
 use Rattle.sv8_trace.specs.declared.patch.Patch.{Patch}
@@ -21,8 +19,7 @@ use Rattle.sv8_trace.specs.Patch.{changes_of}
 use Rattle.sv8_trace.specs.Recording.{Recording, recorded, trace_of}
 use Rattle.sv8_trace.specs.Prepared.{prepared_trace, Near, Preparation}
 use Rattle.sv8_trace.proofs.Common.{near_agrees, agrees_along}
-use Rattle.sv8_bench.specs.Kept.{Kept}
-use Rattle.sv8_bench.specs.Workbench.{Workbench, IsRun, IsEdited, IsRefed, run_of_kept}
+use Rattle.sv8_bench.specs.Workbench.{Workbench, IsRun, IsEdited, IsRefed}
 
 module _ (windows pages k : ℕ) (pos : 0 < k) where
   -- a run does not depend on how its events are seen to be valid

@@ -1,12 +1,11 @@
 -- What the first read of an edit leaves of a trace.
 use Rattle.std.specs.Bool.{⊤}
-use Rattle.std.proofs.Common.{◌≡◌, ℕ, ◌*◌, ◌/◌, ◌%◌, ◌<◌, ◌≤◌, List, [], ◌∷◌, Bool, true, false, not, ◌&&◌, cond, leb, ltb, Option, Some, None, MatchOption, min, refl, sym, ◌∙◌, ap, subst, arith, inl, inr, ◌⊎◌, lt-ltb, le-ltb, length, suc, ◌-◌, get_or, take, take_all, drop, le-div_iff_mul-le, mul_comm, mul-le-mul_left, div-mul-le_self}
+use Rattle.std.proofs.Common.{◌≡◌, ℕ, ◌*◌, ◌/◌, ◌%◌, ◌<◌, ◌≤◌, List, [], ◌∷◌, Bool, true, not, ◌&&◌, cond, leb, ltb, Option, Some, None, MatchOption, refl, sym, ◌∙◌, ap, subst, arith, inl, inr, ◌⊎◌, lt-ltb, le-ltb, length, ◌-◌, get_or, take, take_all, drop, le-div_iff_mul-le, mul_comm, div-mul-le_self}
 use Rattle.std.proofs.lemmas.Bool.{cases_lt}
 use Rattle.std.proofs.lemmas.List.{get_or_past}
 use Rattle.std.proofs.Math.Nat.{mul-mod_right}
 use Rattle.sv8_model.specs.Cells.{Cell}
-use Rattle.sv8_history.specs.Machine.{Machine}
-use Rattle.sv8_history.specs.Trace.{Trace, some_from}
+use Rattle.sv8_history.specs.Trace.{some_from}
 use Rattle.sv8_history.specs.Reads.{earlier, least_below, first_of_change, first_of_each}
 use Rattle.sv8_history.specs.Patches.{count_after, cut}
 use Rattle.sv8_history.proofs.Common.{Found, found}

@@ -1,8 +1,8 @@
 -- Marks of words, and what they say of intervals.
-use Rattle.std.proofs.Common.{◌≡◌, ◌≢◌, ℕ, zero, suc, ◌+◌, ◌-◌, ◌*◌, ◌/◌, ◌%◌, ◌≤◌, ◌<◌, List, [], ◌∷◌, ◌++◌, ◌==◌, length, length-append, take, take_all, replicate, get_or, set, Bool, true, false, not, ◌&&◌, ◌||◌, min, Option, Some, None, unwrap_or, refl, sym, ◌∙◌, ap, subst, arith, inl, inr, ◌⊎◌, ne_eqb, get_or-set_same, get_or-set_other, le-div_iff_mul-le, div-lt_iff_lt-mul, mul_comm}
+use Rattle.std.proofs.Common.{◌≡◌, ◌≢◌, ℕ, zero, suc, ◌+◌, ◌-◌, ◌*◌, ◌/◌, ◌%◌, ◌≤◌, ◌<◌, List, [], ◌∷◌, ◌++◌, length, length-append, take, take_all, replicate, get_or, set, Bool, false, min, Option, Some, None, unwrap_or, refl, ◌∙◌, ap, arith, inl, inr, ◌⊎◌, ne_eqb, get_or-set_same, get_or-set_other, le-div_iff_mul-le, div-lt_iff_lt-mul, mul_comm}
 use Rattle.std.proofs.lemmas.Bool.{cases_lt, cases_eq}
 use Rattle.std.proofs.lemmas.Option.{none-some}
-use Rattle.std.proofs.lemmas.List.{get_or_append_left, get_or_default}
+use Rattle.std.proofs.lemmas.List.{get_or_append_left}
 use Rattle.std.proofs.Math.Seq.{get_or-append_seam}
 use Rattle.sv8_trace.specs.declared.interval.Interval.{Interval}
 use Rattle.sv8_trace.specs.declared.notes.WordNote.{WordNote}

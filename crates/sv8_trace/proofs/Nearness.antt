@@ -1,11 +1,11 @@
 -- What patches make of traces that show the same.
-use Rattle.std.proofs.Common.{◌≡◌, ℕ, zero, suc, ◌+◌, ◌*◌, ◌/◌, ◌<◌, ◌≤◌, ◌==◌, List, [], ◌∷◌, Bool, true, false, not, ◌&&◌, cond, leb, ltb, Option, Some, None, is_some, option_map, refl, sym, ◌∙◌, ap, ap₂, arith, leb-true}
+use Rattle.std.proofs.Common.{◌≡◌, ℕ, suc, ◌+◌, ◌*◌, ◌/◌, ◌<◌, ◌≤◌, List, [], ◌∷◌, Bool, true, false, not, ◌&&◌, cond, leb, ltb, Option, Some, None, is_some, refl, sym, ◌∙◌, ap, arith, leb-true}
 use Rattle.std.proofs.lemmas.Bool.{true≢false}
 use Rattle.std.proofs.Math.Nat.{le_of_mul-le-mul_left}
-use Rattle.sv8_history.specs.Machine.{Machine, Footprint, SameFootprint, Notes, writes_of}
+use Rattle.sv8_history.specs.Machine.{Machine, SameFootprint, Notes, writes_of}
 use Rattle.sv8_history.specs.Trace.{Trace, Agrees, some_from, next_checkpoint}
 use Rattle.sv8_history.specs.Changes.{Change, Cause, Image, Poke, Clear, is_live}
-use Rattle.sv8_history.specs.Patches.{patched_point, kept_at_end, kept_by_poke, spread, keeping, set_poke, uncover, patch, patch_all}
+use Rattle.sv8_history.specs.Patches.{patched_point, kept_at_end, kept_by_poke, spread, set_poke, uncover, patch, patch_all}
 use Rattle.sv8_history.proofs.Common.{footprint_same}
 use Rattle.sv8_trace.specs.Prepared.{Near}
 

@@ -1,5 +1,5 @@
 -- The steps of a preparation.
-use Rattle.std.proofs.Common.{◌≡◌, ◌≢◌, ℕ, zero, suc, ◌+◌, ◌*◌, ◌/◌, ◌%◌, ◌<◌, ◌≤◌, ◌==◌, List, [], ◌∷◌, length, get_or, set, map, take, drop, drop-cons, add-one, replicate, Bool, true, false, not, ◌&&◌, cond, leb, ltb, min, Option, Some, None, option_map, unwrap_or, MatchOption, refl, sym, ◌∙◌, ap, ap₂, subst, arith, inl, inr, ◌⊎◌, le-leb, lt-ltb, le-ltb, eq-eqb, ne_eqb, length-take-le, length-set, get_or-set_same, get_or-set_other, div-lt_iff_lt-mul, le-div_iff_mul-le, mul_comm}
+use Rattle.std.proofs.Common.{◌≡◌, ◌≢◌, ℕ, zero, suc, ◌+◌, ◌*◌, ◌/◌, ◌%◌, ◌<◌, ◌≤◌, ◌==◌, List, [], length, get_or, set, map, take, drop, drop-cons, add-one, replicate, Bool, true, false, ◌&&◌, cond, leb, ltb, min, Option, Some, None, option_map, unwrap_or, MatchOption, refl, sym, ◌∙◌, ap, ap₂, subst, arith, inl, inr, ◌⊎◌, lt-ltb, le-ltb, eq-eqb, ne_eqb, length-take-le, length-set, get_or-set_same, get_or-set_other, div-lt_iff_lt-mul, le-div_iff_mul-le, mul_comm}
 use Rattle.std.specs.Bool.{⊤}
 use Rattle.std.proofs.lemmas.Bool.{cases_lt, cases_eq}
 use Rattle.std.proofs.lemmas.List.{get_or-take, set-set, get_or_default, length-map}
@@ -10,7 +10,6 @@ use Rattle.sv8_phys.specs.Memory.{ram_size, page_of}
 use Rattle.sv8_phys.specs.Contents.{AreContents}
 use Rattle.sv8_history.specs.Machine.{Machine}
 use Rattle.sv8_history.specs.Trace.{Trace}
-use Rattle.sv8_history.specs.Changes.{Change}
 use Rattle.sv8_history.specs.Patches as history
 use Rattle.sv8_cpu.specs.State.{State}
 use Rattle.sv8_cpu.specs.Recorded.{machine, get, put}
@@ -22,7 +21,7 @@ use Rattle.sv8_trace.specs.Patch.{change_of, changes_of}
 use Rattle.sv8_trace.specs.Recording.{Recording, blank, no_interval, trace_of}
 use Rattle.sv8_trace.specs.Prepared.{placed, placed_pages, placed_levels, list_at, prepared_trace, IsPageColumn, IsPreparedFor, Near}
 use Rattle.sv8_trace.specs.Steps.{IsFirstBelow}
-use Rattle.sv8_trace.specs.Patching.{IsFirstWrite, KeptPut, PointsSet, RaisedAt}
+use Rattle.sv8_trace.specs.Patching.{IsFirstWrite, PointsSet, RaisedAt}
 use Rattle.sv8_trace.specs.Placing.{AreSound}
 use Rattle.sv8_trace.proofs.Nearness.{near_all, near_along}
 use Rattle.sv8_trace.proofs.Placed.{page_byte, page_length, pages_get, pages_set, levels_get, levels_set, shown_byte, shown_level}

@@ -1,5 +1,5 @@
 -- The parts of a patch make the whole, for any machine.
-use Rattle.std.proofs.Common.{◌≡◌, ◌≢◌, ℕ, zero, suc, ◌+◌, ◌*◌, ◌/◌, ◌<◌, ◌≤◌, ◌==◌, List, [], ◌∷◌, length, drop, drop-cons, add-one, get_or, map, Bool, true, false, not, ◌&&◌, cond, leb, ltb, min, Option, Some, None, is_some, option_map, refl, sym, ◌∙◌, ap, ap₂, arith, inl, inr, ◌⊎◌, le-leb, lt-ltb, le-ltb, eqb-true, eq-eqb, ne_eqb, div-lt_iff_lt-mul, le-div_iff_mul-le, mul_comm, mul-le-mul_left}
+use Rattle.std.proofs.Common.{◌≡◌, ◌≢◌, ℕ, suc, ◌+◌, ◌*◌, ◌/◌, ◌<◌, ◌≤◌, ◌==◌, Bool, true, false, not, ◌&&◌, cond, leb, ltb, min, Option, Some, None, is_some, option_map, refl, sym, ◌∙◌, ap, ap₂, arith, inl, inr, ◌⊎◌, le-leb, lt-ltb, le-ltb, eq-eqb, ne_eqb, div-lt_iff_lt-mul, le-div_iff_mul-le, mul_comm, mul-le-mul_left}
 use Rattle.std.proofs.lemmas.Bool.{cases_lt, cases_eq, lt-leb, true≢false, true_from_ne_false}
 use Rattle.std.proofs.Math.Nat.{mul-div_cancel_left, mul-suc}
 use Rattle.std.specs.Int.{div_ceil}
@@ -7,7 +7,7 @@ use Rattle.std.proofs.lemmas.Grind.{div_ceil_times}
 use Rattle.sv8_history.specs.Machine.{Machine, writes_of}
 use Rattle.sv8_history.specs.Trace.{Trace, some_from, next_checkpoint}
 use Rattle.sv8_history.specs.Changes.{is_live}
-use Rattle.sv8_history.specs.Patches.{patched_point, kept_at_end, kept_by_poke, spread, keeping, set_poke}
+use Rattle.sv8_history.specs.Patches.{patched_point, kept_at_end, kept_by_poke, spread, keeping}
 use Rattle.sv8_history.proofs.Common.{none_at, none_from, next_above}
 use Rattle.sv8_trace.specs.Prepared.{Near}
 use Rattle.sv8_trace.specs.Patching.{IsFirstWrite, KeptPut, RaisedAt}

@@ -1,5 +1,5 @@
 -- A change of a trace that is built and not yet placed.
-use Rattle.std.specs.Prelude.{◌≡◌, ℕ, zero, suc, ◌+◌, ◌*◌, ◌/◌, ◌%◌, ◌<◌, ◌≤◌, ltb, length, List, [], ◌∷◌, slice_index_or, slice_set, Bool, false, cond, Option, Some, None, unwrap_or, MatchOption, ⊤}
+use Rattle.std.specs.Prelude.{◌≡◌, ℕ, suc, ◌*◌, ◌/◌, ◌%◌, ◌≤◌, ltb, length, List, [], ◌∷◌, slice_index_or, slice_set, Bool, false, cond, Option, Some, None, unwrap_or, MatchOption, ⊤}
 use Rattle.sv8_phys.specs.Memory.{with_page}
 use Rattle.sv8_history.specs.Machine.{Machine}
 use Rattle.sv8_history.specs.Trace.{Trace}

@@ -1,9 +1,7 @@
-use Rattle.std.proofs.Common.{◌≡◌, ◌≤◌, ◌+◌, ◌∙◌, ap, ap₂, refl, sym, arith, add-one, subst, suc, zero, ℕ}
+use Rattle.std.proofs.Common.{◌≤◌, ◌∙◌, ap, refl, arith, add-one, subst}
 use Rattle.sv8_time.specs.Schedule.{bytes_below}
 use Rattle.sv8_cpu.specs.Work.{counted}
-use Rattle.sv8_cpu.specs.Run.{step}
-use Rattle.sv8_trace.specs.Recorder.{counted_by, steps_on, IsRecorded, RaisedUpTo}
-use Rattle.sv8_trace.proofs.Recorded.{recorded_none, recorded_more, kept_free, up_to_one, one_more}
+use Rattle.sv8_trace.proofs.Recorded.{recorded_none, up_to_one, one_more}
 use Rattle.sv8_trace.proofs.recorder.record.Goals as goal
 
 pub loop-offset-init : goal.loop-offset-init

@@ -1,8 +1,8 @@
-use Rattle.std.proofs.Common.{◌≡◌, ◌∙◌, sym, ap, subst}
+use Rattle.std.proofs.Common.{◌∙◌, sym, ap, subst}
 use Rattle.sv8_time.specs.Schedule.{Schedule, with_input}
 use Rattle.sv8_edits.proofs.Common.{input_edits}
 use Rattle.sv8_bench.specs.Kept.{with_timeline}
-use Rattle.sv8_bench.specs.Workbench.{Workbench, IsRun, IsRefed}
+use Rattle.sv8_bench.specs.Workbench.{IsRun, IsRefed}
 use Rattle.sv8_bench.proofs.Edited.{old, can, refed_run, refed_is}
 use Rattle.sv8_bench.proofs.bench.Bench.set_input.Goals as goal
 

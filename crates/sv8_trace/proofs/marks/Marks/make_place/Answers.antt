@@ -1,4 +1,4 @@
-use Rattle.std.proofs.Common.{rules, ◌≡◌, ◌≤◌, ◌<◌, ◌+◌, ◌-◌, ◌∙◌, ◌++◌, ◌∷◌, [], ap, arith, length}
+use Rattle.std.proofs.Common.{rules, ◌≡◌, ◌∙◌, ◌++◌, ◌∷◌, [], ap, arith, length}
 use Rattle.sv8_trace.specs.Marks.{mark_of}
 use Rattle.sv8_trace.proofs.Growing.{longer}
 use Rattle.sv8_trace.proofs.Marking.{same_marks}

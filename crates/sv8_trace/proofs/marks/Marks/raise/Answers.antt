@@ -1,4 +1,4 @@
-use Rattle.std.proofs.Common.{rules, ◌≡◌, ◌≤◌, ◌<◌, ◌/◌, ◌%◌, ◌∙◌, [], ap, subst, arith, length, get_or, set, get_or-set_same, OnOk}
+use Rattle.std.proofs.Common.{◌≤◌, ◌<◌, ◌/◌, ◌%◌, ◌∙◌, [], ap, subst, arith, length, get_or, get_or-set_same}
 use Rattle.std.proofs.lemmas.List.{get_or_default}
 use Rattle.sv8_trace.specs.Marks.{mark_of}
 use Rattle.sv8_trace.proofs.Marking.{page_grows}

@@ -1,4 +1,4 @@
-use Rattle.std.proofs.Common.{◌≡◌, ◌≤◌, ◌<◌, ◌∙◌, ℕ, ap, arith, length, get_or, set}
+use Rattle.std.proofs.Common.{◌<◌, ◌∙◌, ap, arith, length, get_or}
 use Rattle.std.proofs.lemmas.List.{get_or_default}
 use Rattle.sv8_trace.proofs.Marking.{set_grows}
 use Rattle.sv8_trace.proofs.marks.PageMarks.raise.Goals as goal

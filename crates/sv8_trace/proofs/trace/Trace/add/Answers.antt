@@ -1,4 +1,4 @@
-use Rattle.std.proofs.Common.{rules, vec_len, ◌≡◌, ◌+◌, ◌*◌, ◌∙◌, ap, length, arith}
+use Rattle.std.proofs.Common.{rules, vec_len, ◌≡◌, ◌*◌, ap, length, arith}
 use Rattle.sv8_trace.specs.Recording.{Recording}
 use Rattle.sv8_trace.proofs.Growing.{longer, popped, sound_more}
 use Rattle.sv8_trace.proofs.Marking.{marked_still, marked_more}

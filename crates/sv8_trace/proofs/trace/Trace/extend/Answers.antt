@@ -1,8 +1,8 @@
-use Rattle.std.proofs.Common.{rules, vec_len, ◌≡◌, ◌+◌, ◌*◌, ◌<◌, ◌≤◌, ◌++◌, ◌∷◌, [], ap, ap₂, sym, ◌∙◌, length, get_or, arith, suc, subst}
+use Rattle.std.proofs.Common.{rules, ◌≡◌, ◌+◌, ◌*◌, ◌<◌, ◌≤◌, ◌++◌, ◌∷◌, [], ap, ap₂, ◌∙◌, length, get_or, arith, subst}
 use Rattle.std.proofs.lemmas.List.{get_or_default}
 use Rattle.sv8_time.specs.Schedule.{bytes_below}
 use Rattle.sv8_trace.specs.Recorder.{steps_on, IsRecorded}
-use Rattle.sv8_trace.specs.Recording.{Recording, blank, last_point, recorded}
+use Rattle.sv8_trace.specs.Recording.{Recording, blank, last_point}
 use Rattle.sv8_trace.proofs.Extending.{extended_is, last_new}
 use Rattle.sv8_trace.proofs.trace.Trace.extend.Goals as goal
 

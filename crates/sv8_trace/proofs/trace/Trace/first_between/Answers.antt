@@ -1,4 +1,4 @@
-use Rattle.std.proofs.Common.{◌≡◌, ◌≤◌, ◌<◌, ◌+◌, ◌-◌, ◌*◌, ◌/◌, ◌%◌, arith, ap, sym, ◌∙◌, length}
+use Rattle.std.proofs.Common.{◌≡◌, ◌≤◌, ◌<◌, ◌+◌, ◌*◌, ◌/◌, arith, ap, sym, length}
 use Rattle.std.proofs.Math.Nat.{div-add-mod, mod-lt}
 use Rattle.sv8_trace.specs.Recording.{Recording}
 use Rattle.sv8_trace.proofs.Searching.{none_here, found_here, notes_of}

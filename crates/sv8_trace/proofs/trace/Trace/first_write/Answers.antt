@@ -1,4 +1,4 @@
-use Rattle.std.proofs.Common.{◌≡◌, ◌*◌, ◌≤◌, ◌∙◌, sym, ap, subst, length, arith, mul-le-mul_left}
+use Rattle.std.proofs.Common.{◌*◌, ◌≤◌, sym, ap, subst, length, arith, mul-le-mul_left}
 use Rattle.sv8_cpu.specs.Recorded.{machine}
 use Rattle.sv8_trace.specs.Cells.{cell_of}
 use Rattle.sv8_trace.specs.Patching.{IsFirstWrite}
