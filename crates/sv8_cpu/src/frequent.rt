@@ -3,7 +3,7 @@
 //! `carry_out_word` of the machine carries out every instruction. What is here carries out some of them by a shorter way, tells
 //! whether it has, and leaves all others as they are.
 
-ghost use Rattle.std.specs.Prelude.{◌≡◌, ℕ, ◌%◌, ◌≤◌, ◌<◌, None, false, MatchBool, MatchOption, IfOk, OnOk};
+ghost use Rattle.std.specs.Prelude.{◌≡◌, ℕ, ◌%◌, ◌≤◌, ◌<◌, None, true, false, MatchBool, MatchOption, IfOk, OnOk};
 ghost use Rattle.sv8_isa.specs.Registers.{OperandHasRegister};
 ghost use Rattle.sv8_isa.specs.Table.{meaning};
 ghost use Rattle.sv8_mmu.specs.Registers.{translates};
@@ -26,10 +26,10 @@ use sv8_phys::{Size, Touches};
 use sv8_time::Timeline;
 use sv8_trap::Processor;
 
-/// Makes the access of a load or a store of a word or a byte, where addresses are not translated.
+/// Makes the access of a load or a store of a word or a byte.
 #[inline(always)]
 #[tactic(auto, unfolding(sv8_iu::specs::Memory::access_of))]
-fn make_access<const NW: usize, const PAGES: usize, T: Touches>(
+fn make_access<const NW: usize, const PAGES: usize, const TRANSLATED: bool, T: Touches>(
     p: &Processor<NW>,
     memory: &mut Memory<PAGES>,
     op: MemoryOp,
@@ -39,7 +39,7 @@ fn make_access<const NW: usize, const PAGES: usize, T: Touches>(
     timeline: &Timeline,
     notes: &mut T,
 ) -> Result<Option<Response>, AllocError>
-    requires untranslated { translates memory.old.mmu ≡ false }
+    requires translated { translates memory.old.mmu ≡ TRANSLATED }
     requires rd { rd < 32 }
     requires aligned { at % bytes_in (size_of op) ≡ 0 }
     requires delivered { memory.old.phys.taken ≤ bytes_below before timeline.now.inputs }
@@ -51,15 +51,29 @@ fn make_access<const NW: usize, const PAGES: usize, T: Touches>(
 {
     let asi = data_space(p);
     let response = match op {
-        MemoryOp::Ld => memory.load_untranslated(Size::Word, asi, at, before, timeline, notes)?,
-        MemoryOp::Ldub => memory.load_untranslated(Size::Byte, asi, at, before, timeline, notes)?,
+        MemoryOp::Ld => memory.load_data::<TRANSLATED, T>(
+            Size::Word,
+            asi,
+            at,
+            before,
+            timeline,
+            notes,
+        )?,
+        MemoryOp::Ldub => memory.load_data::<TRANSLATED, T>(
+            Size::Byte,
+            asi,
+            at,
+            before,
+            timeline,
+            notes,
+        )?,
         MemoryOp::St => {
             let value = u64::from(p.registers().get(u32::from(rd)));
-            memory.store_untranslated(Size::Word, asi, at, value, notes)?
+            memory.store_data::<TRANSLATED, T>(Size::Word, asi, at, value, notes)?
         }
         MemoryOp::Stb => {
             let value = u64::from(p.registers().get(u32::from(rd)));
-            memory.store_untranslated(Size::Byte, asi, at, value, notes)?
+            memory.store_data::<TRANSLATED, T>(Size::Byte, asi, at, value, notes)?
         }
         _ => return Ok(None),
     };
@@ -82,7 +96,7 @@ impl<const NW: usize, const PAGES: usize> Parts<NW, PAGES> {
     /// Makes the access of a load or a store with these fields and completes it, if it is one of a word or a byte and raises no trap before its access.
     #[inline(always)]
     #[tactic(auto, using(sv8_iu::proofs::Choices::aligned_access))]
-    fn complete_transfer<T: Touches>(
+    fn complete_transfer<const TRANSLATED: bool, T: Touches>(
         &mut self,
         op: MemoryOp,
         rd: u8,
@@ -92,7 +106,7 @@ impl<const NW: usize, const PAGES: usize> Parts<NW, PAGES> {
         timeline: &Timeline,
         notes: &mut T,
     ) -> Result<bool, AllocError>
-        requires untranslated { translates self.old.memory.mmu ≡ false }
+        requires translated { translates self.old.memory.mmu ≡ TRANSLATED }
         requires rd { rd < 32 }
         requires rs1 { rs1 < 32 }
         requires operand { OperandHasRegister operand }
@@ -107,7 +121,9 @@ impl<const NW: usize, const PAGES: usize> Parts<NW, PAGES> {
             None => {
                 let p = &self.processor;
                 let memory = &mut self.memory;
-                match make_access(p, memory, op, rd, at, before, timeline, notes)? {
+                match make_access::<NW, PAGES, TRANSLATED, T>(
+                    p, memory, op, rd, at, before, timeline, notes,
+                )? {
                     None => Ok(false),
                     Some(response) => {
                         finish(&mut self.processor, op, rd, response);
@@ -142,26 +158,58 @@ impl<const NW: usize, const PAGES: usize> Parts<NW, PAGES> {
         match op {
             MemoryOp::Ld => {
                 let op = MemoryOp::Ld;
-                self.complete_transfer(op, rd, rs1, operand, before, timeline, notes)
+                self.complete_transfer::<false, T>(op, rd, rs1, operand, before, timeline, notes)
             }
             MemoryOp::Ldub => {
                 let op = MemoryOp::Ldub;
-                self.complete_transfer(op, rd, rs1, operand, before, timeline, notes)
+                self.complete_transfer::<false, T>(op, rd, rs1, operand, before, timeline, notes)
             }
             MemoryOp::St => {
                 let op = MemoryOp::St;
-                self.complete_transfer(op, rd, rs1, operand, before, timeline, notes)
+                self.complete_transfer::<false, T>(op, rd, rs1, operand, before, timeline, notes)
             }
             MemoryOp::Stb => {
                 let op = MemoryOp::Stb;
-                self.complete_transfer(op, rd, rs1, operand, before, timeline, notes)
+                self.complete_transfer::<false, T>(op, rd, rs1, operand, before, timeline, notes)
             }
             _ => Ok(false),
         }
     }
 
-    /// Carries out a load or a store of a word or a byte that raises no trap before its access, where addresses are not translated
+    /// Carries out a load or a store of a word or a byte that raises no trap before its access, where addresses are translated
     /// (Appendices B.1 and B.4).
+    #[inline(never)]
+    fn carry_out_translated<T: Touches>(
+        &mut self,
+        word: u32,
+        before: u32,
+        timeline: &Timeline,
+        notes: &mut T,
+    ) -> Result<bool, AllocError>
+        requires translated { translates self.old.memory.mmu ≡ true }
+        requires delivered { self.old.memory.phys.taken ≤ bytes_below before timeline.now.inputs }
+        ensures ok { IfOk result (MayCarryOut T.KEEPS (arrived before timeline.now) word self.old self.new (T.noted notes.old) (T.noted notes.new)) }
+        ensures taken { OnOk result (self.new.memory.phys.taken ≤ bytes_below before timeline.now.inputs) }
+    {
+        match decode_memory(word) {
+            Some(
+                Instr::Memory {
+                    op,
+                    rd,
+                    rs1,
+                    operand,
+                },
+            ) => {
+                let found = self.complete_transfer::<true, T>(
+                    op, rd, rs1, operand, before, timeline, notes,
+                )?;
+                Ok(found)
+            }
+            _ => Ok(false),
+        }
+    }
+
+    /// Carries out a load or a store of a word or a byte that raises no trap before its access (Appendices B.1 and B.4).
     #[inline(never)]
     fn carry_out_access<T: Touches>(
         &mut self,
@@ -175,7 +223,7 @@ impl<const NW: usize, const PAGES: usize> Parts<NW, PAGES> {
         ensures taken { OnOk result (self.new.memory.phys.taken ≤ bytes_below before timeline.now.inputs) }
     {
         if self.memory.translates() {
-            return Ok(false);
+            return self.carry_out_translated(word, before, timeline, notes);
         }
         match decode_memory(word) {
             Some(

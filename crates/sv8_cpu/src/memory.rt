@@ -15,7 +15,9 @@ ghost use Rattle.sv8_cpu.specs.View.{MemoryDoes, units_of};
 
 use crate::events::happen;
 use crate::physical::Physical;
-use crate::spaces::{access, load_untranslated, store_untranslated};
+use crate::spaces::{
+    access, load_translated, load_untranslated, store_translated, store_untranslated,
+};
 use std::alloc::{AllocError, Global};
 use std::marker::Model;
 use sv8_iu::{AccessRequest, Response, Space};
@@ -152,13 +154,15 @@ impl<const PAGES: usize> Memory<PAGES> {
         self.physical.mmu.translates()
     }
 
-    /// Loads from user or supervisor data where addresses are not translated, as `access` does.
+    /// Loads from user or supervisor data, as `access` does. It is built for addresses that are translated, or for others: what is
+    /// built for others has no translation in its way.
     ///
     /// # Errors
     ///
     /// As `access`.
     #[inline(always)]
-    pub fn load_untranslated<T: Touches>(
+    #[tactic(auto, unfolding(crate::specs::Access::access))]
+    pub fn load_data<const TRANSLATED: bool, T: Touches>(
         &mut self,
         size: Size,
         asi: u8,
@@ -167,7 +171,7 @@ impl<const PAGES: usize> Memory<PAGES> {
         timeline: &Timeline,
         notes: &mut T,
     ) -> Result<Response, AllocError>
-        requires untranslated { translates self.old.mmu ≡ false }
+        requires translated { translates self.old.mmu ≡ TRANSLATED }
         requires space { space_of asi ≡ Space.Virtual }
         requires aligned { at % bytes_in size ≡ 0 }
         requires delivered { self.old.phys.taken ≤ bytes_below before timeline.now.inputs }
@@ -175,26 +179,26 @@ impl<const PAGES: usize> Memory<PAGES> {
             self.old self.new r (T.noted notes.old) (T.noted notes.new)) }
         ensures taken { OnOk result (self.new.phys.taken ≤ bytes_below before timeline.now.inputs) }
     {
-        let response = load_untranslated(
-            &mut self.physical,
-            &self.buffer,
-            size,
-            asi,
-            at,
-            before,
-            timeline,
-            notes,
-        )?;
+        let physical = &mut self.physical;
+        let buffer = &mut self.buffer;
+        if TRANSLATED {
+            let response = load_translated(
+                physical, buffer, size, asi, at, before, timeline, notes,
+            )?;
+            return Ok(response);
+        }
+        let response = load_untranslated(physical, buffer, size, asi, at, before, timeline, notes)?;
         Ok(response)
     }
 
-    /// Stores to user or supervisor data where addresses are not translated, as `access` does.
+    /// Stores to user or supervisor data, as `access` does. It is built as `load_data` is.
     ///
     /// # Errors
     ///
     /// As `access`.
     #[inline(always)]
-    pub fn store_untranslated<T: Touches>(
+    #[tactic(auto, unfolding(crate::specs::Access::access))]
+    pub fn store_data<const TRANSLATED: bool, T: Touches>(
         &mut self,
         size: Size,
         asi: u8,
@@ -202,22 +206,20 @@ impl<const PAGES: usize> Memory<PAGES> {
         value: u64,
         notes: &mut T,
     ) -> Result<Response, AllocError>
-        requires untranslated { translates self.old.mmu ≡ false }
+        requires translated { translates self.old.mmu ≡ TRANSLATED }
         requires space { space_of asi ≡ Space.Virtual }
         requires aligned { at % bytes_in size ≡ 0 }
         ensures ok { IfOk result (λ r. (bytes : List ℕ) → MemoryDoes T.KEEPS bytes (access (ram_size PAGES) (units_of self.old) (AccessRequest.Store size asi at value))
             self.old self.new r (T.noted notes.old) (T.noted notes.new)) }
         ensures taken { OnOk result (self.new.phys.taken ≡ self.old.phys.taken) }
     {
-        let response = store_untranslated(
-            &mut self.physical,
-            &mut self.buffer,
-            size,
-            asi,
-            at,
-            value,
-            notes,
-        )?;
+        let physical = &mut self.physical;
+        let buffer = &mut self.buffer;
+        if TRANSLATED {
+            let response = store_translated(physical, buffer, size, asi, at, value, notes)?;
+            return Ok(response);
+        }
+        let response = store_untranslated(physical, buffer, size, asi, at, value, notes)?;
         Ok(response)
     }
 

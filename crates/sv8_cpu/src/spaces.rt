@@ -554,6 +554,52 @@ pub fn store_untranslated<const PAGES: usize, T: Touches>(
     Ok(response)
 }
 
+/// `load_virtual` as a function of its own, so that a caller in whose way it seldom is has no part of it.
+#[inline(never)]
+pub fn load_translated<const PAGES: usize, T: Touches>(
+    physical: &mut Physical<PAGES>,
+    buffer: &mut Buffer,
+    size: Size,
+    asi: u8,
+    at: u32,
+    before: u32,
+    timeline: &Timeline,
+    notes: &mut T,
+) -> Result<Response, AllocError>
+    requires aligned { at % bytes_in size ≡ 0 }
+    requires delivered { physical.old.phys.taken ≤ bytes_below before timeline.now.inputs }
+    requires serves { Serves physical.old buffer.old }
+    ensures ok { IfOk result (λ r. MemoryDoes T.KEEPS (arrived before timeline.now) (loaded_in (ram_size PAGES) (units_of physical.old) size asi at Space.Virtual)
+        physical.old physical.new r (T.noted notes.old) (T.noted notes.new)) }
+    ensures taken { OnOk result (physical.new.phys.taken ≤ bytes_below before timeline.now.inputs) }
+    ensures serves { Serves physical.new buffer.new }
+{
+    let response = load_virtual(physical, buffer, size, asi, at, before, timeline, notes)?;
+    Ok(response)
+}
+
+/// `store_virtual` as a function of its own, as `load_translated` is.
+#[inline(never)]
+pub fn store_translated<const PAGES: usize, T: Touches>(
+    physical: &mut Physical<PAGES>,
+    buffer: &mut Buffer,
+    size: Size,
+    asi: u8,
+    at: u32,
+    value: u64,
+    notes: &mut T,
+) -> Result<Response, AllocError>
+    requires aligned { at % bytes_in size ≡ 0 }
+    requires serves { Serves physical.old buffer.old }
+    ensures ok { IfOk result (λ r. (bytes : List ℕ) → MemoryDoes T.KEEPS bytes (stored_in (ram_size PAGES) (units_of physical.old) size asi at value Space.Virtual)
+        physical.old physical.new r (T.noted notes.old) (T.noted notes.new)) }
+    ensures taken { OnOk result (physical.new.phys.taken ≡ physical.old.phys.taken) }
+    ensures serves { Serves physical.new buffer.new }
+{
+    let response = store_virtual(physical, buffer, size, asi, at, value, notes)?;
+    Ok(response)
+}
+
 /// Makes an access. The bytes that came in at the console at the steps below `before` have arrived.
 #[inline(always)]
 #[tactic(auto, unfolding(crate::specs::Access::access))]
