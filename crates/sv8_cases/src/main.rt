@@ -8,7 +8,6 @@
 
 mod case;
 mod commands;
-mod difference;
 mod report;
 
 use report::run_cases;

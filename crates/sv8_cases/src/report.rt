@@ -1,10 +1,10 @@
 //! The report: a line for each case that differs, and the counts.
 
 use crate::case::{CaseFault, Wanted, read_file, run_case};
-use crate::difference::first_difference;
 use anyhow::{Context, Result};
 use std::io::{BufWriter, Write};
 use std::{env, fs};
+use sv8_difference::first_difference;
 
 /// The folder of the cases: the word behind the program's name, or else the one that it is run in.
 fn folder_name(rt: &HostRuntime) -> Result<String> {
