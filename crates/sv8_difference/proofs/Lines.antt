@@ -4,37 +4,57 @@ use Rattle.std.specs.Prelude.{bytes_eq, eqb, drop}
 use Rattle.std.specs.List.{concat}
 use Rattle.std.proofs.lemmas.List.{length-drop}
 use Rattle.std.proofs.lemmas.Slice.Eq.{bytes_eq-Decides}
-use Rattle.sv8_difference.specs.Difference.{with_byte, lines, line_end, difference, difference_from, IsSplit}
+use Rattle.sv8_difference.specs.Difference.{with_byte, lines, first_of, line_end, difference, difference_from, IsSplit}
+
+-- where the first line ends, byte by byte
+unfoldable pub end_by_bytes : List ℕ → ℕ
+end_by_bytes [] = 0
+end_by_bytes (b ∷ text) = cond (eqb b 10) 1 (suc (end_by_bytes text))
+
+longer : (b : ℕ) (ls : List (List ℕ)) → suc (length (first_of ls)) ≡ length (first_of (with_byte b ls))
+unfolding with_byte first_of
+longer b [] = refl
+longer b (l ∷ ls) = refl
+
+pub same_end : (text : List ℕ) → end_by_bytes text ≡ line_end text
+unfolding end_by_bytes lines line_end first_of
+same_end [] = refl
+same_end (b ∷ text) =
+    elim (eqb b 10) as (λ (q : Bool). cond q 1 (suc (end_by_bytes text)) ≡ length (first_of (cond q ((b ∷ []) ∷ lines text) (with_byte b (lines text)))))
+    [ true ↦ refl | false ↦ ap suc (same_end text) ∙ longer b (lines text) ]
 
 -- a text that has not ended has a first line
-first_line : (b : ℕ) (text : List ℕ) → lines (b ∷ text) ≡ take (line_end (b ∷ text)) (b ∷ text) ∷ lines (drop (line_end (b ∷ text)) (b ∷ text))
-unfolding with_byte lines line_end
+first_line : (b : ℕ) (text : List ℕ) → lines (b ∷ text) ≡ take (end_by_bytes (b ∷ text)) (b ∷ text) ∷ lines (drop (end_by_bytes (b ∷ text)) (b ∷ text))
+unfolding with_byte lines end_by_bytes
 first_line b [] =
     elim (eqb b 10) as (λ (q : Bool). cond q ((b ∷ []) ∷ []) ((b ∷ []) ∷ []) ≡ take (cond q 1 1) (b ∷ []) ∷ lines (drop (cond q 1 1) (b ∷ [])))
     [ true ↦ refl | false ↦ refl ]
 first_line b (c ∷ text) =
     elim (eqb b 10) as (λ (q : Bool). cond q ((b ∷ []) ∷ lines (c ∷ text)) (with_byte b (lines (c ∷ text)))
-    ≡ take (cond q 1 (suc (line_end (c ∷ text)))) (b ∷ c ∷ text) ∷ lines (drop (cond q 1 (suc (line_end (c ∷ text)))) (b ∷ c ∷ text)))
+    ≡ take (cond q 1 (suc (end_by_bytes (c ∷ text)))) (b ∷ c ∷ text) ∷ lines (drop (cond q 1 (suc (end_by_bytes (c ∷ text)))) (b ∷ c ∷ text)))
     [ true ↦ refl | false ↦ ap (with_byte b) (first_line c text) ]
 
 -- which has a byte at least
-some_byte : (b : ℕ) (text : List ℕ) → take (line_end (b ∷ text)) (b ∷ text) ≢ []
-unfolding line_end
+some_byte : (b : ℕ) (text : List ℕ) → take (end_by_bytes (b ∷ text)) (b ∷ text) ≢ []
+unfolding end_by_bytes
 some_byte b text =
-    elim (eqb b 10) as (λ (q : Bool). take (cond q 1 (suc (line_end text))) (b ∷ text) ≢ [])
+    elim (eqb b 10) as (λ (q : Bool). take (cond q 1 (suc (end_by_bytes text))) (b ∷ text) ≢ [])
     [ true ↦ λ e. absurd (cc) | false ↦ λ e. absurd (cc) ]
 
 -- and what is left is shorter
-shorter : (b : ℕ) (text : List ℕ) → length (drop (line_end (b ∷ text)) (b ∷ text)) < length (b ∷ text)
-unfolding line_end
+shorter : (b : ℕ) (text : List ℕ) → length (drop (end_by_bytes (b ∷ text)) (b ∷ text)) < length (b ∷ text)
+unfolding end_by_bytes
 shorter b text =
-    elim (eqb b 10) as (λ (q : Bool). length (drop (cond q 1 (suc (line_end text))) (b ∷ text)) < length (b ∷ text))
-    [ true ↦ omega arith | false ↦ rw (length-drop (line_end text) text) (omega arith) ]
+    elim (eqb b 10) as (λ (q : Bool). length (drop (cond q 1 (suc (end_by_bytes text))) (b ∷ text)) < length (b ∷ text))
+    [ true ↦ omega arith | false ↦ rw (length-drop (end_by_bytes text) text) (omega arith) ]
+
+by_bytes : (text : List ℕ) → IsSplit text (take (end_by_bytes text) text) (drop (end_by_bytes text) text)
+unfolding end_by_bytes
+by_bytes [] = (refl, refl)
+by_bytes (b ∷ text) = (first_line b text, some_byte b text, shorter b text)
 
 pub splits : (text : List ℕ) → IsSplit text (take (line_end text) text) (drop (line_end text) text)
-unfolding line_end
-splits [] = (refl, refl)
-splits (b ∷ text) = (first_line b text, some_byte b text, shorter b text)
+splits text = rw (sym (same_end text)) (by_bytes text)
 
 -- the first lines differ
 pub differs : (n : ℕ) (due came dl dr cl cr : List ℕ) → IsSplit due dl dr → IsSplit came cl cr → dl ≢ cl → difference_from n (lines due) (lines came) ≡ Some (n, dl, cl)

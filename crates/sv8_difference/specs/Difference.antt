@@ -1,5 +1,5 @@
 -- The lines of a text, and the first in which two texts differ.
-use Rattle.std.specs.Prelude.{◌≡◌, ◌≢◌, ℕ, suc, ◌+◌, ◌<◌, length, List, [], ◌∷◌, Option, Some, None, bytes_eq, ◌==◌, if◌then◌else◌}
+use Rattle.std.specs.Prelude.{◌≡◌, ◌≢◌, ℕ, ◌+◌, ◌<◌, length, List, [], ◌∷◌, Option, Some, None, bytes_eq, ◌==◌, if◌then◌else◌}
 
 -- a byte in front of the first of some lines
 unfoldable pub with_byte : ℕ → List (List ℕ) → List (List ℕ)
@@ -11,10 +11,14 @@ unfoldable pub lines : List ℕ → List (List ℕ)
 lines [] = []
 lines (b ∷ text) = if b == 10 then (b ∷ []) ∷ lines text else with_byte b (lines text)
 
+-- the first of some lines; an empty one where there is none
+unfoldable pub first_of : List (List ℕ) → List ℕ
+first_of [] = []
+first_of (line ∷ lines) = line
+
 -- where the first line of a text ends
 unfoldable pub line_end : List ℕ → ℕ
-line_end [] = 0
-line_end (b ∷ text) = if b == 10 then 1 else suc (line_end text)
+line_end text = length (first_of (lines text))
 
 -- the first line, with its number, in which the lines that are due differ from those that came, where the first of them has the number n;
 -- where a text has ended, its line is empty

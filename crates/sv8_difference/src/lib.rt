@@ -14,7 +14,7 @@ pub struct Difference<'a> {
 }
 
 /// Where the first line of a text ends, with its LF.
-#[tactic(auto, unfolding(crate::specs::Difference::line_end))]
+#[tactic(auto, using(crate::proofs::Lines::same_end), unfolding(crate::proofs::Lines::end_by_bytes))]
 pub fn line_end(text: &[u8]) -> usize
     ensures value { result ≡ line_end text.now }
     ensures most { result ≤ length text.now }
