@@ -45,8 +45,9 @@ abbrev pub Serves : Kept → End → Option (List ℕ) → Option (List ℕ) →
 Serves start Done known left old new = IfSome known (λ input. (last : Kept) × Answered old new start (orders_of input) last)
 -- what had been read was answered, up to its last whole line
 Serves start ReadFault known left old new = (last : Kept) × AnsweredGiven known left old new start last
--- the answers to the script are cut short
-Serves start WriteFault known left old new = IfSome known (λ input. (last : Kept) × Cut old new start (orders_of input) last)
+-- the answers to the script are cut short, where it is too long those to its lines within the bounds
+Serves start WriteFault known left old new =
+    IfSome known (λ input. (last : Kept) × Cut old new start (orders_of input) last × (IsTooLong input → Cut old new start (orders_in (lines_within input)) last))
 -- the script is too long, and its lines within the bounds were answered
 Serves start TooMany known left old new = IfSome known (λ input. IsTooLong input × ((last : Kept) × Answered old new start (orders_in (lines_within input)) last))
 -- nothing was read or written
@@ -54,6 +55,10 @@ Serves start Memory known left old new = (known ≡ left) × (old ≡ new)
 Serves start Help known left old new = ⊥
 Serves start Usage known left old new = ⊥
 Serves start NoScript known left old new = ⊥
+
+-- the same of a writer of which it is not said what it has
+abbrev pub ServesInto : Kept → End → Option (List ℕ) → Option (List ℕ) → Type 0
+ServesInto start end known left = (old : Option (List ℕ)) × (new : Option (List ℕ)) × Serves start end known left old new
 
 -- the end that an error of the words comes to
 abbrev pub refusal_end : ErrorKind → End

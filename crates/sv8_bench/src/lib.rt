@@ -8,6 +8,6 @@ mod shown;
 pub use bench::{Bench, LAST_STEP};
 pub use fault::BenchFault;
 pub use shown::Shown;
-pub use sv8_cpu::MmuRegisters;
+pub use sv8_cpu::Mmu;
 pub use sv8_phys::Timer;
 pub use sv8_source::Listed;

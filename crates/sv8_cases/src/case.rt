@@ -72,10 +72,11 @@ fn answer_of<const NW: usize, const K: u32>(
 }
 
 /// The counts of a new workbench of `NW` windows, with a checkpoint every `K` steps, after each command of a script that it answers: a
-/// line `recorded R worked W` each.
+/// line `recorded R worked W` each. Before it stands the command's answer, where that is wanted too.
 fn counts_of<const NW: usize, const K: u32>(
     alloc: Global,
     script: &[u8],
+    with_answers: bool,
 ) -> Result<Vec<u8>, CaseFault>
     requires some_windows { 2 ≤ NW }
     requires few_windows { NW ≤ 32 }
@@ -92,6 +93,9 @@ fn counts_of<const NW: usize, const K: u32>(
         match run(alloc, &mut bench, &mut command, &mut written) {
             Ok(()) => {}
             Err(fault) => return Err(CaseFault::Run(fault)),
+        }
+        if with_answers {
+            counts.extend_from_slice(&written)?;
         }
         if !written.is_empty() {
             let line = format!(in alloc;
@@ -112,6 +116,8 @@ pub enum Wanted {
     Answer,
     /// The counts of its workbench after each command.
     Counts,
+    /// What each command answers, with the counts after it.
+    Both,
 }
 
 /// What a new workbench of `NW` windows, with a checkpoint every `K` steps, makes of a script.
@@ -127,7 +133,8 @@ fn wanted_of<const NW: usize, const K: u32>(
 {
     match wanted {
         Wanted::Answer => answer_of::<NW, K>(alloc, script),
-        Wanted::Counts => counts_of::<NW, K>(alloc, script),
+        Wanted::Counts => counts_of::<NW, K>(alloc, script, false),
+        Wanted::Both => counts_of::<NW, K>(alloc, script, true),
     }
 }
 

@@ -10,6 +10,8 @@ use Rattle.sv8_phys.specs.declared.fault.BusError.{BusError}
 use Rattle.sv8_phys.specs.declared.size.Size.{Size}
 use Rattle.sv8_phys.specs.declared.size.Size.TheVariants.{Byte, Half, Word, Double}
 use Rattle.sv8_phys.specs.Devices.{input_address, waiting_address, Stored, load, store, ram_load, ram_store}
+use Rattle.sv8_mmu.specs.declared.access_type.AccessType.{AccessType}
+use Rattle.sv8_mmu.specs.declared.fault_type.FaultType.{FaultType}
 use Rattle.sv8_mmu.specs.declared.translation.Reach.{Reach}
 use Rattle.sv8_mmu.specs.declared.translation.Translated.{Translated}
 use Rattle.sv8_mmu.specs.declared.translation.Translated.TheVariants as translated
@@ -90,9 +92,9 @@ exchanged_word keeps limit u o o1 o2 ts ts1 ts2 size asi value va pa old x y s i
 
 -- ---- at a virtual address
 
-module _ (keeps : Bool) (limit : ℕ) (u : Units) (trap : Trap) (asi access_type : ℕ) (reach : Reach) (va : ℕ) (use_address : Units → ℕ → Action Served) (o o2 : Outside) (s : Served) (ts ts2 : List Touch) where
+module _ (keeps : Bool) (limit : ℕ) (u : Units) (trap : Trap) (asi : ℕ) (access_type : AccessType) (reach : Reach) (va : ℕ) (use_address : Units → ℕ → Action Served) (o o2 : Outside) (s : Served) (ts ts2 : List Touch) where
   -- it is made as the type and the reach are that the code has found
-  pub made_as : (given : ℕ) (given_reach : Reach) → given ≡ access_type → given_reach ≡ reach → Does keeps (at_virtual limit u trap asi given given_reach va (use_address u)) o o2 s ts ts2
+  pub made_as : (given : AccessType) (given_reach : Reach) → given ≡ access_type → given_reach ≡ reach → Does keeps (at_virtual limit u trap asi given given_reach va (use_address u)) o o2 s ts ts2
       → Does keeps (at_virtual limit u trap asi access_type reach va (use_address u)) o o2 s ts ts2
   made_as given given_reach type_is reach_is made =
       subst (λ k. Does keeps (at_virtual limit u trap asi k reach va (use_address u)) o o2 s ts ts2) type_is
@@ -112,7 +114,7 @@ module _ (keeps : Bool) (limit : ℕ) (u : Units) (trap : Trap) (asi access_type
         (rw e (subst (λ v. Does keeps (use_address v pa) o1 o2 s ts1 ts2) same made))
 
     -- its translation meets a fault, and nothing more is done
-    pub refused_at : (kind level : ℕ) (answer : Served) (o3 : Outside) → t ≡ translated.Refused kind level → o3 ≡ o1
+    pub refused_at : (kind : FaultType) (level : ℕ) (answer : Served) (o3 : Outside) → t ≡ translated.Refused kind level → o3 ≡ o1
         → answer ≡ failed u1 trap asi (record { level = level; access_type = access_type; fault_type = kind; address = va }) → Does keeps (done answer) o3 o2 s ts1 ts2
         → Does keeps (at_virtual limit u trap asi access_type reach va (use_address u)) o o2 s ts ts2
     unfolding at_virtual

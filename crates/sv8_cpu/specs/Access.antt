@@ -6,6 +6,9 @@ use Rattle.sv8_phys.specs.declared.fault.BusError.{BusError}
 use Rattle.sv8_phys.specs.declared.size.Size.{Size}
 use Rattle.sv8_phys.specs.declared.size.Size.TheVariants.{Byte, Half, Word, Double}
 use Rattle.sv8_phys.specs.Devices.{Stored, load, store, ram_load, ram_store, input_address, waiting_address}
+use Rattle.sv8_mmu.specs.declared.access_type.AccessType.{AccessType}
+use Rattle.sv8_mmu.specs.declared.access_type.AccessType.TheVariants.{UserLoad, SupervisorLoad, UserFetch, SupervisorFetch, UserStore, SupervisorStore, UserInstructionStore, SupervisorInstructionStore}
+use Rattle.sv8_mmu.specs.declared.fault_type.FaultType.TheVariants.{AccessBus}
 use Rattle.sv8_mmu.specs.declared.registers.Fault.{Fault}
 use Rattle.sv8_mmu.specs.declared.translation.Reach.{Reach}
 use Rattle.sv8_mmu.specs.declared.translation.Reach.TheVariants.{Ram, RamOrDevices}
@@ -36,17 +39,18 @@ physical_place high at = high * 2 ^ 32 + at
 
 -- ---- access types and faults
 
--- of loads, by the address space: 0 user data, 1 supervisor data, 2 user instructions, 3 supervisor instructions
-unfoldable pub load_type : ℕ → ℕ
-load_type asi = if asi == 0x08 then 2 else (if asi == 0x09 then 3 else (if asi == 0x0a then 0 else 1))
+-- of loads, by the address space: user data, supervisor data, user instructions, supervisor instructions
+unfoldable pub load_type : ℕ → AccessType
+load_type asi = if asi == 0x08 then UserFetch else (if asi == 0x09 then SupervisorFetch else (if asi == 0x0a then UserLoad else SupervisorLoad))
 
--- of stores, and of what loads and stores: 4 user data, 5 supervisor data, 6 user instructions, 7 supervisor instructions
-unfoldable pub store_type : ℕ → ℕ
-store_type asi = if asi == 0x08 then 6 else (if asi == 0x09 then 7 else (if asi == 0x0a then 4 else 5))
+-- of stores, and of what loads and stores
+unfoldable pub store_type : ℕ → AccessType
+store_type asi =
+    if asi == 0x08 then UserInstructionStore else (if asi == 0x09 then SupervisorInstructionStore else (if asi == 0x0a then UserStore else SupervisorStore))
 
--- nothing serves the physical address: fault type 5, which has no level
-abbrev pub bus_fault : ℕ → ℕ → Fault
-bus_fault access_type va = record { level = 0; access_type = access_type; fault_type = 5; address = va }
+-- nothing serves the physical address, a fault that has no level
+abbrev pub bus_fault : AccessType → ℕ → Fault
+bus_fault access_type va = record { level = 0; access_type = access_type; fault_type = AccessBus; address = va }
 
 -- a space that is not assigned, or an access or a register that it does not have, is no fault of the unit: nothing is recorded, and NF hides nothing
 abbrev pub no_such_access : Units → Served
@@ -106,12 +110,12 @@ exchanged_at limit u size asi value va pa =
 -- ---- accesses at a virtual address
 
 -- a fault of the translation fails the access; else it is made at the physical address
-abbrev pub located : Units → Trap → ℕ → ℕ → ℕ → (ℕ → Action Served) → Translated → Action Served
+abbrev pub located : Units → Trap → ℕ → AccessType → ℕ → (ℕ → Action Served) → Translated → Action Served
 located u trap asi access_type va use_address (translated.At pa) = use_address pa
 located u trap asi access_type va use_address (translated.Refused kind level) =
     done (failed u trap asi (record { level = level; access_type = access_type; fault_type = kind; address = va }))
 
-unfoldable pub at_virtual : ℕ → Units → Trap → ℕ → ℕ → Reach → ℕ → (ℕ → Action Served) → Action Served
+unfoldable pub at_virtual : ℕ → Units → Trap → ℕ → AccessType → Reach → ℕ → (ℕ → Action Served) → Action Served
 at_virtual limit u trap asi access_type reach va use_address = translate limit u.mmu va access_type reach >>= located u trap asi access_type va use_address
 
 -- devices serve loads and stores of words

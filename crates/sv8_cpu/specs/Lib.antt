@@ -6,6 +6,8 @@ pub mod State
 pub mod Run
 pub mod Recorded
 pub mod RecordedLaws
+pub mod Frames
+pub mod DeviceLaws
 pub mod Loading
 pub mod Work
 pub mod WordPokes

@@ -21,7 +21,7 @@ use crate::spaces::{
 use std::alloc::{AllocError, Global};
 use std::marker::Model;
 use sv8_iu::{AccessRequest, Response, Space};
-use sv8_mmu::{Buffer, MmuRegisters};
+use sv8_mmu::{Buffer, Mmu};
 use sv8_phys::{Page, Phys, Size, Touches};
 use sv8_time::Timeline;
 
@@ -51,7 +51,7 @@ impl<const PAGES: usize> Memory<PAGES> {
         Memory {
             physical: Physical {
                 phys,
-                mmu: MmuRegisters::new(),
+                mmu: Mmu::new(),
             },
             buffer: Buffer::new(alloc),
         }
@@ -66,7 +66,7 @@ impl<const PAGES: usize> Memory<PAGES> {
     }
 
     /// The registers of the memory management unit.
-    pub fn mmu(&self) -> MmuRegisters
+    pub fn mmu(&self) -> Mmu
         ensures { result ≡ self.now.mmu }
     {
         self.physical.mmu
@@ -98,7 +98,7 @@ impl<const PAGES: usize> Memory<PAGES> {
         ensures taken { self.new.phys.taken ≡ self.old.phys.taken }
         ensures mmu { self.new.mmu ≡ self.old.mmu }
     {
-        self.physical.phys.tick(notes)?;
+        self.physical.phys.tick_noted(notes)?;
         Ok(())
     }
 

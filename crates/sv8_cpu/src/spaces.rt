@@ -15,7 +15,9 @@ ghost use Rattle.sv8_cpu.specs.Locating.{Locates, IsPlace};
 use crate::physical::{Physical, is_word, load_type, store_type};
 use std::alloc::AllocError;
 use sv8_iu::{AccessRequest, Response, Space, space_of};
-use sv8_mmu::{Buffer, Fault, Reach, Translated, VirtualAccess, probe, translate, write_register};
+use sv8_mmu::{
+    Buffer, Fault, FaultType, Reach, Translated, VirtualAccess, probe_by_address, resolve,
+};
 use sv8_phys::{Size, Touches};
 use sv8_time::Timeline;
 use sv8_trap::Trap;
@@ -66,11 +68,9 @@ fn refuse<const PAGES: usize>(
     trap: Trap,
     asi: u8,
     access: VirtualAccess,
-    kind: u8,
+    kind: FaultType,
     level: u8,
 ) -> Response
-    requires access_type { access.access_type ≤ 7 }
-    requires kind { kind ≤ 7 }
     requires level { level ≤ 3 }
     ensures served { record { response = result; units = units_of physical.new }
         ≡ failed (units_of physical.old) trap asi (record { level = level; access_type = access.access_type; fault_type = kind; address = access.address }) }
@@ -96,7 +96,6 @@ fn locate<const PAGES: usize, T: Touches>(
     access: VirtualAccess,
     notes: &mut T,
 ) -> Result<Place, AllocError>
-    requires access_type { access.access_type ≤ 7 }
     requires serves { Serves physical.old buffer.old }
     ensures ok { IfOk result (λ place. (bytes : List ℕ) → Locates T.KEEPS bytes (ram_size PAGES) trap asi access
         physical.old physical.new place (T.noted notes.old) (T.noted notes.new)) }
@@ -104,7 +103,7 @@ fn locate<const PAGES: usize, T: Touches>(
     ensures taken { OnOk result (physical.new.phys.taken ≡ physical.old.phys.taken) }
     ensures serves { Serves physical.new buffer.new }
 {
-    match translate(&physical.mmu, buffer, &mut physical.phys, access, notes)? {
+    match resolve(&physical.mmu, buffer, &mut physical.phys, access, notes)? {
         Translated::At(pa) => Ok(Place::At(pa)),
         Translated::Refused { kind, level } => {
             let response = refuse(physical, trap, asi, access, kind, level);
@@ -218,7 +217,7 @@ fn load_probe<const PAGES: usize, T: Touches>(
     if !is_word(size) {
         return Ok(Response::Refused(Trap::DataAccessException));
     }
-    let entry = probe(&physical.mmu, &physical.phys, at, notes)?;
+    let entry = probe_by_address(&physical.mmu, &physical.phys, at, notes)?;
     Ok(Response::Value(entry as u64))
 }
 
@@ -344,7 +343,7 @@ fn store_register<const PAGES: usize>(
     ensures memory { physical.new.phys ≡ physical.old.phys }
     ensures serves { Serves physical.new buffer.new }
 {
-    if write_register(&mut physical.mmu, buffer, at, word) {
+    if physical.mmu.write_register(buffer, at, word) {
         Response::Value(0)
     } else {
         Response::Refused(Trap::DataAccessException)

@@ -5,3 +5,4 @@ pub use Rattle.sv8_edits.proofs.EditedRequests.{clear_request_edits, request_edi
 pub use Rattle.sv8_edits.proofs.EditedPokes.{clear_byte_edits, poke_byte_edits}
 pub use Rattle.sv8_edits.proofs.EditedWords.{clear_edits, poke_edits}
 pub use Rattle.sv8_edits.proofs.EditedImage.{image_edits}
+pub use Rattle.sv8_edits.proofs.Standing.{standing_inputs}

@@ -104,7 +104,28 @@ pub fn take_trap<const NW: usize>(p: &mut Processor<NW>, instr: Instr, trap: Tra
 {
     match instr {
         Instr::Rett { .. } => p.take_in_return(trap),
-        _ => p.take(trap),
+        Instr::Unimp(_)
+        | Instr::Bicc { .. }
+        | Instr::Sethi { .. }
+        | Instr::Call { .. }
+        | Instr::Arith { .. }
+        | Instr::Tagged { .. }
+        | Instr::Mulscc { .. }
+        | Instr::Shift { .. }
+        | Instr::ReadState { .. }
+        | Instr::Stbar
+        | Instr::WriteState { .. }
+        | Instr::Jmpl { .. }
+        | Instr::Ticc { .. }
+        | Instr::Flush { .. }
+        | Instr::Save { .. }
+        | Instr::Restore { .. }
+        | Instr::Memory { .. }
+        | Instr::Alternate { .. }
+        | Instr::Fp(_)
+        | Instr::Cp(_)
+        | Instr::AltImm
+        | Instr::Illegal => p.take(trap),
     }
 }
 
@@ -147,7 +168,27 @@ pub fn asked<const NW: usize>(p: &Processor<NW>, instr: Instr) -> AccessRequest
             rd,
             sum_of_sources(p, rs1, Operand::Register(rs2)),
         ),
-        _ => AccessRequest::Nothing,
+        Instr::Unimp(_)
+        | Instr::Bicc { .. }
+        | Instr::Sethi { .. }
+        | Instr::Call { .. }
+        | Instr::Arith { .. }
+        | Instr::Tagged { .. }
+        | Instr::Mulscc { .. }
+        | Instr::Shift { .. }
+        | Instr::ReadState { .. }
+        | Instr::Stbar
+        | Instr::WriteState { .. }
+        | Instr::Jmpl { .. }
+        | Instr::Rett { .. }
+        | Instr::Ticc { .. }
+        | Instr::Flush { .. }
+        | Instr::Save { .. }
+        | Instr::Restore { .. }
+        | Instr::Fp(_)
+        | Instr::Cp(_)
+        | Instr::AltImm
+        | Instr::Illegal => AccessRequest::Nothing,
     }
 }
 
@@ -194,6 +235,8 @@ pub fn complete<const NW: usize>(p: &mut Processor<NW>, instr: Instr, value: u64
         Instr::Memory { op, rd, .. } | Instr::Alternate { op, rd, .. } => finish_access(
             p, op, rd, value,
         ),
-        _ => p.advance(),
+        Instr::Stbar | Instr::Ticc { .. } | Instr::Flush { .. } => p.advance(),
+        // These always trap.
+        Instr::Unimp(_) | Instr::Fp(_) | Instr::Cp(_) | Instr::AltImm | Instr::Illegal => {}
     }
 }

@@ -5,7 +5,7 @@ ghost use Rattle.lru.specs.LruCache.{LruCache};
 ghost use Rattle.sv8_mmu.specs.Registers.{control_address, table_pointer_address, is_register, after_write};
 ghost use Rattle.sv8_mmu.specs.Kept.{Kept, if_kept, entries_of, places_of, is_marked, AllStand, AreAmong, NoneReads, NoneReadsPage, DiffersInPage};
 
-use crate::registers::{CONTROL, MmuRegisters, TABLE_POINTER};
+use crate::registers::{CONTROL, Mmu, TABLE_POINTER};
 use crate::walk::{Trail, Walk};
 use lru::LruCache;
 use std::alloc::Global;
@@ -339,19 +339,21 @@ impl Buffer {
     }
 }
 
-/// Writes the register at an address of the registers' space, and tells whether there is one. A write to the fault status or
-/// the fault address is ignored; one to the control or the table pointer empties the buffer.
-pub fn write_register(registers: &mut MmuRegisters, buffer: &mut Buffer, at: u32, word: u32) -> bool
-    ensures there { result ≡ is_register at }
-    ensures registers { registers.new ≡ after_write registers.old at word }
-    ensures refused { result ≡ false → registers.new ≡ registers.old }
-    ensures emptied { (at ≡ control_address) ⊎ (at ≡ table_pointer_address) → buffer.new ≡ [] }
-    ensures among { AreAmong buffer.new buffer.old }
-    ensures stand { (limit : ℕ) (ram : List ℕ) → AllStand limit ram registers.old.table_pointer buffer.old → AllStand limit ram registers.new.table_pointer buffer.new }
-{
-    if at == CONTROL || at == TABLE_POINTER {
-        buffer.clear();
-        return registers.write(at, word);
+impl Mmu {
+    /// Writes the register at an address of the registers' space, and tells whether there is one. A write to the fault status or
+    /// the fault address is ignored; one to the control or the table pointer empties the buffer.
+    pub fn write_register(&mut self, buffer: &mut Buffer, at: u32, word: u32) -> bool
+        ensures there { result ≡ is_register at }
+        ensures registers { self.new ≡ after_write self.old at word }
+        ensures refused { result ≡ false → self.new ≡ self.old }
+        ensures emptied { (at ≡ control_address) ⊎ (at ≡ table_pointer_address) → buffer.new ≡ [] }
+        ensures among { AreAmong buffer.new buffer.old }
+        ensures stand { (limit : ℕ) (ram : List ℕ) → AllStand limit ram self.old.table_pointer buffer.old → AllStand limit ram self.new.table_pointer buffer.new }
+    {
+        if at == CONTROL || at == TABLE_POINTER {
+            buffer.clear();
+            return self.write(at, word);
+        }
+        self.write(at, word)
     }
-    registers.write(at, word)
 }

@@ -10,10 +10,10 @@ use Rattle.sv8_shell.specs.declared.place.Place.{Place}
 use Rattle.sv8_shell.specs.declared.driver.RunFault.{RunFault}
 use Rattle.sv8_shell.specs.declared.driver.RunFault.TheVariants.{Read, Write, TooManyCommands}
 use Rattle.sv8_shell.specs.Script.{Order, bad, Stage, idle, taking, over, is_nil, orders_at_end, orders_of, Step, step, kept_with, left_from, ended_lines, stage_from, orders_in, EndsByQuit, HasNoQuit}
-use Rattle.sv8_shell.specs.Session.{State, Answered, Cut}
+use Rattle.sv8_shell.specs.Session.{State, IsPrefix, Answered, Cut}
 use Rattle.sv8_shell.specs.Put.{Does}
 use Rattle.sv8_shell.specs.Gathers.{IsAt, Stepped, is_over}
-use Rattle.sv8_shell.specs.Progress.{Progress, Stopped, Stops, Taken}
+use Rattle.sv8_shell.specs.Progress.{Progress, Stopped, StoppedWriting, Stops, Taken}
 use Rattle.sv8_shell.proofs.GatherLemmas.{still-open}
 use Rattle.sv8_shell.proofs.SessionLemmas.{Answered-none, Answered-append, Cut-after, Cut-longer, Does-after}
 use Rattle.sv8_shell.proofs.ScriptLemmas.{ended-letter, left-letter, ended-feed, left-feed, orders-line, stage-line, orders_in-split, orders_of-end, rest_orders-none, rest_orders-line}
@@ -81,13 +81,22 @@ feed old mid now source m last given b place next g f h line lines bytes p q =
       answered = subst (λ (o : List Order). Answered old now source o last) (sym (orders-feed given b h)) (Answered-append old mid now source m last (orders_in (ended_lines given)) (step_at given).orders p.answered s.answered);
     }
 
-pub feed-cut : (old mid now : Option (List ℕ)) (source m last : State) (given : List ℕ) (b : ℕ) (place : Place) (g : Gathering) → eqb b 10 ≡ true
-    → Progress old mid source m given place g → Cut mid now m (step (stage_from idle (ended_lines given)) place.line).orders last
-    → Cut old now source (orders_in (ended_lines (given ++ b ∷ []))) last
+pub feed-cut : (old mid now : Option (List ℕ)) (source m last : State) (given : List ℕ) (b : ℕ) (place : Place) (g : Gathering) → eqb b 10 ≡ true → place.lines + 1 ≤ 1000000
+    → place.bytes + 1 ≤ 268435456 → Progress old mid source m given place g → Cut mid now m (step (stage_from idle (ended_lines given)) place.line).orders last
+    → StoppedWriting old now source last given (b ∷ [])
 unfolding step_at
-feed-cut old mid now source m last given b place g h p q =
+feed-cut old mid now source m last given b place g h few_lines few_bytes p q =
     let s : Cut mid now m (step_at given).orders last = subst (λ (l : List ℕ). Cut mid now m (step (stage_from idle (ended_lines given)) l).orders last) p.reached.line_is q in
-    subst (λ (o : List Order). Cut old now source o last) (sym (orders-feed given b h)) (Cut-after old mid now source m last (orders_in (ended_lines given)) (step_at given).orders p.answered s)
+    let lines = p.reached.lines_is in
+    let bytes = p.reached.bytes_is in
+    record {
+      front = b ∷ [];
+      first = record { rest = []; is = refl };
+      few_lines = omega (arith, ap length (ended-feed given b h), length-append (ended_lines given) (left_from [] given ∷ []));
+      few_bytes = omega (arith, length-append given (b ∷ []));
+      cut = subst (λ (o : List Order). Cut old now source o last) (sym (orders-feed given b h))
+          (Cut-after old mid now source m last (orders_in (ended_lines given)) (step_at given).orders p.answered s);
+    }
 
 -- ---- pieces
 
@@ -113,10 +122,19 @@ pub stops-piece : (f : RunFault) (old now : Option (List ℕ)) (source last : St
     → Stops f old now source last given piece
 stops-piece Read old now source last given piece i h s = s
 stops-piece Write old now source last given piece i h s =
-    let parts : given ++ piece ≡ ((given ++ take i piece) ++ get_or piece i 0 ∷ []) ++ drop (i + 1) piece =
-    ap (λ l. given ++ l) (sym (take-append-drop (i + 1) piece)) ∙ sym (append_assoc given (take (i + 1) piece) (drop (i + 1) piece)) ∙ ap (λ l. l ++ drop (i + 1) piece) (sym (next_byte given piece i h)) in
-    subst (λ (o : List Order). Cut old now source o last) (sym (ap (λ l. orders_in (ended_lines l)) parts ∙ orders_in-split ((given ++ take i piece) ++ get_or piece i 0 ∷ []) (drop (i + 1) piece)))
-    (Cut-longer old now source last _ _ s)
+    let joined : (given ++ take i piece) ++ s.front ≡ given ++ (take i piece ++ s.front) = append_assoc given (take i piece) s.front in
+    let rest : get_or piece i 0 ∷ drop (suc i) piece ≡ s.front ++ (s.first.rest ++ drop (suc i) piece) =
+    ap (λ l. l ++ drop (suc i) piece) s.first.is ∙ append_assoc s.front s.first.rest (drop (suc i) piece) in
+    record {
+      front = take i piece ++ s.front;
+      first = record {
+        rest = s.first.rest ++ drop (suc i) piece;
+        is = sym (take-append-drop i piece) ∙ ap (λ l. take i piece ++ l) (drop-cons piece i 0 h ∙ rest) ∙ sym (append_assoc (take i piece) s.front (s.first.rest ++ drop (suc i) piece));
+      };
+      few_lines = rw joined at s.few_lines;
+      few_bytes = rw joined at s.few_bytes;
+      cut = rw joined at s.cut;
+    }
 stops-piece TooManyCommands old now source last given piece i h s =
     let joined : (given ++ take i piece) ++ s.front ≡ given ++ (take i piece ++ s.front) = append_assoc given (take i piece) s.front in
     let rest : get_or piece i 0 ∷ drop (suc i) piece ≡ s.front ++ (s.back ++ drop (suc i) piece) = ap (λ l. l ++ drop (suc i) piece) s.is ∙ append_assoc s.front s.back (drop (suc i) piece) in

@@ -11,11 +11,11 @@ use Rattle.sv8_shell.specs.declared.driver.RunFault.TheVariants.{Read, Write, To
 use Rattle.sv8_shell.specs.Script.{Order, Stage, idle, taking, over, ended_lines, stage_from, orders_in, orders_of, IsTooLong, lines_within, EndsByQuit, HasNoQuit}
 use Rattle.sv8_shell.specs.Session.{State, Answered, Cut}
 use Rattle.sv8_shell.specs.Gathers.{IsAt, is_over}
-use Rattle.sv8_shell.specs.Progress.{Reached, Progress, Stopped, Stops, Taken}
+use Rattle.sv8_shell.specs.Progress.{Reached, Progress, Stopped, StoppedWriting, Stops, Taken}
 use Rattle.sv8_shell.specs.Run.{OnRead, OnWrite, OnTooMany, AnsweredGiven}
 use Rattle.sv8_shell.proofs.GatherLemmas.{still-open}
 use Rattle.sv8_shell.proofs.SessionLemmas.{Answered-none, Cut-longer}
-use Rattle.sv8_shell.proofs.ScriptLemmas.{orders_of-split, orders_of-over, too_long-lines, too_long-bytes, within-lines, within-bytes, not_too_long, quit-within}
+use Rattle.sv8_shell.proofs.ScriptLemmas.{orders_of-split, orders_of-over, too_long-lines, too_long-bytes, within-lines, within-bytes, not_too_long, orders-within, quit-within}
 
 -- what the reader has given, and how far that has come
 pub record Ran (known left written now : Option (List ℕ)) (source last : State) (place : Place) (g : Gathering) (turns : ℕ) : Type 0 where
@@ -54,12 +54,21 @@ run-end known left after written mid source m place g turns n buffer P r c e end
     let none : take n buffer ≡ [] = ap (λ (k : ℕ). take k buffer) e in
     Consumes-whole known after (r.given ++ take n buffer) P (Consumes-trans known left after r.given (take n buffer) r.consumed c) end (subst P (sym (ap (λ l. r.given ++ l) none ∙ append-nil r.given)) h)
 
-pub run-read : (known left after written now : Option (List ℕ)) (source last : State) (place : Place) (g : Gathering) (turns : ℕ) → Ran known left written now source last place g turns → Keeps left after
-    → AnsweredGiven known after written now source last
+-- how much was given
+few_lines : (given : List ℕ) (place : Place) (g : Gathering) → Reached given place g → place.lines ≤ 1000000 → length (ended_lines given) ≤ 1000000
+few_lines given place g r h = let e = r.lines_is in omega arith
+
+few_bytes : (given : List ℕ) (place : Place) (g : Gathering) → Reached given place g → place.bytes ≤ 268435456 → length given ≤ 268435456
+few_bytes given place g r h = let e = r.bytes_is in omega arith
+
+pub run-read : (known left after written now : Option (List ℕ)) (source last : State) (place : Place) (g : Gathering) (turns : ℕ) → Ran known left written now source last place g turns → place.lines ≤ 1000000
+    → place.bytes ≤ 268435456 → Keeps left after → AnsweredGiven known after written now source last
 unfolding HasNoQuit EndsByQuit
-run-read known left after written now source last place g turns r k = record {
+run-read known left after written now source last place g turns r lines bytes k = record {
   given = r.given;
   consumed = Consumes-kept known left after r.given r.consumed k;
+  few_lines = few_lines r.given place g r.progress.reached lines;
+  few_bytes = few_bytes r.given place g r.progress.reached bytes;
   answered = r.progress.answered;
   no_quit = still-open g (stage_from idle (ended_lines r.given)) r.going r.progress.reached.stage_is;
 }
@@ -82,14 +91,35 @@ run-quit known left after written mid now source m last place next g f turns pie
     let stage = IsAt-over f (stage_from idle (ended_lines (r.given ++ t.front))) e t.progress.reached.stage_is in
     subst (λ (o : List Order). Answered written now source o last) (sym (ap orders_of parts ∙ orders_of-over (r.given ++ t.front) (t.first.rest ++ more) stage)) t.progress.answered)
 
+-- the bytes up to the line in whose answer a write failed, and those after it
+written_parts : {written now : Option (List ℕ)} {source last : State} (given piece : List ℕ) (s : StoppedWriting written now source last given piece) (more : List ℕ)
+    → (given ++ piece) ++ more ≡ (given ++ s.front) ++ (s.first.rest ++ more)
+written_parts given piece s more =
+    ap (λ l. (given ++ l) ++ more) s.first.is ∙ ap (λ l. l ++ more) (sym (append_assoc given s.front s.first.rest)) ∙ append_assoc (given ++ s.front) s.first.rest more
+
 -- a fault among the bytes of a piece
 pub stop-write : (known left after written mid now : Option (List ℕ)) (source m last : State) (place : Place) (g : Gathering) (turns : ℕ) (piece : List ℕ) (r : Ran known left written mid source m place g turns)
     (f : RunFault) → Consumes left after piece → Stops f written now source last r.given piece → OnWrite {A = Unit {0}} (Err f) (IfSome known (λ input. Cut written now source (orders_of input) last))
 stop-write known left after written mid now source m last place g turns piece r Read c s = tt
 stop-write known left after written mid now source m last place g turns piece r Write c s =
     IfSome-front known after (r.given ++ piece) (λ (input : List ℕ). Cut written now source (orders_of input) last) (Consumes-trans known left after r.given piece r.consumed c)
-    (λ more. subst (λ (o : List Order). Cut written now source o last) (sym (orders_of-split (r.given ++ piece) more)) (Cut-longer written now source last _ _ s))
+    (λ more.
+    subst (λ (o : List Order). Cut written now source o last) (sym (ap orders_of (written_parts r.given piece s more) ∙ orders_of-split (r.given ++ s.front) (s.first.rest ++ more)))
+    (Cut-longer written now source last _ _ s.cut))
 stop-write known left after written mid now source m last place g turns piece r TooManyCommands c s = tt
+
+-- .. where the text is too long
+pub stop-write_within : (known left after written mid now : Option (List ℕ)) (source m last : State) (place : Place) (g : Gathering) (turns : ℕ) (piece : List ℕ) (r : Ran known left written mid source m place g turns)
+    (f : RunFault) → Consumes left after piece → Stops f written now source last r.given piece
+    → OnWrite {A = Unit {0}} (Err f) (IfSome known (λ input. IsTooLong input → Cut written now source (orders_in (lines_within input)) last))
+stop-write_within known left after written mid now source m last place g turns piece r Read c s = tt
+stop-write_within known left after written mid now source m last place g turns piece r Write c s =
+    IfSome-front known after (r.given ++ piece) (λ (input : List ℕ). IsTooLong input → Cut written now source (orders_in (lines_within input)) last) (Consumes-trans known left after r.given piece r.consumed c)
+    (λ more long.
+    let within = orders-within (r.given ++ s.front) (s.first.rest ++ more) s.few_lines s.few_bytes in
+    subst (λ (o : List Order). Cut written now source o last) (sym (ap (λ l. orders_in (lines_within l)) (written_parts r.given piece s more) ∙ within.1))
+    (Cut-longer written now source last _ _ s.cut))
+stop-write_within known left after written mid now source m last place g turns piece r TooManyCommands c s = tt
 
 module _ (known left after written mid now : Option (List ℕ)) (source m last : State) (place : Place) (g : Gathering) (turns : ℕ) (piece : List ℕ) (r : Ran known left written mid source m place g turns) (c : Consumes left after piece) where
   stop_parts : (s : Stopped written now source last r.given piece) (more : List ℕ) → (r.given ++ piece) ++ more ≡ (r.given ++ s.front) ++ (s.back ++ more)
@@ -136,18 +166,24 @@ run-never known left written now source last place g turns r few h = let t = r.t
 
 -- ---- the bounds, after Ok
 
-few_lines : (given : List ℕ) (place : Place) (g : Gathering) → Reached given place g → place.lines ≤ 1000000 → length (ended_lines given) ≤ 1000000
-few_lines given place g r h = let e = r.lines_is in omega arith
-
-few_bytes : (given : List ℕ) (place : Place) (g : Gathering) → Reached given place g → place.bytes ≤ 268435456 → length given ≤ 268435456
-few_bytes given place g r h = let e = r.bytes_is in omega arith
+-- an end of the input is within the bounds
+at-end : (known left after written mid : Option (List ℕ)) (source m : State) (place : Place) (g : Gathering) (turns n : ℕ) (buffer : List ℕ) (P : List ℕ → Type 0) (r : Ran known left written mid source m place g turns)
+    → place.lines ≤ 1000000 → place.bytes ≤ 268435456 → Consumes left after (take n buffer) → n ≡ 0 → IsAtEnd after → IfSome known (λ input. IsTooLong input → P input)
+at-end known left after written mid source m place g turns n buffer P r lines bytes c e end =
+    let at = r.progress.reached in
+    run-end known left after written mid source m place g turns n buffer (λ (input : List ℕ). IsTooLong input → P input) r c e end
+    (λ long. absurd (not_too_long r.given place.line at.line_is (few_lines r.given place g at lines) (few_bytes r.given place g at bytes) (λ full. at.ended (at.lines_is ∙ full)) long))
 
 pub end-within : (known left after written mid : Option (List ℕ)) (source m : State) (place : Place) (g : Gathering) (turns n : ℕ) (buffer : List ℕ) (r : Ran known left written mid source m place g turns)
     → place.lines ≤ 1000000 → place.bytes ≤ 268435456 → Consumes left after (take n buffer) → n ≡ 0 → IsAtEnd after → IfSome known (λ input. IsTooLong input → EndsByQuit (lines_within input))
 end-within known left after written mid source m place g turns n buffer r lines bytes c e end =
-    let at = r.progress.reached in
-    run-end known left after written mid source m place g turns n buffer (λ (input : List ℕ). IsTooLong input → EndsByQuit (lines_within input)) r c e end
-    (λ long. absurd (not_too_long r.given place.line at.line_is (few_lines r.given place g at lines) (few_bytes r.given place g at bytes) (λ full. at.ended (at.lines_is ∙ full)) long))
+    at-end known left after written mid source m place g turns n buffer (λ (input : List ℕ). EndsByQuit (lines_within input)) r lines bytes c e end
+
+pub end-write_within : (known left after written mid now : Option (List ℕ)) (source m last : State) (place : Place) (g : Gathering) (turns n : ℕ) (buffer : List ℕ) (r : Ran known left written mid source m place g turns)
+    → place.lines ≤ 1000000 → place.bytes ≤ 268435456 → Consumes left after (take n buffer) → n ≡ 0 → IsAtEnd after
+    → IfSome known (λ input. IsTooLong input → Cut written now source (orders_in (lines_within input)) last)
+end-write_within known left after written mid now source m last place g turns n buffer r lines bytes c e end =
+    at-end known left after written mid source m place g turns n buffer (λ (input : List ℕ). Cut written now source (orders_in (lines_within input)) last) r lines bytes c e end
 
 pub quit-bounds : (known left after written mid now : Option (List ℕ)) (source m last : State) (place next : Place) (g f : Gathering) (turns : ℕ) (piece : List ℕ) (r : Ran known left written mid source m place g turns)
     → next.lines ≤ 1000000 → next.bytes ≤ 268435456 → Consumes left after piece → is_over f ≡ true → Taken written now source last r.given piece next f → IfSome known (λ input. IsTooLong input → EndsByQuit (lines_within input))

@@ -196,15 +196,29 @@ not_too_long given line e lines bytes ended (inl h) =
     let none : length (last_line line) ≡ 0 = ap (λ l. length (last_line l)) (ended full) in
     omega arith
 
--- a `quit` in a front that is within the bounds
-pub quit-within : (front back : List ℕ) → length (ended_lines front) ≤ 1000000 → length front ≤ 268435456 → stage_from idle (ended_lines front) ≡ over → EndsByQuit (lines_within (front ++ back))
-unfolding EndsByQuit lines_within
-quit-within front back lines bytes quit =
+-- what a front that is within the bounds gives of the lines within them
+front_within : (front back : List ℕ) → length (ended_lines front) ≤ 1000000 → length front ≤ 268435456 → (tail : List (List ℕ)) × (lines_within (front ++ back) ≡ ended_lines front ++ tail)
+unfolding lines_within
+front_within front back lines bytes =
     let c = cut 268435456 front back bytes in
     let rest = ended_from (left_from [] front) c.0 in
-    let e : 1000000 ≡ length (ended_lines front) + (1000000 - length (ended_lines front)) = omega arith in
-    let tail = take (1000000 - length (ended_lines front)) rest in
-    let all : take 1000000 (ended_lines (take 268435456 (front ++ back))) ≡ ended_lines front ++ tail =
-    ap (λ l. take 1000000 (ended_lines l)) c.1 ∙ ap (take 1000000) (ended_lines-append front c.0)
-    ∙ ap (λ (m : ℕ). take m (ended_lines front ++ rest)) e ∙ take-append-add (ended_lines front) rest (1000000 - length (ended_lines front)) in
-    ap (stage_from idle) all ∙ stage_from-append idle (ended_lines front) tail ∙ ap (λ (s : Stage). stage_from s tail) quit ∙ stage_from-over tail
+    let e : 1000000 ≡ length (ended_lines front) + (1000000 - length (ended_lines front)) = omega arith in (
+      take (1000000 - length (ended_lines front)) rest,
+      ap (λ l. take 1000000 (ended_lines l)) c.1 ∙ ap (take 1000000) (ended_lines-append front c.0)
+          ∙ ap (λ (m : ℕ). take m (ended_lines front ++ rest)) e ∙ take-append-add (ended_lines front) rest (1000000 - length (ended_lines front)),
+    )
+
+-- so of their orders
+pub orders-within : (front back : List ℕ) → length (ended_lines front) ≤ 1000000 → length front ≤ 268435456
+    → (tail : List Order) × (orders_in (lines_within (front ++ back)) ≡ orders_in (ended_lines front) ++ tail)
+unfolding orders_in
+orders-within front back lines bytes =
+    let within = front_within front back lines bytes in
+    (orders_from (stage_from idle (ended_lines front)) within.0, ap (orders_from idle) within.1 ∙ orders_from-append idle (ended_lines front) within.0)
+
+-- a `quit` in a front that is within the bounds
+pub quit-within : (front back : List ℕ) → length (ended_lines front) ≤ 1000000 → length front ≤ 268435456 → stage_from idle (ended_lines front) ≡ over → EndsByQuit (lines_within (front ++ back))
+unfolding EndsByQuit
+quit-within front back lines bytes quit =
+    let within = front_within front back lines bytes in
+    ap (stage_from idle) within.1 ∙ stage_from-append idle (ended_lines front) within.0 ∙ ap (λ (s : Stage). stage_from s within.0) quit ∙ stage_from-over within.0

@@ -33,10 +33,18 @@ pub record Stopped (old now : Option (List ℕ)) (start last : State) (given mor
   pub answered : Answered old now start (orders_in (ended_lines (given ++ front))) last
   pub no_quit : HasNoQuit (ended_lines (given ++ front))
 
+-- a write failed within the answer to a line that ended among more bytes, within both bounds
+pub record StoppedWriting (old now : Option (List ℕ)) (start last : State) (given more : List ℕ) : Type 0 where
+  pub front : List ℕ
+  pub first : IsPrefix front more
+  pub few_lines : length (ended_lines (given ++ front)) ≤ 1000000
+  pub few_bytes : length (given ++ front) ≤ 268435456
+  pub cut : Cut old now start (orders_in (ended_lines (given ++ front))) last
+
 -- how a run stops among more bytes
 abbrev pub Stops : RunFault → Option (List ℕ) → Option (List ℕ) → State → State → List ℕ → List ℕ → Type 0
 Stops Read old now start last given more = ⊥
-Stops Write old now start last given more = Cut old now start (orders_in (ended_lines (given ++ more))) last
+Stops Write old now start last given more = StoppedWriting old now start last given more
 Stops TooManyCommands old now start last given more = Stopped old now start last given more
 
 abbrev pub TakesByte : Result Gathering RunFault → Option (List ℕ) → Option (List ℕ) → State → State → List ℕ → ℕ → Place → Type 0

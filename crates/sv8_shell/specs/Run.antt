@@ -1,5 +1,5 @@
 -- What a run promises for each of its outcomes.
-use Rattle.std.specs.Prelude.{ℕ, List, Option, Result, Ok, Err, ⊤}
+use Rattle.std.specs.Prelude.{ℕ, ◌≤◌, List, length, Option, Result, Ok, Err, ⊤}
 use Rattle.std.specs.Io.KnownBytes.{Consumes}
 use Rattle.sv8_shell.specs.declared.driver.RunFault.{RunFault}
 use Rattle.sv8_shell.specs.declared.driver.RunFault.TheVariants.{Read, Write, TooManyCommands}
@@ -24,9 +24,11 @@ OnTooMany (Err Read) P = ⊤
 OnTooMany (Err Write) P = ⊤
 OnTooMany (Err TooManyCommands) P = P
 
--- the reader has given some bytes, no line that ended in them is a `quit`, and the orders in these lines were answered
+-- the reader has given some bytes, within both bounds, no line that ended in them is a `quit`, and the orders in these lines were answered
 pub record AnsweredGiven (known left written now : Option (List ℕ)) (start last : State) : Type 0 where
   pub given : List ℕ
   pub consumed : Consumes known left given
+  pub few_lines : length (ended_lines given) ≤ 1000000
+  pub few_bytes : length given ≤ 268435456
   pub answered : Answered written now start (orders_in (ended_lines given)) last
   pub no_quit : HasNoQuit (ended_lines given)

@@ -53,6 +53,10 @@ pub fn run<const NW: usize, const PAGES: usize, const K: u32, R: Read, W: Write>
     ensures write { OnWrite result (IfSome (R.remaining reader.old) (λ input.
         Cut (W.contents writer.old) (W.contents writer.new) bench.old.kept (orders_of input) bench.new.kept)) }
 
+    // In a text that is too long, of that of the lines within the bounds.
+    ensures write_within { OnWrite result (IfSome (R.remaining reader.old) (λ input. IsTooLong input →
+        Cut (W.contents writer.old) (W.contents writer.new) bench.old.kept (orders_in (lines_within input)) bench.new.kept)) }
+
     // The session of the lines within the bounds.
     ensures too_long { OnTooMany result (IfSome (R.remaining reader.old) IsTooLong) }
     ensures too_many { OnTooMany result (IfSome (R.remaining reader.old) (λ input.

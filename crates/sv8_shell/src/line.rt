@@ -1,24 +1,22 @@
 //! A line of the script as it is read.
-ghost use Rattle.std.specs.Prelude.{◌≡◌, ℕ, ◌+◌, ◌≤◌, ◌<◌, List, [], ◌∷◌, ◌++◌, length, take};
+ghost use Rattle.std.specs.Prelude.{◌≡◌, ℕ, ◌≤◌, List, [], length};
 ghost use Rattle.sv8_shell.specs.Script.{kept_with, is_nil};
 
+use arrayvec::ArrayVec;
 use std::marker::Model;
 
-/// How many bytes of a line are kept, one more than a line may have.
-const KEPT: usize = 4_097;
-
+/// What is kept of a line: one byte more than a line may have.
 #[derive(Drop)]
 pub struct Line {
-    bytes: [u8; 4_097],
-    len: usize,
+    bytes: ArrayVec<u8, 4_097>,
 }
 
 impl Model for Line {
     ghost Value = { List ℕ };
 
-    ghost view = { λ l. take l.len l.bytes };
+    ghost view = { λ l. l.bytes.items };
 
-    ghost invariant = { λ l. l.len ≤ 4097 };
+    ghost invariant = { λ l. length l.bytes.items ≤ 4097 };
 }
 
 impl Line {
@@ -26,8 +24,7 @@ impl Line {
         ensures { result ≡ [] }
     {
         Line {
-            bytes: [0; 4_097],
-            len: 0,
+            bytes: ArrayVec::new(),
         }
     }
 
@@ -35,27 +32,26 @@ impl Line {
     pub fn push(&mut self, b: u8)
         ensures { self.new ≡ kept_with self.old b }
     {
-        if self.len < KEPT {
-            self.bytes[self.len] = b;
-            self.len += 1;
+        if !self.bytes.is_full() {
+            self.bytes.push(b);
         }
     }
 
     pub fn clear(&mut self)
         ensures { self.new ≡ [] }
     {
-        self.len = 0;
+        self.bytes.clear();
     }
 
     pub fn is_empty(&self) -> bool
         ensures { result ≡ is_nil self.now }
     {
-        self.len == 0
+        self.bytes.is_empty()
     }
 
     pub fn as_slice(&self) -> &[u8]
         ensures { result.now ≡ self.now }
     {
-        &self.bytes[..self.len]
+        self.bytes.as_slice()
     }
 }

@@ -8,9 +8,11 @@ use crate::refusal::Refusal;
 use crate::text::{CAPACITY, Text};
 use crate::texts::{add_ok, add_refusal};
 use std::io::Write;
+use thiserror::Error;
 
 /// A write or a flush failed, or a write took no byte.
-#[derive(Debug, Drop, Clone, Copy)]
+#[derive(Debug, Drop, Clone, Copy, PartialEq, Eq, Error)]
+#[error("a write or a flush failed, or a write took no byte")]
 pub struct WriteFault;
 
 /// Puts all of these bytes, in as many writes as it takes.

@@ -4,7 +4,7 @@ ghost use Rattle.std.specs.Prelude.{◌<◌};
 
 use crate::ends::{Endless, Giver, Log, NotingTaker, Script, Taker, WatchingGiver, due};
 use crate::refusals::REFUSALS;
-use crate::scripts::{FIRST, FIRST_ANSWERS};
+use crate::scripts::{FIRST, FIRST_ANSWERS, shows};
 use std::alloc::Global;
 use std::cell::Cell;
 use std::test::Fail;
@@ -176,14 +176,18 @@ fn each_write_fails(rt: HostRuntime) -> Result<(), Fail> {
 fn half_a_line_before_a_read_fault(rt: HostRuntime) -> Result<(), Fail> {
     let mut bench = Small::new(rt.alloc())?;
     let mut reader = Giver {
-        rest: b"frob\nfro",
-        most: 8,
+        rest: b"regs 0\nregs",
+        most: 11,
         calls: 1,
     };
     let mut written = Vec::new(rt.alloc());
     let ended = run(rt.alloc(), &mut bench, &mut reader, &mut written);
+    let due = shows(
+        rt.alloc(),
+        b"step 0 run\npc 00000000 npc 00000004 annul 0\n",
+    )?;
     assert!(rt; ended == Err(RunFault::Read));
-    assert!(rt; written.as_slice() == b"refused 18 BadCommand\n".as_slice());
+    assert!(rt; written.as_slice() == due.as_slice());
     Ok(())
 }
 

@@ -67,7 +67,7 @@ module _ (m : Machine) (k : ℕ) where
     by_poke a t last =
         rw (wrote a, h.kept t a, h.kept last a, h.count)
         (ap (λ o. cond (is_some (w.kept t a)) (w.kept t a) o)
-        (one (leb (next_checkpoint k t) (k * w.count)) (is_live (writes_of m w.notes a) t (suc t) last (next_checkpoint k t)) (cond (ltb last (next_checkpoint k t) && not (some_from t last (writes_of m w.notes a))) (w.kept last a) None) refl))
+        (one (leb (next_checkpoint k t) (k * w.count)) (is_live (writes_of m w.notes a) t (suc t) last (next_checkpoint k t)) (cond (leb t last && (ltb last (next_checkpoint k t) && not (some_from t last (writes_of m w.notes a)))) (w.kept last a) None) refl))
       where
         one : (b l : Bool) (o : Option m.Value) → leb (next_checkpoint k t) (k * w.count) ≡ b
             → cond (b && l) (Some (m.get a (v.point (next_checkpoint k t)))) o ≡ cond (b && l) (Some (m.get a (w.point (next_checkpoint k t)))) o

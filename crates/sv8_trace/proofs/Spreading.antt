@@ -184,32 +184,37 @@ module _ (m : Machine) (k : ℕ) (pos : 0 < k) where
   none_either true o e = sym e
   none_either false o e = refl
 
-  pub below_none : (v : Trace m) (a : m.Cell) (t u : ℕ) → v.kept t a ≡ None → v.kept u a ≡ None → k * v.count < next_checkpoint k t → None ≡ kept_by_poke m k v a t u
-  below_none v a t u e f h = rw (e, lt-leb (next_checkpoint k t) (k * v.count) h) (none_either (ltb u (next_checkpoint k t) && not (some_from t u (writes_of m v.notes a))) (v.kept u a) f)
+  pub below_none : (v : Trace m) (a : m.Cell) (t u : ℕ) → v.kept t a ≡ None → (t ≤ u → v.kept u a ≡ None) → k * v.count < next_checkpoint k t → None ≡ kept_by_poke m k v a t u
+  below_none v a t u e f h = rw (e, lt-leb (next_checkpoint k t) (k * v.count) h) (go (cases_lt u t))
+    where
+      go : (u < t) ⊎ (t ≤ u) → None ≡ cond (leb t u && (ltb u (next_checkpoint k t) && not (some_from t u (writes_of m v.notes a)))) (v.kept u a) None
+      go (inl before) = rw (lt-leb t u before) refl
+      go (inr l) = none_either (leb t u && (ltb u (next_checkpoint k t) && not (some_from t u (writes_of m v.notes a)))) (v.kept u a) (f l)
 
   pub below_kept : (v : Trace m) (a : m.Cell) (t u : ℕ) (w : m.Value) → v.kept t a ≡ Some w → Some w ≡ kept_by_poke m k v a t u
   below_kept v a t u w e = rw e
 
   pub below_is : (v : Trace m) (a : m.Cell) (t u wrote r : ℕ) → next_checkpoint k t ≤ k * v.count → k * v.count ≤ r → v.kept t a ≡ None → IsFirstWrite m v a t r wrote
-      → cond (leb (next_checkpoint k t) u && leb (next_checkpoint k t) wrote) (Some (m.get a (v.point (next_checkpoint k t)))) (cond (ltb u (next_checkpoint k t) && leb u wrote) (v.kept u a) None) ≡ kept_by_poke m k v a t u
+      → cond (leb (next_checkpoint k t) u && leb (next_checkpoint k t) wrote) (Some (m.get a (v.point (next_checkpoint k t)))) (cond (leb t u && (ltb u (next_checkpoint k t) && leb u wrote)) (v.kept u a) None) ≡ kept_by_poke m k v a t u
   below_is v a t u wrote r in_cut fits none first =
       let live = live_is (writes_of m v.notes a) t (suc t) u (next_checkpoint k t) r wrote (omega arith) first.before first.at in
       let low : suc t ≤ next_checkpoint k t = next_above k t pos in
       rw (none, le-leb (next_checkpoint k t) (k * v.count) in_cut, ← live, le-leb (suc t) (next_checkpoint k t) low)
       (ap (λ o. cond (leb (next_checkpoint k t) u && leb (next_checkpoint k t) wrote) (Some (m.get a (v.point (next_checkpoint k t)))) o) (go (cases_lt u (next_checkpoint k t))))
     where
-      go : (u < next_checkpoint k t) ⊎ (next_checkpoint k t ≤ u) → cond (ltb u (next_checkpoint k t) && leb u wrote) (v.kept u a) None ≡ cond (ltb u (next_checkpoint k t) && not (some_from t u (writes_of m v.notes a))) (v.kept u a) None
+      go : (u < next_checkpoint k t) ⊎ (next_checkpoint k t ≤ u)
+          → cond (leb t u && (ltb u (next_checkpoint k t) && leb u wrote)) (v.kept u a) None ≡ cond (leb t u && (ltb u (next_checkpoint k t) && not (some_from t u (writes_of m v.notes a)))) (v.kept u a) None
       go (inl h) = let e = unwritten (writes_of m v.notes a) t u r wrote (omega (arith, h, in_cut, fits)) first.before first.at in rw e
       go (inr h) = rw (le-ltb u (next_checkpoint k t) h)
 
 pub first_of : {A : Type 0} (x y : Bool) (a b : A) → x ≡ true → y ≡ true → a ≡ cond (x && y) a b
 first_of x y a b e f = rw (e, f)
 
-pub second_of : {A : Type 0} (x y z w : Bool) (a b d : A) → (x && y) ≡ false → z ≡ true → w ≡ true → b ≡ cond (x && y) a (cond (z && w) b d)
-second_of x y z w a b d e f h = rw (e, f, h)
+pub second_of : {A : Type 0} (x y s z w : Bool) (a b d : A) → (x && y) ≡ false → s ≡ true → z ≡ true → w ≡ true → b ≡ cond (x && y) a (cond (s && (z && w)) b d)
+second_of x y s z w a b d e l f h = rw (e, l, f, h)
 
-pub third_of : {A : Type 0} (x y z w : Bool) (a b d : A) → (x && y) ≡ false → (z && w) ≡ false → d ≡ cond (x && y) a (cond (z && w) b d)
-third_of x y z w a b d e f = rw (e, f)
+pub third_of : {A : Type 0} (x y s z w : Bool) (a b d : A) → (x && y) ≡ false → (s && (z && w)) ≡ false → d ≡ cond (x && y) a (cond (s && (z && w)) b d)
+third_of x y s z w a b d e f = rw (e, f)
 
 pub next_index : (k t : ℕ) → 0 < k → next_checkpoint k t / k ≡ t / k + 1
 next_index k t pos =

@@ -7,13 +7,13 @@ use Rattle.sv8_history.specs.Changes as history
 use Rattle.sv8_cpu.specs.Recorded.{machine}
 use Rattle.sv8_trace.specs.declared.patch.Patch.{Patch}
 use Rattle.sv8_trace.specs.declared.patch.Cause.{Cause}
-use Rattle.sv8_trace.specs.declared.patch.Cause.TheVariants.{Image, Poke, Clear}
+use Rattle.sv8_trace.specs.declared.patch.Cause.TheVariants.{Source, Poke, Uncover}
 use Rattle.sv8_trace.specs.Cells.{cell_of, content_of, IsCell}
 
 abbrev pub cause_of : Cause → history.Cause Value
-cause_of (Image content) = history.Image (content_of content)
+cause_of (Source content) = history.Image (content_of content)
 cause_of (Poke content) = history.Poke (content_of content)
-cause_of Clear = history.Clear
+cause_of Uncover = history.Clear
 
 abbrev pub change_of : (windows pages : ℕ) → Patch → history.Change (machine windows pages)
 change_of windows pages p = record { cell = cell_of p.cell; from = p.from; to = p.to; cause = cause_of p.cause }
@@ -21,10 +21,9 @@ change_of windows pages p = record { cell = cell_of p.cell; from = p.from; to = 
 abbrev pub changes_of : (windows pages : ℕ) → List Patch → List (history.Change (machine windows pages))
 changes_of windows pages ps = map (change_of windows pages) ps
 
--- the machine has the cell, and the change does not end before it begins
-pub record IsPatch (pages : ℕ) (p : Patch) : Type 0 where
-  pub cell : IsCell pages p.cell
-  pub ordered : p.from ≤ p.to
+-- the machine has the cell
+abbrev pub IsPatch : ℕ → Patch → Type 0
+IsPatch pages p = IsCell pages p.cell
 
 -- both are cells of one word of RAM
 abbrev pub AreOfOneWord : code.Cell → code.Cell → Type 0

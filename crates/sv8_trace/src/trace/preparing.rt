@@ -295,7 +295,6 @@ impl<const NW: usize, const PAGES: usize, const K: u32> Trace<NW, PAGES, K> {
     fn kept_below(&self, staged: &Staged, cell: Cell, reach: Reach) -> Option<Content>
         requires fits { IsPreparedFor PAGES self.now staged.now }
         requires cell { IsCell PAGES cell }
-        requires ordered { reach.from ≤ reach.to }
         requires first { IsFirstWrite (machine NW PAGES) (trace_of NW PAGES K self.now) (cell_of cell) reach.from (K * staged.now.count) reach.wrote }
         ensures kept { option_map content_of result ≡ kept_by_poke (machine NW PAGES) K (prepared_trace NW PAGES K self.now staged.now) (cell_of cell) reach.from reach.to }
         ensures inside { IfSome result (λ v. reach.from / K < staged.now.count) }
@@ -313,7 +312,7 @@ impl<const NW: usize, const PAGES: usize, const K: u32> Trace<NW, PAGES, K> {
         if step <= reach.to && step <= reach.wrote {
             return Some(self.content(staged, next, cell));
         }
-        if reach.to < step && reach.to <= reach.wrote {
+        if reach.to < step && reach.to <= reach.wrote && reach.from <= reach.to {
             return self.kept_value(staged, reach.to, cell);
         }
         None
@@ -372,7 +371,7 @@ impl<const NW: usize, const PAGES: usize, const K: u32> Trace<NW, PAGES, K> {
     }
 
     /// The source gives the cell another content, from the checkpoint of its step on.
-    fn apply_image(
+    fn apply_source(
         &self,
         alloc: Global,
         staged: &mut Staged,
@@ -403,7 +402,6 @@ impl<const NW: usize, const PAGES: usize, const K: u32> Trace<NW, PAGES, K> {
     ) -> Result<(), AllocError>
         requires fits { IsPreparedFor PAGES self.now staged.old }
         requires cell { IsCell PAGES cell }
-        requires ordered { reach.from ≤ reach.to }
         requires first { IsFirstWrite (machine NW PAGES) (trace_of NW PAGES K self.now) (cell_of cell) reach.from (K * staged.old.count) reach.wrote }
         ensures fits { OnOk result (IsPreparedFor PAGES self.now staged.new) }
         ensures near { OnOk result (Near (machine NW PAGES) K (prepared_trace NW PAGES K self.now staged.new) (set_poke (machine NW PAGES) K (prepared_trace NW PAGES K self.now staged.old) (cell_of cell) (content_of content) reach.from reach.to)) }
@@ -422,7 +420,7 @@ impl<const NW: usize, const PAGES: usize, const K: u32> Trace<NW, PAGES, K> {
     }
 
     /// An event no longer sets the cell.
-    fn apply_clear(
+    fn uncover_cell(
         &self,
         alloc: Global,
         staged: &mut Staged,
@@ -461,9 +459,9 @@ impl<const NW: usize, const PAGES: usize, const K: u32> Trace<NW, PAGES, K> {
             wrote: self.first_write(cell, patch.from, staged.count),
         };
         match patch.cause {
-            Cause::Image(content) => self.apply_image(alloc, staged, cell, content, reach),
+            Cause::Source(content) => self.apply_source(alloc, staged, cell, content, reach),
             Cause::Poke(content) => self.apply_poke(alloc, staged, cell, content, reach),
-            Cause::Clear => self.apply_clear(alloc, staged, cell, reach),
+            Cause::Uncover => self.uncover_cell(alloc, staged, cell, reach),
         }
     }
 

@@ -1,5 +1,3 @@
-use Rattle.std.proofs.Common.{rules, ◌≡◌, ◌++◌, ◌∷◌, [], get_or, filter}
-use Rattle.sv8_model.specs.Does.{kept}
 use Rattle.sv8_phys.specs.Notes.{is_told}
 use Rattle.sv8_phys.proofs.Telling.{handed_more, levels_more}
 use Rattle.sv8_phys.proofs.step_touches.tell_standing.Goals as goal

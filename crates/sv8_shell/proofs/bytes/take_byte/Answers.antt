@@ -14,7 +14,7 @@ returns-in-Ok g c = λ old source given p.
 pub returns-in-Err : goal.returns-in-Err
 returns-in-Err g c = λ old source given p.
     let h : eqb c.args.b 10 ≡ true = search (arith, tests) in
-    feed-cut old _ _ source _ _ given c.args.b _ _ h p (rw c.as_slice.ensures at (c.in-Err.ensures _ p.reached.stage_is))
+    feed-cut old _ _ source _ _ given c.args.b _ _ h (omega (arith, c.args.place.now.few_lines, c.if-place-eq-MOST_LINES.false)) (omega (arith, c.args.place.now.few_bytes, c.if-place-eq-MOST_BYTES.false)) p (rw c.as_slice.ensures at (c.in-Err.ensures _ p.reached.stage_is))
 
 pub returns-then-place-eq-MOST_LINES : goal.returns-then-place-eq-MOST_LINES
 returns-then-place-eq-MOST_LINES g c = λ old source given p.

@@ -1,5 +1,5 @@
 use Rattle.std.proofs.Common.{sym, ◌∙◌, arith, length-take}
-use Rattle.sv8_shell.proofs.RunLemmas.{Ran-start, Ran-more, run-read, run-quit, end-within, quit-bounds, stop-read, stop-write, stop-too_long, stop-too_many, stop-no_quit}
+use Rattle.sv8_shell.proofs.RunLemmas.{Ran-start, Ran-more, run-read, run-quit, end-within, end-write_within, quit-bounds, stop-read, stop-write, stop-write_within, stop-too_long, stop-too_many, stop-no_quit}
 use Rattle.sv8_shell.proofs.driver.run.Goals as goal
 
 pub loop-turn-init : goal.loop-turn-init
@@ -16,6 +16,10 @@ returns-in-Err-take_piece-clause-read g c =
 pub returns-in-Err-take_piece-clause-write : goal.returns-in-Err-take_piece-clause-write
 returns-in-Err-take_piece-clause-write g c =
     stop-write _ _ _ _ _ _ _ _ _ _ _ _ _ c.loop-turn.invariant c.in-Err-take_piece.fault c.in-Ok.ensures.bytes.0 (c.in-Err-take_piece.ensures _ _ _ c.loop-turn.invariant.progress)
+
+pub returns-in-Err-take_piece-clause-write_within : goal.returns-in-Err-take_piece-clause-write_within
+returns-in-Err-take_piece-clause-write_within g c =
+    stop-write_within _ _ _ _ _ _ _ _ _ _ _ _ _ c.loop-turn.invariant c.in-Err-take_piece.fault c.in-Ok.ensures.bytes.0 (c.in-Err-take_piece.ensures _ _ _ c.loop-turn.invariant.progress)
 
 pub returns-in-Err-take_piece-clause-too_long : goal.returns-in-Err-take_piece-clause-too_long
 returns-in-Err-take_piece-clause-too_long g c =
@@ -37,9 +41,13 @@ pub returns-in-Ok-finish-clause-within : goal.returns-in-Ok-finish-clause-within
 returns-in-Ok-finish-clause-within g c =
     end-within _ _ _ _ _ _ _ _ _ _ _ _ c.loop-turn.invariant c.loop-turn.place.few_lines c.loop-turn.place.few_bytes c.in-Ok.ensures.bytes.0 c.if-count-eq0.true (c.in-Ok.ensures.bytes.1 c.if-count-eq0.true (omega arith))
 
+pub returns-in-Err-finish-clause-write_within : goal.returns-in-Err-finish-clause-write_within
+returns-in-Err-finish-clause-write_within g c =
+    end-write_within _ _ _ _ _ _ _ _ _ _ _ _ _ _ c.loop-turn.invariant c.loop-turn.place.few_lines c.loop-turn.place.few_bytes c.in-Ok.ensures.bytes.0 c.if-count-eq0.true (c.in-Ok.ensures.bytes.1 c.if-count-eq0.true (omega arith))
+
 pub returns-then-is_over-clause-within : goal.returns-then-is_over-clause-within
 returns-then-is_over-clause-within g c =
     quit-bounds _ _ _ _ _ _ _ _ _ _ _ _ _ _ _ c.loop-turn.invariant c.take_piece.new.place.few_lines c.take_piece.new.place.few_bytes c.in-Ok.ensures.bytes.0 (sym c.is_over.ensures ∙ c.if-is_over.true) (c.in-Ok-take_piece.ensures _ _ _ c.loop-turn.invariant.progress)
 
 pub returns-in-Err-clause-read : goal.returns-in-Err-clause-read
-returns-in-Err-clause-read g c = run-read _ _ _ _ _ _ _ _ _ _ c.loop-turn.invariant c.in-Err.ensures.bytes
+returns-in-Err-clause-read g c = run-read _ _ _ _ _ _ _ _ _ _ c.loop-turn.invariant c.loop-turn.place.few_lines c.loop-turn.place.few_bytes c.in-Err.ensures.bytes
