@@ -10,13 +10,13 @@ use Rattle.sv8_shell.specs.declared.place.Place.{Place}
 use Rattle.sv8_shell.specs.declared.driver.RunFault.{RunFault}
 use Rattle.sv8_shell.specs.declared.driver.RunFault.TheVariants.{Read, Write, TooManyCommands}
 use Rattle.sv8_shell.specs.Script.{Order, bad, Stage, idle, taking, over, is_nil, orders_at_end, orders_of, Step, step, kept_with, left_from, ended_lines, stage_from, orders_in, EndsByQuit, HasNoQuit}
-use Rattle.sv8_shell.specs.Session.{State, IsPrefix, Answered, Cut}
+use Rattle.sv8_shell.specs.Session.{State, Answered, Cut}
 use Rattle.sv8_shell.specs.Put.{Does}
 use Rattle.sv8_shell.specs.Gathers.{IsAt, Stepped, is_over}
 use Rattle.sv8_shell.specs.Progress.{Progress, Stopped, StoppedWriting, Stops, Taken}
 use Rattle.sv8_shell.proofs.GatherLemmas.{still-open}
 use Rattle.sv8_shell.proofs.SessionLemmas.{Answered-none, Answered-append, Cut-after, Cut-longer, Does-after}
-use Rattle.sv8_shell.proofs.ScriptLemmas.{ended-letter, left-letter, ended-feed, left-feed, orders-line, stage-line, orders_in-split, orders_of-end, rest_orders-none, rest_orders-line}
+use Rattle.sv8_shell.proofs.ScriptLemmas.{ended-letter, left-letter, ended-feed, left-feed, orders-line, stage-line, orders_of-end, rest_orders-none, rest_orders-line}
 
 pub stopped-byte : (old now : Option (List ℕ)) (source last : State) (given : List ℕ) (b : ℕ) (place : Place) (g : Gathering) → Progress old now source last given place g → place.lines ≤ 1000000 → place.bytes ≤ 268435456
     → (place.lines ≡ 1000000) ⊎ (place.bytes ≡ 268435456) → is_over g ≡ false → Stopped old now source last given (b ∷ [])

@@ -1,5 +1,5 @@
 -- Patches, as the theory of recorded runs has them.
-use Rattle.std.specs.Prelude.{◌≡◌, ℕ, ◌/◌, ◌≤◌, List, ◌∷◌, map}
+use Rattle.std.specs.Prelude.{◌≡◌, ℕ, ◌/◌, List, ◌∷◌, map}
 use Rattle.sv8_trace.specs.declared.cell.Cell as code
 use Rattle.sv8_trace.specs.declared.cell.Cell.TheVariants as cell
 use Rattle.sv8_model.specs.Cells.{Value}
