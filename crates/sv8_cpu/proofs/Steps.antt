@@ -1,5 +1,5 @@
 -- The parts of a step, one after another.
-use Rattle.std.proofs.Common.{◌≡◌, ℕ, Bool, true, false, MatchBool, MatchOption, Option, Some, None, List, refl, sym, subst}
+use Rattle.std.proofs.Common.{◌≡◌, ℕ, Bool, true, false, MatchBool, MatchOption, Option, Some, None, List, [], ◌∷◌, refl, sym, ◌∙◌, subst}
 use Rattle.sv8_isa.specs.declared.instr.Instr.{Instr}
 use Rattle.sv8_isa.specs.declared.instr.Instr.TheVariants.{Memory}
 use Rattle.sv8_isa.specs.declared.instr.MemoryOp.{MemoryOp}
@@ -7,9 +7,9 @@ use Rattle.sv8_isa.specs.declared.instr.Operand.{Operand}
 use Rattle.sv8_isa.specs.Table.{meaning}
 use Rattle.sv8_model.specs.Outside.{Outside}
 use Rattle.sv8_model.specs.declared.touch.Touch.{Touch}
-use Rattle.sv8_model.specs.Action.{done, ask_levels}
-use Rattle.sv8_model.specs.Does.{Does}
-use Rattle.sv8_model.proofs.Common.{does_then, does_map, does_done, does_if_true}
+use Rattle.sv8_model.specs.Action.{done, ask_levels, observe}
+use Rattle.sv8_model.specs.Does.{Does, Keeps, Notes, noting}
+use Rattle.sv8_model.proofs.Common.{does_then, does_done, does_observe, does_if_true, noting_none}
 use Rattle.sv8_phys.specs.declared.timer.Timer.{Timer}
 use Rattle.sv8_phys.specs.Contents.{outside_of}
 use Rattle.sv8_phys.specs.Devices.{tick}
@@ -21,81 +21,95 @@ use Rattle.sv8_trap.specs.Interrupt.{unmasked}
 use Rattle.sv8_iu.specs.declared.request.AccessRequest.{AccessRequest}
 use Rattle.sv8_iu.specs.declared.request.AccessRequest.TheVariants.{Nothing, Fetch}
 use Rattle.sv8_iu.specs.declared.request.Response.{Response}
-use Rattle.sv8_cpu.specs.declared.machine.Parts.{Parts}
+use Rattle.sv8_iu.specs.declared.request.Response.TheVariants.{Value, Refused}
+use Rattle.sv8_cpu.specs.declared.parts.Parts.{Parts}
 use Rattle.sv8_cpu.specs.Units.{Units, Served, served}
 use Rattle.sv8_cpu.specs.Access.{access}
 use Rattle.sv8_iu.specs.Operands.{sum_of_sources}
 use Rattle.sv8_iu.specs.Memory.{memory_traps, access_of}
 use Rattle.sv8_iu.specs.Instruction.{raised, asked, trapped, data_space, IsPlain}
-use Rattle.sv8_cpu.specs.Step.{Inner, answered, finished_access, executed, carried_out, fetched, instruction, requested, interruptible, with_timer, awake}
+use Rattle.sv8_cpu.specs.Step.{Inner, trap_seen, refusal_seen, observed_trap, answered, finished_access, executed, carried_out, fetched, instruction, requested, interruptible, with_timer, awake}
 use Rattle.sv8_cpu.specs.Whole.{inner_of_parts, MayCarryOut}
 
-module _ (keeps : Bool) (windows limit : ℕ) (m : Inner) where
+-- a trap is seen, and then something is there
+pub does_trap : {A : Type 0} (keeps : Keeps) (t : Trap) (x y : A) (o : Outside) (ns ns1 : Notes) → ns1 ≡ noting keeps ns [] (trap_seen t ∷ []) → y ≡ x
+    → Does keeps (observe (trap_seen t) (done x)) o o y ns ns1
+does_trap keeps t x y o ns ns1 see e = does_observe keeps (trap_seen t) (done x) o o y ns ns1 ns1 see (does_done keeps x y o ns1 e)
+
+-- the same of an access, whose answer may raise a trap
+does_answered : {A : Type 0} (keeps : Keeps) (r : Response) (x y : A) (o : Outside) (ns ns1 : Notes) → ns1 ≡ noting keeps ns [] (refusal_seen r) → y ≡ x
+    → Does keeps (observed_trap r (done x)) o o y ns ns1
+does_answered keeps (Value v) x y o ns ns1 see e = subst (λ (n : Notes). Does keeps (done x) o o y n ns1) (see ∙ noting_none keeps ns) (does_done keeps x y o ns1 e)
+does_answered keeps (Refused t) x y o ns ns1 see e = does_trap keeps t x y o ns ns1 see e
+
+module _ (keeps : Keeps) (windows limit : ℕ) (m : Inner) where
   -- an instruction raises a trap
-  pub trap_taken : (o : Outside) (ts : List Touch) (i : Instr) (raised : Option Trap) (t : Trap) (y : Inner) → raised ≡ Some t
-      → y ≡ record m { processor = trapped windows m.processor i t } → Does keeps (executed windows limit m i raised) o o y ts ts
+  pub trap_taken : (o : Outside) (ns ns1 : Notes) (i : Instr) (raised : Option Trap) (t : Trap) (y : Inner) → raised ≡ Some t → ns1 ≡ noting keeps ns [] (trap_seen t ∷ [])
+      → y ≡ record m { processor = trapped windows m.processor i t } → Does keeps (executed windows limit m i raised) o o y ns ns1
   unfolding executed
-  trap_taken o ts i raised t y e f = rw e (does_done keeps (record m { processor = trapped windows m.processor i t }) y o ts f)
+  trap_taken o ns ns1 i raised t y e see f = rw e (does_trap keeps t (record m { processor = trapped windows m.processor i t }) y o ns ns1 see f)
 
   -- an instruction's access is answered
-  pub access_answered : (o o1 : Outside) (ts ts1 : List Touch) (i : Instr) (q : AccessRequest) (s : Served) (y : Inner) → q ≡ asked windows m.processor i
-      → Does keeps (access limit m.units q) o o1 s ts ts1 → y ≡ finished_access windows m.processor i s → Does keeps (executed windows limit m i None) o o1 y ts ts1
+  pub access_answered : (o o1 : Outside) (ns ns1 ns2 : Notes) (i : Instr) (q : AccessRequest) (s : Served) (y : Inner) → q ≡ asked windows m.processor i
+      → Does keeps (access limit m.units q) o o1 s ns ns1 → ns2 ≡ noting keeps ns1 [] (refusal_seen s.response) → y ≡ finished_access windows m.processor i s
+      → Does keeps (executed windows limit m i None) o o1 y ns ns2
   unfolding executed
-  access_answered o o1 ts ts1 i q s y e h f =
-      does_map keeps (access limit m.units (asked windows m.processor i)) (finished_access windows m.processor i) o o1 s y ts ts1 (rw (← e) h) f
+  access_answered o o1 ns ns1 ns2 i q s y e h see f =
+      does_then keeps (access limit m.units (asked windows m.processor i)) (λ z. observed_trap z.response (done (finished_access windows m.processor i z))) o o1 o1 s y ns ns1 ns2 (rw (← e) h)
+      (does_answered keeps s.response (finished_access windows m.processor i s) y o1 ns1 ns2 see f)
 
   -- a word is carried out by the access of its instruction
-  pub carried_out_by : (o o1 : Outside) (ts ts1 : List Touch) (word : ℕ) (i : Instr) (q : AccessRequest) (s : Served) (y : Inner) → i ≡ meaning word
-      → taken (raised windows m.processor i) ≡ None → q ≡ asked windows m.processor i → Does keeps (access limit m.units q) o o1 s ts ts1
-      → y ≡ finished_access windows m.processor i s → Does keeps (carried_out windows limit m word) o o1 y ts ts1
-  carried_out_by o o1 ts ts1 word i q s y is none e h f =
-      subst (λ j. Does keeps (executed windows limit m j (taken (raised windows m.processor j))) o o1 y ts ts1) is
-      (subst (λ t. Does keeps (executed windows limit m i t) o o1 y ts ts1) (sym none) (access_answered o o1 ts ts1 i q s y e h f))
+  pub carried_out_by : (o o1 : Outside) (ns ns1 ns2 : Notes) (word : ℕ) (i : Instr) (q : AccessRequest) (s : Served) (y : Inner) → i ≡ meaning word
+      → taken (raised windows m.processor i) ≡ None → q ≡ asked windows m.processor i → Does keeps (access limit m.units q) o o1 s ns ns1
+      → ns2 ≡ noting keeps ns1 [] (refusal_seen s.response) → y ≡ finished_access windows m.processor i s → Does keeps (carried_out windows limit m word) o o1 y ns ns2
+  carried_out_by o o1 ns ns1 ns2 word i q s y is none e h see f =
+      subst (λ j. Does keeps (executed windows limit m j (taken (raised windows m.processor j))) o o1 y ns ns2) is
+      (subst (λ t. Does keeps (executed windows limit m i t) o o1 y ns ns2) (sym none) (access_answered o o1 ns ns1 ns2 i q s y e h see f))
 
   -- a word is carried out by what its instruction makes of the processor alone
-  pub carried_out_plainly : (o : Outside) (ts : List Touch) (word : ℕ) (q : Processor) (y : Inner) → IsPlain windows m.processor (meaning word) q
-      → y ≡ record m { processor = q } → Does keeps (carried_out windows limit m word) o o y ts ts
+  pub carried_out_plainly : (o : Outside) (ns : Notes) (word : ℕ) (q : Processor) (y : Inner) → IsPlain windows m.processor (meaning word) q
+      → y ≡ record m { processor = q } → Does keeps (carried_out windows limit m word) o o y ns ns
   unfolding access
-  carried_out_plainly o ts word q y (none, unasked, is) e =
-      carried_out_by o o ts ts word (meaning word) Nothing (served m.units 0) y refl none (sym unasked) (does_done keeps (served m.units 0) (served m.units 0) o ts refl) (rw e (rw is refl))
+  carried_out_plainly o ns word q y (none, unasked, is) e =
+      carried_out_by o o ns ns ns word (meaning word) Nothing (served m.units 0) y refl none (sym unasked) (does_done keeps (served m.units 0) (served m.units 0) o ns refl) (sym (noting_none keeps ns)) (rw e (rw is refl))
 
   -- a word is carried out by the access of a load or a store, if it was made at all
-  pub transferred : (unmade : Type 0) (o o1 : Outside) (ts ts1 : List Touch) (op : MemoryOp) (rd rs1 : ℕ) (operand : Operand) (at : ℕ) (u : Units) (found : Option Response) (r : Response) (y : Inner)
+  pub transferred : (unmade : Type 0) (o o1 : Outside) (ns ns1 ns2 : Notes) (op : MemoryOp) (rd rs1 : ℕ) (operand : Operand) (at : ℕ) (u : Units) (found : Option Response) (r : Response) (y : Inner)
       → at ≡ sum_of_sources windows m.processor rs1 operand → taken (memory_traps op rd at) ≡ None → found ≡ Some r
-      → MatchOption found unmade (λ z. Does keeps (access limit m.units (access_of windows m.processor op (data_space m.processor) rd at)) o o1 (record { response = z; units = u }) ts ts1)
-      → y ≡ record { processor = answered windows m.processor (Memory op rd rs1 operand) r; units = u }
-      → (word : ℕ) → Memory op rd rs1 operand ≡ meaning word → Does keeps (carried_out windows limit m word) o o1 y ts ts1
-  transferred unmade o o1 ts ts1 op rd rs1 operand at u found r y e none made h f word is =
-      carried_out_by o o1 ts ts1 word (Memory op rd rs1 operand) (access_of windows m.processor op (data_space m.processor) rd at) (record { response = r; units = u }) y is (rw (← e) none) (rw e refl)
-      (subst (λ a. MatchOption a unmade (λ z. Does keeps (access limit m.units (access_of windows m.processor op (data_space m.processor) rd at)) o o1 (record { response = z; units = u }) ts ts1)) made h) f
+      → MatchOption found unmade (λ z. Does keeps (access limit m.units (access_of windows m.processor op (data_space m.processor) rd at)) o o1 (record { response = z; units = u }) ns ns1)
+      → ns2 ≡ noting keeps ns1 [] (refusal_seen r) → y ≡ record { processor = answered windows m.processor (Memory op rd rs1 operand) r; units = u }
+      → (word : ℕ) → Memory op rd rs1 operand ≡ meaning word → Does keeps (carried_out windows limit m word) o o1 y ns ns2
+  transferred unmade o o1 ns ns1 ns2 op rd rs1 operand at u found r y e none made h see f word is =
+      carried_out_by o o1 ns ns1 ns2 word (Memory op rd rs1 operand) (access_of windows m.processor op (data_space m.processor) rd at) (record { response = r; units = u }) y is (rw (← e) none) (rw e refl)
+      (subst (λ a. MatchOption a unmade (λ z. Does keeps (access limit m.units (access_of windows m.processor op (data_space m.processor) rd at)) o o1 (record { response = z; units = u }) ns ns1)) made h) see f
 
-  module _ (o o1 o2 : Outside) (ts ts1 ts2 : List Touch) (y : Inner) where
+  module _ (o o1 o2 : Outside) (ns ns1 ns2 : Notes) (y : Inner) where
     -- a fetch is answered, and what follows
     pub instruction_by : (q : AccessRequest) (s : Served) → q ≡ Fetch m.processor.registers.psr.s m.processor.pc
-        → Does keeps (access limit m.units q) o o1 s ts ts1 → Does keeps (fetched windows limit m.processor s.response s.units) o1 o2 y ts1 ts2
-        → Does keeps (instruction windows limit m) o o2 y ts ts2
+        → Does keeps (access limit m.units q) o o1 s ns ns1 → Does keeps (fetched windows limit m.processor s.response s.units) o1 o2 y ns1 ns2
+        → Does keeps (instruction windows limit m) o o2 y ns ns2
     unfolding instruction
     instruction_by q s e h k =
-        does_then keeps (access limit m.units (Fetch m.processor.registers.psr.s m.processor.pc)) (λ z. fetched windows limit m.processor z.response z.units) o o1 o2 s y ts ts1 ts2 (rw (← e) h) k
+        does_then keeps (access limit m.units (Fetch m.processor.registers.psr.s m.processor.pc)) (λ z. fetched windows limit m.processor z.response z.units) o o1 o2 s y ns ns1 ns2 (rw (← e) h) k
 
     -- the levels are asked for, and what follows
     pub interruptible_by : (levels word : ℕ) → m.processor.registers.psr.et ≡ true → levels ≡ unmasked m.processor.registers.psr.pil
-        → Does keeps (ask_levels levels (λ w. done w)) o o1 word ts ts1 → Does keeps (requested windows limit m word) o1 o2 y ts1 ts2
-        → Does keeps (interruptible windows limit m) o o2 y ts ts2
+        → Does keeps (ask_levels levels (λ w. done w)) o o1 word ns ns1 → Does keeps (requested windows limit m word) o1 o2 y ns1 ns2
+        → Does keeps (interruptible windows limit m) o o2 y ns ns2
     unfolding interruptible
     interruptible_by levels word on e h k =
-        does_if_true keeps m.processor.registers.psr.et _ _ o o2 y ts ts2 on
-        (does_then keeps (ask_levels (unmasked m.processor.registers.psr.pil) (λ w. done w)) (requested windows limit m) o o1 o2 word y ts ts1 ts2 (rw (← e) h) k)
+        does_if_true keeps m.processor.registers.psr.et _ _ o o2 y ns ns2 on
+        (does_then keeps (ask_levels (unmasked m.processor.registers.psr.pil) (λ w. done w)) (requested windows limit m) o o1 o2 word y ns ns1 ns2 (rw (← e) h) k)
 
     -- the timer's step, and what follows
-    pub awake_by : (timer : Timer) (next : Inner) → next ≡ with_timer m timer → Does keeps (tick m.units.timer) o o1 timer ts ts1 → Does keeps (interruptible windows limit next) o1 o2 y ts1 ts2
-        → Does keeps (awake windows limit m) o o2 y ts ts2
+    pub awake_by : (timer : Timer) (next : Inner) → next ≡ with_timer m timer → Does keeps (tick m.units.timer) o o1 timer ns ns1 → Does keeps (interruptible windows limit next) o1 o2 y ns1 ns2
+        → Does keeps (awake windows limit m) o o2 y ns ns2
     unfolding awake
-    awake_by timer next e h k = does_then keeps (tick m.units.timer) (λ t. interruptible windows limit (with_timer m t)) o o1 o2 timer y ts ts1 ts2 h (rw (← e) k)
+    awake_by timer next e h k = does_then keeps (tick m.units.timer) (λ t. interruptible windows limit (with_timer m t)) o o1 o2 timer y ns ns1 ns2 h (rw (← e) k)
 
 -- a shorter way has carried a word out by the processor alone, or it has left all as it was
-pub plainly_or_not : {windows pages : ℕ} (keeps : Bool) (bytes : List ℕ) (word : ℕ) (p p' : Parts windows pages) (q : Processor) (ts : List Touch) (found : Bool)
-    → MatchBool found (IsPlain windows p.processor (meaning word) q) (q ≡ p.processor) → p' ≡ record p { processor = q } → MayCarryOut keeps bytes word p p' ts ts found
-plainly_or_not {windows} {pages} keeps bytes word p p' q ts true plain is =
-    rw is (carried_out_plainly keeps windows (ram_size pages) (inner_of_parts p) (outside_of p.memory.phys bytes) ts word q _ plain refl)
-plainly_or_not keeps bytes word p p' q ts false left is = (rw is (rw left refl), refl)
+pub plainly_or_not : {windows pages : ℕ} (keeps : Keeps) (bytes : List ℕ) (word : ℕ) (p p' : Parts windows pages) (q : Processor) (ns : Notes) (found : Bool)
+    → MatchBool found (IsPlain windows p.processor (meaning word) q) (q ≡ p.processor) → p' ≡ record p { processor = q } → MayCarryOut keeps bytes word p p' ns ns found
+plainly_or_not {windows} {pages} keeps bytes word p p' q ns true plain is =
+    rw is (carried_out_plainly keeps windows (ram_size pages) (inner_of_parts p) (outside_of p.memory.phys bytes) ns word q _ plain refl)
+plainly_or_not keeps bytes word p p' q ns false left is = (rw is (rw left refl), refl)

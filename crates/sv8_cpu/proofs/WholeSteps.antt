@@ -5,7 +5,7 @@ use Rattle.std.proofs.lemmas.Bool.Decides.{nat_tests}
 use Rattle.std.proofs.lemmas.Grind.{flat_map-append}
 use Rattle.std.proofs.Math.Seq.{drop-nil}
 use Rattle.sv8_model.specs.Outside.{Outside, without_oldest}
-use Rattle.sv8_model.specs.Action.{Action, done, load_word, store_word, load_byte, store_byte, take_input, count_waiting, emit, ask_levels, clear_levels, expire, result_of, after, touches}
+use Rattle.sv8_model.specs.Action.{Action, done, load_word, store_word, load_byte, store_byte, take_input, count_waiting, emit, ask_levels, clear_levels, expire, observe, result_of, after, touches}
 use Rattle.sv8_time.specs.Order.{Each, Rising}
 use Rattle.sv8_time.specs.Schedule.{Schedule, Input, IsTimeline, input_before, is_input_at, bytes_of_step}
 use Rattle.sv8_phys.specs.Memory.{ram_size}
@@ -86,6 +86,7 @@ waits_last (emit b a) o = waits_last a _
 waits_last (ask_levels w g) o = waits_last (g _) o
 waits_last (clear_levels w a) o = waits_last a _
 waits_last (expire a) o = waits_last a _
+waits_last (observe s a) o = waits_last a o
 
 drop_twice : (t k : ℕ) (xs : List ℕ) → drop (t + k) xs ≡ drop k (drop t xs)
 drop_twice zero k xs = let same : 0 + k ≡ k = omega arith in ap (λ n. drop n xs) same

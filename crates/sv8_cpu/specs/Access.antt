@@ -1,10 +1,15 @@
 -- One access to memory, as an action: by the address space, the translation of the address and then RAM, the console, another device, or a fault; the
 -- registers of the memory management unit; or a probe of its tables (Appendix H, Appendix I for the address spaces).
-use Rattle.std.specs.Prelude.{ℕ, ◌+◌, ◌*◌, ◌%◌, ◌^◌, ◌==◌, ◌&&◌, Bool, true, false, nat_lt, Result, Ok, Err, Option, Some, None, if◌then◌else◌}
-use Rattle.sv8_model.specs.Action.{Action, done, take_input, count_waiting, ◌>>=◌}
+use Rattle.std.specs.Prelude.{ℕ, List, [], ◌∷◌, ◌+◌, ◌*◌, ◌%◌, ◌^◌, ◌==◌, ◌&&◌, Bool, true, false, nat_lt, Result, Ok, Err, Option, Some, None, if◌then◌else◌}
+use Rattle.sv8_model.specs.declared.observation.AccessKind.{AccessKind}
+use Rattle.sv8_model.specs.declared.observation.AccessKind.TheVariants as kind
+use Rattle.sv8_model.specs.declared.observation.Observation.{Observation}
+use Rattle.sv8_model.specs.declared.observation.Observation.TheVariants as seen
+use Rattle.sv8_model.specs.Action.{Action, done, take_input, count_waiting, observe, ◌>>=◌}
 use Rattle.sv8_phys.specs.declared.fault.BusError.{BusError}
 use Rattle.sv8_phys.specs.declared.size.Size.{Size}
 use Rattle.sv8_phys.specs.declared.size.Size.TheVariants.{Byte, Half, Word, Double}
+use Rattle.sv8_phys.specs.Memory.{bytes_in}
 use Rattle.sv8_phys.specs.Devices.{Stored, load, store, ram_load, ram_store, input_address, waiting_address}
 use Rattle.sv8_mmu.specs.declared.access_type.AccessType.{AccessType}
 use Rattle.sv8_mmu.specs.declared.access_type.AccessType.TheVariants.{UserLoad, SupervisorLoad, UserFetch, SupervisorFetch, UserStore, SupervisorStore, UserInstructionStore, SupervisorInstructionStore}
@@ -25,6 +30,7 @@ use Rattle.sv8_iu.specs.declared.request.AccessRequest.TheVariants as request
 use Rattle.sv8_iu.specs.declared.request.Response.TheVariants.{Refused}
 use Rattle.sv8_iu.specs.declared.request.Space.{Space}
 use Rattle.sv8_iu.specs.declared.request.Space.TheVariants as space
+use Rattle.sv8_iu.specs.Memory.{low_word}
 use Rattle.sv8_iu.specs.Requests.{space_of}
 
 -- ---- address spaces
@@ -56,12 +62,27 @@ bus_fault access_type va = record { level = 0; access_type = access_type; fault_
 abbrev pub no_such_access : Units → Served
 no_such_access u = record { response = Refused DataAccessException; units = u }
 
+-- ---- what an observer sees
+
+-- an access to memory or to a device
+abbrev pub access_seen : AccessKind → Size → ℕ → ℕ → Observation
+access_seen kind size va pa = seen.Access kind (bytes_in size) va pa
+
+-- of an access that is answered it is seen, of one that nothing serves nothing is
+abbrev pub seen_if : {A E : Type 0} → Result A E → Observation → List Observation
+seen_if (Ok value) s = s ∷ []
+seen_if (Err e) s = []
+
+abbrev pub observed : {A E R : Type 0} → Result A E → Observation → Action R → Action R
+observed (Ok value) s a = observe s a
+observed (Err e) s a = a
+
 -- ---- accesses at a physical address; va is the virtual one
 
 -- instructions are fetched from RAM alone
 unfoldable pub fetched_from : ℕ → Units → ℕ → ℕ → ℕ → Action Served
 fetched_from limit u asi va pa =
-    if nat_lt pa limit then (ram_load Word pa >>= λ word. done (served u word))
+    if nat_lt pa limit then (ram_load Word pa >>= λ word. observe (seen.Fetch pa (low_word word)) (done (served u word)))
     else done (failed u InstructionAccessException asi (bus_fault (load_type asi) va))
 
 abbrev pub load_answer : Units → ℕ → ℕ → Result ℕ BusError → Served
@@ -82,13 +103,14 @@ counts_bytes size pa = is_word size && pa == waiting_address
 
 -- RAM or a device but the console's input serves it
 unfoldable pub plainly_loaded : ℕ → Units → Size → ℕ → ℕ → ℕ → Action Served
-plainly_loaded limit u size asi va pa = load limit u.timer size pa >>= λ answer. done (load_answer u asi va answer)
+plainly_loaded limit u size asi va pa =
+    load limit u.timer size pa >>= λ answer. observed answer (access_seen kind.Load size va pa) (done (load_answer u asi va answer))
 
 -- a load of a word takes a byte of the console's input, or counts the bytes that wait; else it is a plain one
 unfoldable pub loaded_from : ℕ → Units → Size → ℕ → ℕ → ℕ → Action Served
 loaded_from limit u size asi va pa =
-    if takes_byte size pa then (take_input (λ byte. done byte) >>= λ byte. done (served u byte)) else
-    (if counts_bytes size pa then (count_waiting (λ count. done count) >>= λ count. done (served u count)) else
+    if takes_byte size pa then (take_input (λ byte. done byte) >>= λ byte. observe (access_seen kind.Load size va pa) (done (served u byte))) else
+    (if counts_bytes size pa then (count_waiting (λ count. done count) >>= λ count. observe (access_seen kind.Load size va pa) (done (served u count))) else
     plainly_loaded limit u size asi va pa)
 
 abbrev pub answer_to_store : Units → ℕ → ℕ → Result (Unit {0}) BusError → Served
@@ -99,12 +121,13 @@ abbrev pub store_answer : Units → ℕ → ℕ → Stored → Served
 store_answer u asi va s = answer_to_store (record u { timer = s.timer }) asi va s.answer
 
 unfoldable pub stored_at : ℕ → Units → Size → ℕ → ℕ → ℕ → ℕ → Action Served
-stored_at limit u size asi value va pa = store limit u.timer size pa value >>= λ s. done (store_answer u asi va s)
+stored_at limit u size asi value va pa =
+    store limit u.timer size pa value >>= λ s. observed s.answer (access_seen kind.Store size va pa) (done (store_answer u asi va s))
 
 -- LDSTUB and SWAP load what stands in RAM and store another value, in one access
 unfoldable pub exchanged_at : ℕ → Units → Size → ℕ → ℕ → ℕ → ℕ → Action Served
 exchanged_at limit u size asi value va pa =
-    if nat_lt pa limit then (ram_load size pa >>= λ old. ram_store size pa value (served u old))
+    if nat_lt pa limit then observe (access_seen kind.Exchange size va pa) (ram_load size pa >>= λ old. ram_store size pa value (served u old))
     else done (failed u DataAccessException asi (bus_fault (store_type asi) va))
 
 -- ---- accesses at a virtual address

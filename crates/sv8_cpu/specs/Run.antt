@@ -1,7 +1,8 @@
 -- Steps under a timeline, and runs of them.
 use Rattle.std.specs.Prelude.{ℕ, zero, suc, ◌+◌, List}
 use Rattle.sv8_model.specs.declared.touch.Touch.{Touch}
-use Rattle.sv8_model.specs.Action.{Action, result_of, after, touches}
+use Rattle.sv8_model.specs.declared.observation.Observation.{Observation}
+use Rattle.sv8_model.specs.Action.{Action, result_of, after, touches, observations}
 use Rattle.sv8_time.specs.Schedule.{Schedule}
 use Rattle.sv8_phys.specs.Memory.{ram_size}
 use Rattle.sv8_phys.specs.Contents.{arrived, outside_of}
@@ -33,6 +34,14 @@ touched windows pages bytes s = touches (step_action windows pages s) (outside_o
 -- what step n touches; its events are no part of that
 unfoldable pub footprint : ℕ → ℕ → Schedule → ℕ → State → List Touch
 footprint windows pages schedule n s = touched windows pages (arrived (n + 1) schedule) (eventful schedule n s)
+
+-- what an observer sees of what a step does behind its events
+abbrev pub seen : ℕ → ℕ → List ℕ → State → List Observation
+seen windows pages bytes s = observations (step_action windows pages s) (outside_of s.memory bytes)
+
+-- what an observer sees of step n
+unfoldable pub observed : ℕ → ℕ → Schedule → ℕ → State → List Observation
+observed windows pages schedule n s = seen windows pages (arrived (n + 1) schedule) (eventful schedule n s)
 
 -- the state after n steps
 unfoldable pub steps : ℕ → ℕ → Schedule → ℕ → State → State

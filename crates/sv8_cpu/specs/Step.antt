@@ -1,12 +1,15 @@
 -- One step of the machine behind its events, as an action: the timer, and then an interrupt, an annulled slot, or one instruction.
-use Rattle.std.specs.Prelude.{ℕ, ◌==◌, Option, Some, None, if◌then◌else◌}
+use Rattle.std.specs.Prelude.{ℕ, List, [], ◌∷◌, ◌==◌, Option, Some, None, if◌then◌else◌}
 use Rattle.sv8_isa.specs.declared.instr.Instr.{Instr}
 use Rattle.sv8_isa.specs.Table.{meaning}
-use Rattle.sv8_model.specs.Action.{Action, done, ask_levels, ◌>>=◌}
+use Rattle.sv8_model.specs.declared.observation.Observation.{Observation}
+use Rattle.sv8_model.specs.declared.observation.Observation.TheVariants as seen
+use Rattle.sv8_model.specs.Action.{Action, done, ask_levels, observe, ◌>>=◌}
 use Rattle.sv8_phys.specs.declared.timer.Timer.{Timer}
 use Rattle.sv8_phys.specs.Devices.{tick}
 use Rattle.sv8_trap.specs.declared.table.Trap.{Trap}
-use Rattle.sv8_trap.specs.Table.{taken}
+use Rattle.sv8_trap.specs.declared.table.Trap.TheVariants.{Interrupt}
+use Rattle.sv8_trap.specs.Table.{row_of, taken}
 use Rattle.sv8_trap.specs.Processor.{Processor, slot_skipped}
 use Rattle.sv8_trap.specs.Entry.{with_trap, interrupted}
 use Rattle.sv8_trap.specs.Interrupt.{unmasked, highest}
@@ -23,6 +26,10 @@ pub record Inner : Type 0 where
   pub processor : Processor
   pub units : Units
 
+-- an observer sees the type of a trap
+abbrev pub trap_seen : Trap → Observation
+trap_seen t = seen.Trap (row_of t).trap_type
+
 -- ---- one instruction
 
 -- the instruction's access is answered
@@ -33,17 +40,26 @@ answered windows p i (Refused t) = with_trap windows p t
 abbrev pub finished_access : ℕ → Processor → Instr → Served → Inner
 finished_access windows p i s = record { processor = answered windows p i s.response; units = s.units }
 
+-- an access that is refused raises a trap
+abbrev pub observed_trap : {R : Type 0} → Response → Action R → Action R
+observed_trap (Value value) a = a
+observed_trap (Refused t) a = observe (trap_seen t) a
+
+abbrev pub refusal_seen : Response → List Observation
+refusal_seen (Value value) = []
+refusal_seen (Refused t) = trap_seen t ∷ []
+
 -- an instruction that raises a trap takes it; one that raises none makes its access
 unfoldable pub executed : ℕ → ℕ → Inner → Instr → Option Trap → Action Inner
-executed windows limit m i (Some t) = done (record m { processor = trapped windows m.processor i t })
-executed windows limit m i None = access limit m.units (asked windows m.processor i) >>= λ s. done (finished_access windows m.processor i s)
+executed windows limit m i (Some t) = observe (trap_seen t) (done (record m { processor = trapped windows m.processor i t }))
+executed windows limit m i None = access limit m.units (asked windows m.processor i) >>= λ s. observed_trap s.response (done (finished_access windows m.processor i s))
 
 -- the word that was fetched is carried out
 abbrev pub carried_out : ℕ → ℕ → Inner → ℕ → Action Inner
 carried_out windows limit m word = executed windows limit m (meaning word) (taken (raised windows m.processor (meaning word)))
 
 abbrev pub fetched : ℕ → ℕ → Processor → Response → Units → Action Inner
-fetched windows limit p (Refused t) u = done (record { processor = with_trap windows p t; units = u })
+fetched windows limit p (Refused t) u = observe (trap_seen t) (done (record { processor = with_trap windows p t; units = u }))
 fetched windows limit p (Value value) u = carried_out windows limit (record { processor = p; units = u }) (low_word value)
 
 -- one instruction is fetched and carried out
@@ -60,7 +76,8 @@ continued windows limit m = if m.processor.annul then done (record m { processor
 -- the highest of the pending levels that are not masked interrupts; where there is none, the program goes on
 unfoldable pub requested : ℕ → ℕ → Inner → ℕ → Action Inner
 requested windows limit m word =
-    if highest word == 0 then continued windows limit m else done (record m { processor = interrupted windows m.processor (highest word) })
+    if highest word == 0 then continued windows limit m
+    else observe (trap_seen (Interrupt (highest word))) (done (record m { processor = interrupted windows m.processor (highest word) }))
 
 -- with traps enabled, every level that is not masked is asked for
 unfoldable pub interruptible : ℕ → ℕ → Inner → Action Inner

@@ -1,8 +1,7 @@
 -- What physical memory with the registers of the memory management unit stands for, and what it means that it did an access.
 use Rattle.std.specs.Prelude.{ℕ, Bool, List}
-use Rattle.sv8_model.specs.declared.touch.Touch.{Touch}
 use Rattle.sv8_model.specs.Action.{Action}
-use Rattle.sv8_model.specs.Does.{Does}
+use Rattle.sv8_model.specs.Does.{Does, Keeps, Notes}
 use Rattle.sv8_phys.specs.Memory.{ram_size}
 use Rattle.sv8_phys.specs.Contents.{outside_of}
 use Rattle.sv8_mmu.specs.Kept.{Kept, AllStand}
@@ -18,7 +17,7 @@ units_of m = record { mmu = m.mmu; timer = m.phys.timer }
 abbrev pub Serves : {pages : ℕ} → Physical pages → List Kept → Type 0
 Serves {pages} m ks = AllStand (ram_size pages) m.phys.ram m.mmu.table_pointer ks
 
--- once some bytes have come in, a memory m became m' and gave the response r as the action does, and its touches were noted behind the notes ts, if notes
+-- once some bytes have come in, a memory m became m' and gave the response r as the action does, and what it touches and what is seen of it was noted behind the notes ns, if notes
 -- are kept at all
-abbrev pub MemoryDoes : {pages : ℕ} → Bool → List ℕ → Action Served → Physical pages → Physical pages → Response → List Touch → List Touch → Type 0
-MemoryDoes keeps bytes a m m' r ts ts' = Does keeps a (outside_of m.phys bytes) (outside_of m'.phys bytes) (record { response = r; units = units_of m' }) ts ts'
+abbrev pub MemoryDoes : {pages : ℕ} → Keeps → List ℕ → Action Served → Physical pages → Physical pages → Response → Notes → Notes → Type 0
+MemoryDoes keeps bytes a m m' r ns ns' = Does keeps a (outside_of m.phys bytes) (outside_of m'.phys bytes) (record { response = r; units = units_of m' }) ns ns'

@@ -4,6 +4,7 @@
 //! whether it has, and leaves all others as they are.
 
 ghost use Rattle.std.specs.Prelude.{◌≡◌, ℕ, ◌%◌, ◌≤◌, ◌<◌, None, true, false, MatchBool, MatchOption, IfOk, OnOk};
+ghost use Rattle.sv8_model.specs.Does.{keeping};
 ghost use Rattle.sv8_isa.specs.Registers.{OperandHasRegister};
 ghost use Rattle.sv8_isa.specs.Table.{meaning};
 ghost use Rattle.sv8_mmu.specs.Registers.{translates};
@@ -17,8 +18,8 @@ ghost use Rattle.sv8_cpu.specs.Step.{answered};
 ghost use Rattle.sv8_cpu.specs.View.{MemoryDoes, units_of};
 ghost use Rattle.sv8_cpu.specs.Whole.{MayCarryOut};
 
-use crate::machine::Parts;
 use crate::memory::Memory;
+use crate::parts::{Parts, show_refusal};
 use std::alloc::AllocError;
 use sv8_isa::{Group, Instr, MemoryOp, Operand, decode_memory, group};
 use sv8_iu::{Response, carry_out_plainly, data_space, finish_access, memory_trap, sum_of_sources};
@@ -44,7 +45,7 @@ fn make_access<const NW: usize, const PAGES: usize, const TRANSLATED: bool, T: T
     requires aligned { at % bytes_in (size_of op) ≡ 0 }
     requires delivered { memory.old.phys.taken ≤ bytes_below before timeline.now.inputs }
     ensures ok { IfOk result (λ found. MatchOption found (memory.new ≡ memory.old)
-        (λ r. MemoryDoes T.KEEPS (arrived before timeline.now) (access (ram_size PAGES) (units_of memory.old) (access_of NW p.now op (data_space p.now) rd at))
+        (λ r. MemoryDoes (keeping T.KEEPS T.OBSERVES) (arrived before timeline.now) (access (ram_size PAGES) (units_of memory.old) (access_of NW p.now op (data_space p.now) rd at))
         memory.old memory.new r (T.noted notes.old) (T.noted notes.new))) }
     ensures quiet { OnOk result (result ≡ Ok None → T.noted notes.new ≡ T.noted notes.old) }
     ensures taken { OnOk result (memory.new.phys.taken ≤ bytes_below before timeline.now.inputs) }
@@ -112,7 +113,7 @@ impl<const NW: usize, const PAGES: usize> Parts<NW, PAGES> {
         requires operand { OperandHasRegister operand }
         requires delivered { self.old.memory.phys.taken ≤ bytes_below before timeline.now.inputs }
         ensures ok { IfOk result (λ found. (word : ℕ) → Instr.Memory op rd rs1 operand ≡ meaning word
-            → MayCarryOut T.KEEPS (arrived before timeline.now) word self.old self.new (T.noted notes.old) (T.noted notes.new) found) }
+            → MayCarryOut (keeping T.KEEPS T.OBSERVES) (arrived before timeline.now) word self.old self.new (T.noted notes.old) (T.noted notes.new) found) }
         ensures taken { OnOk result (self.new.memory.phys.taken ≤ bytes_below before timeline.now.inputs) }
     {
         let at = sum_of_sources(&self.processor, rs1, operand);
@@ -126,6 +127,7 @@ impl<const NW: usize, const PAGES: usize> Parts<NW, PAGES> {
                 )? {
                     None => Ok(false),
                     Some(response) => {
+                        show_refusal(response, notes)?;
                         finish(&mut self.processor, op, rd, response);
                         Ok(true)
                     }
@@ -152,7 +154,7 @@ impl<const NW: usize, const PAGES: usize> Parts<NW, PAGES> {
         requires operand { OperandHasRegister operand }
         requires delivered { self.old.memory.phys.taken ≤ bytes_below before timeline.now.inputs }
         ensures ok { IfOk result (λ found. (word : ℕ) → Instr.Memory op rd rs1 operand ≡ meaning word
-            → MayCarryOut T.KEEPS (arrived before timeline.now) word self.old self.new (T.noted notes.old) (T.noted notes.new) found) }
+            → MayCarryOut (keeping T.KEEPS T.OBSERVES) (arrived before timeline.now) word self.old self.new (T.noted notes.old) (T.noted notes.new) found) }
         ensures taken { OnOk result (self.new.memory.phys.taken ≤ bytes_below before timeline.now.inputs) }
     {
         match op {
@@ -188,7 +190,7 @@ impl<const NW: usize, const PAGES: usize> Parts<NW, PAGES> {
     ) -> Result<bool, AllocError>
         requires translated { translates self.old.memory.mmu ≡ true }
         requires delivered { self.old.memory.phys.taken ≤ bytes_below before timeline.now.inputs }
-        ensures ok { IfOk result (MayCarryOut T.KEEPS (arrived before timeline.now) word self.old self.new (T.noted notes.old) (T.noted notes.new)) }
+        ensures ok { IfOk result (MayCarryOut (keeping T.KEEPS T.OBSERVES) (arrived before timeline.now) word self.old self.new (T.noted notes.old) (T.noted notes.new)) }
         ensures taken { OnOk result (self.new.memory.phys.taken ≤ bytes_below before timeline.now.inputs) }
     {
         match decode_memory(word) {
@@ -219,7 +221,7 @@ impl<const NW: usize, const PAGES: usize> Parts<NW, PAGES> {
         notes: &mut T,
     ) -> Result<bool, AllocError>
         requires delivered { self.old.memory.phys.taken ≤ bytes_below before timeline.now.inputs }
-        ensures ok { IfOk result (MayCarryOut T.KEEPS (arrived before timeline.now) word self.old self.new (T.noted notes.old) (T.noted notes.new)) }
+        ensures ok { IfOk result (MayCarryOut (keeping T.KEEPS T.OBSERVES) (arrived before timeline.now) word self.old self.new (T.noted notes.old) (T.noted notes.new)) }
         ensures taken { OnOk result (self.new.memory.phys.taken ≤ bytes_below before timeline.now.inputs) }
     {
         if self.memory.translates() {
@@ -252,7 +254,7 @@ impl<const NW: usize, const PAGES: usize> Parts<NW, PAGES> {
         notes: &mut T,
     ) -> Result<bool, AllocError>
         requires delivered { self.old.memory.phys.taken ≤ bytes_below before timeline.now.inputs }
-        ensures ok { IfOk result (MayCarryOut T.KEEPS (arrived before timeline.now) word self.old self.new (T.noted notes.old) (T.noted notes.new)) }
+        ensures ok { IfOk result (MayCarryOut (keeping T.KEEPS T.OBSERVES) (arrived before timeline.now) word self.old self.new (T.noted notes.old) (T.noted notes.new)) }
         ensures taken { OnOk result (self.new.memory.phys.taken ≤ bytes_below before timeline.now.inputs) }
     {
         match group(word) {

@@ -7,6 +7,7 @@ pub mod laws;
 mod loading;
 mod machine;
 mod memory;
+mod parts;
 mod physical;
 mod readers;
 mod spaces;

@@ -1,287 +1,29 @@
 //! The machine, one step at a time.
 
-ghost use Rattle.std.specs.Prelude.{◌≡◌, ℕ, ◌+◌, ◌<◌, ◌≤◌, ◌%◌, ◌/◌, ◌++◌, None, length, IfOk, OnOk, OnErr};
-ghost use Rattle.sv8_isa.specs.Registers.{HasRegisters};
-ghost use Rattle.sv8_model.specs.Does.{kept};
+ghost use Rattle.std.specs.Prelude.{◌≡◌, ◌+◌, ◌<◌, ◌≤◌, ◌/◌, [], IfOk, OnOk, OnErr};
+ghost use Rattle.sv8_model.specs.Does.{noting, keeping};
 ghost use Rattle.sv8_phys.specs.Notes.{told};
-ghost use Rattle.sv8_cpu.specs.Run.{acted_on, eventful, step_action, touched, step, footprint};
+ghost use Rattle.sv8_cpu.specs.Run.{acted_on, eventful, step_action, touched, seen, step, footprint, observed};
 ghost use Rattle.sv8_time.specs.Schedule.{bytes_below};
 ghost use Rattle.sv8_trap.specs.Table.{taken};
 ghost use Rattle.sv8_phys.specs.Memory.{ram_size};
 ghost use Rattle.sv8_phys.specs.Contents.{arrived};
-ghost use Rattle.sv8_iu.specs.Instruction.{raised};
-ghost use Rattle.sv8_cpu.specs.Step.{answered, executed, carried_out, fetched, instruction, continued, requested, interruptible, awake, action};
+ghost use Rattle.sv8_cpu.specs.Step.{instruction};
 ghost use Rattle.sv8_cpu.specs.State.{reset_state};
 ghost use Rattle.sv8_cpu.specs.Work.{counted};
-ghost use Rattle.sv8_cpu.specs.View.{units_of};
-ghost use Rattle.sv8_cpu.specs.Whole.{inner_of_parts, state_of, MachineDoes};
+ghost use Rattle.sv8_cpu.specs.Whole.{state_of};
 
 use crate::events::end_of;
 use crate::loading::load;
 use crate::memory::Memory;
+use crate::parts::Parts;
 use crate::work::Work;
 use std::alloc::{AllocError, Global};
 use std::marker::Model;
-use sv8_isa::{Instr, decode};
-use sv8_iu::{AccessRequest, Response, asked, complete, low_word, raised_by, take_trap};
 use sv8_phys::{NoTouches, Phys, StepTouches, Touches};
 use sv8_source::Source;
 use sv8_time::Timeline;
-use sv8_trap::{Processor, highest_level};
-
-/// The state of a machine, kept in one place so that a step changes it where it stands.
-#[derive(Drop)]
-pub struct Parts<const NW: usize, const PAGES: usize> {
-    pub processor: Processor<NW>,
-    pub memory: Memory<PAGES>,
-}
-
-/// The end of an instruction whose access was answered.
-#[inline(always)]
-fn answer<const NW: usize>(p: &mut Processor<NW>, instr: Instr, response: Response)
-    requires registers { HasRegisters instr }
-    requires no_trap { taken (raised NW p.old instr) ≡ None }
-    ensures { p.new ≡ answered NW p.old instr response }
-{
-    match response {
-        Response::Value(value) => complete(p, instr, value),
-        Response::Refused(trap) => p.take(trap),
-    }
-}
-
-impl<const NW: usize, const PAGES: usize> Parts<NW, PAGES> {
-    /// Makes the access of an instruction that raises no trap, and completes it.
-    #[inline(always)]
-    fn make_access<T: Touches>(
-        &mut self,
-        instr: Instr,
-        before: u32,
-        timeline: &Timeline,
-        notes: &mut T,
-    ) -> Result<(), AllocError>
-        requires registers { HasRegisters instr }
-        requires no_trap { taken (raised NW self.old.processor instr) ≡ None }
-        requires delivered { self.old.memory.phys.taken ≤ bytes_below before timeline.now.inputs }
-        ensures ok { OnOk result (MachineDoes T.KEEPS (arrived before timeline.now) (executed NW (ram_size PAGES) (inner_of_parts self.old) instr None)
-            self.old self.new (T.noted notes.old) (T.noted notes.new)) }
-        ensures taken { OnOk result (self.new.memory.phys.taken ≤ bytes_below before timeline.now.inputs) }
-    {
-        let request = asked(&self.processor, instr);
-        let response = self.memory.access(request, before, timeline, notes)?;
-        answer(&mut self.processor, instr, response);
-        Ok(())
-    }
-
-    /// Carries an instruction out: takes the trap that it raises, or makes its access and completes it.
-    #[inline(always)]
-    fn execute<T: Touches>(
-        &mut self,
-        instr: Instr,
-        before: u32,
-        timeline: &Timeline,
-        notes: &mut T,
-    ) -> Result<(), AllocError>
-        requires registers { HasRegisters instr }
-        requires delivered { self.old.memory.phys.taken ≤ bytes_below before timeline.now.inputs }
-        ensures ok { OnOk result (MachineDoes T.KEEPS (arrived before timeline.now) (executed NW (ram_size PAGES) (inner_of_parts self.old) instr (taken (raised NW self.old.processor instr)))
-            self.old self.new (T.noted notes.old) (T.noted notes.new)) }
-        ensures taken { OnOk result (self.new.memory.phys.taken ≤ bytes_below before timeline.now.inputs) }
-    {
-        match raised_by(&self.processor, instr) {
-            Some(trap) => {
-                take_trap(&mut self.processor, instr, trap);
-                Ok(())
-            }
-            None => {
-                self.make_access(instr, before, timeline, notes)?;
-                Ok(())
-            }
-        }
-    }
-
-    /// Carries out a word. It is a function of its own, so that a word comes in and no decoded instruction goes from one function to another.
-    #[inline(never)]
-    fn carry_out_word<T: Touches>(
-        &mut self,
-        word: u32,
-        before: u32,
-        timeline: &Timeline,
-        notes: &mut T,
-    ) -> Result<(), AllocError>
-        requires delivered { self.old.memory.phys.taken ≤ bytes_below before timeline.now.inputs }
-        ensures ok { OnOk result (MachineDoes T.KEEPS (arrived before timeline.now) (carried_out NW (ram_size PAGES) (inner_of_parts self.old) word)
-            self.old self.new (T.noted notes.old) (T.noted notes.new)) }
-        ensures taken { OnOk result (self.new.memory.phys.taken ≤ bytes_below before timeline.now.inputs) }
-    {
-        self.execute(decode(word), before, timeline, notes)?;
-        Ok(())
-    }
-
-    /// Carries out a word that was fetched, or takes the trap of its fetch.
-    #[inline(always)]
-    fn carry_out<T: Touches>(
-        &mut self,
-        response: Response,
-        before: u32,
-        timeline: &Timeline,
-        notes: &mut T,
-    ) -> Result<(), AllocError>
-        requires delivered { self.old.memory.phys.taken ≤ bytes_below before timeline.now.inputs }
-        ensures ok { OnOk result (MachineDoes T.KEEPS (arrived before timeline.now) (fetched NW (ram_size PAGES) self.old.processor response (units_of self.old.memory))
-            self.old self.new (T.noted notes.old) (T.noted notes.new)) }
-        ensures taken { OnOk result (self.new.memory.phys.taken ≤ bytes_below before timeline.now.inputs) }
-    {
-        match response {
-            Response::Refused(trap) => {
-                self.processor.take(trap);
-                Ok(())
-            }
-            Response::Value(value) => {
-                let word = low_word(value);
-                if self.carry_out_frequent(word, before, timeline, notes)? {
-                    return Ok(());
-                }
-                self.carry_out_word(word, before, timeline, notes)?;
-                Ok(())
-            }
-        }
-    }
-
-    /// Fetches the instruction at PC and carries it out.
-    #[inline(always)]
-    fn run_instruction<T: Touches>(
-        &mut self,
-        before: u32,
-        timeline: &Timeline,
-        notes: &mut T,
-    ) -> Result<(), AllocError>
-        requires delivered { self.old.memory.phys.taken ≤ bytes_below before timeline.now.inputs }
-        ensures ok { OnOk result (MachineDoes T.KEEPS (arrived before timeline.now) (instruction NW (ram_size PAGES) (inner_of_parts self.old))
-            self.old self.new (T.noted notes.old) (T.noted notes.new)) }
-        ensures taken { OnOk result (self.new.memory.phys.taken ≤ bytes_below before timeline.now.inputs) }
-    {
-        let request = AccessRequest::Fetch {
-            supervisor: self.processor.registers().psr().s,
-            at: self.processor.pc(),
-        };
-        let response = self.memory.access(request, before, timeline, notes)?;
-        self.carry_out(response, before, timeline, notes)?;
-        Ok(())
-    }
-
-    /// Passes over an annulled slot, or carries an instruction out.
-    #[inline(always)]
-    #[tactic(auto, unfolding(crate::specs::Step::continued))]
-    fn go_on<T: Touches>(
-        &mut self,
-        before: u32,
-        timeline: &Timeline,
-        notes: &mut T,
-    ) -> Result<(), AllocError>
-        requires delivered { self.old.memory.phys.taken ≤ bytes_below before timeline.now.inputs }
-        ensures ok { OnOk result (MachineDoes T.KEEPS (arrived before timeline.now) (continued NW (ram_size PAGES) (inner_of_parts self.old))
-            self.old self.new (T.noted notes.old) (T.noted notes.new)) }
-        ensures taken { OnOk result (self.new.memory.phys.taken ≤ bytes_below before timeline.now.inputs) }
-    {
-        if self.processor.annul() {
-            self.processor.skip_slot();
-            Ok(())
-        } else {
-            self.run_instruction(before, timeline, notes)?;
-            Ok(())
-        }
-    }
-
-    /// Enters the handler of the highest of these levels; where there is none, the program goes on.
-    #[inline(always)]
-    #[tactic(auto, unfolding(crate::specs::Step::requested))]
-    fn serve<T: Touches>(
-        &mut self,
-        levels: u32,
-        before: u32,
-        timeline: &Timeline,
-        notes: &mut T,
-    ) -> Result<(), AllocError>
-        requires delivered { self.old.memory.phys.taken ≤ bytes_below before timeline.now.inputs }
-        ensures ok { OnOk result (MachineDoes T.KEEPS (arrived before timeline.now) (requested NW (ram_size PAGES) (inner_of_parts self.old) levels)
-            self.old self.new (T.noted notes.old) (T.noted notes.new)) }
-        ensures taken { OnOk result (self.new.memory.phys.taken ≤ bytes_below before timeline.now.inputs) }
-    {
-        let level = highest_level(levels);
-        if level == 0 {
-            self.go_on(before, timeline, notes)?;
-            Ok(())
-        } else {
-            self.processor.interrupt(level);
-            Ok(())
-        }
-    }
-
-    /// Takes an interrupt where one is to be taken; else the program goes on.
-    #[inline(always)]
-    #[tactic(auto, unfolding(crate::specs::Step::interruptible))]
-    fn go_on_or_interrupt<T: Touches>(
-        &mut self,
-        before: u32,
-        timeline: &Timeline,
-        notes: &mut T,
-    ) -> Result<(), AllocError>
-        requires delivered { self.old.memory.phys.taken ≤ bytes_below before timeline.now.inputs }
-        ensures ok { OnOk result (MachineDoes T.KEEPS (arrived before timeline.now) (interruptible NW (ram_size PAGES) (inner_of_parts self.old))
-            self.old self.new (T.noted notes.old) (T.noted notes.new)) }
-        ensures taken { OnOk result (self.new.memory.phys.taken ≤ bytes_below before timeline.now.inputs) }
-    {
-        if self.processor.registers().psr().et {
-            let levels = self.processor.unmasked_levels();
-            let pending = self.memory.pending_among(levels, notes)?;
-            self.serve(pending, before, timeline, notes)?;
-            Ok(())
-        } else {
-            self.go_on(before, timeline, notes)?;
-            Ok(())
-        }
-    }
-
-    /// The timer's step, and then the rest.
-    #[inline(always)]
-    #[tactic(auto, unfolding(crate::specs::Step::awake))]
-    fn tick_and_go_on<T: Touches>(
-        &mut self,
-        before: u32,
-        timeline: &Timeline,
-        notes: &mut T,
-    ) -> Result<(), AllocError>
-        requires delivered { self.old.memory.phys.taken ≤ bytes_below before timeline.now.inputs }
-        ensures ok { OnOk result (MachineDoes T.KEEPS (arrived before timeline.now) (awake NW (ram_size PAGES) (inner_of_parts self.old))
-            self.old self.new (T.noted notes.old) (T.noted notes.new)) }
-        ensures taken { OnOk result (self.new.memory.phys.taken ≤ bytes_below before timeline.now.inputs) }
-    {
-        self.memory.tick(notes)?;
-        self.go_on_or_interrupt(before, timeline, notes)?;
-        Ok(())
-    }
-
-    /// What a step does behind its events: in error mode nothing.
-    #[inline(always)]
-    #[tactic(auto, unfolding(crate::specs::Step::action))]
-    pub fn act<T: Touches>(
-        &mut self,
-        before: u32,
-        timeline: &Timeline,
-        notes: &mut T,
-    ) -> Result<(), AllocError>
-        requires delivered { self.old.memory.phys.taken ≤ bytes_below before timeline.now.inputs }
-        ensures ok { OnOk result (MachineDoes T.KEEPS (arrived before timeline.now) (action NW (ram_size PAGES) (inner_of_parts self.old))
-            self.old self.new (T.noted notes.old) (T.noted notes.new)) }
-        ensures taken { OnOk result (self.new.memory.phys.taken ≤ bytes_below before timeline.now.inputs) }
-    {
-        if !self.processor.is_running() {
-            return Ok(());
-        }
-        self.tick_and_go_on(before, timeline, notes)?;
-        Ok(())
-    }
-}
+use sv8_trap::Processor;
 
 /// What a step does behind its events, with no notes.
 #[inline(always)]
@@ -312,11 +54,30 @@ fn act_noted<const NW: usize, const PAGES: usize, T: Touches>(
     requires delivered { parts.old.memory.phys.taken ≤ bytes_below before timeline.now.inputs }
     ensures ok { OnOk result (state_of parts.new ≡ acted_on (arrived before timeline.now) (state_of parts.old) (step_action NW PAGES (state_of parts.old))) }
     ensures taken { OnOk result (parts.new.memory.phys.taken ≤ bytes_below before timeline.now.inputs) }
-    ensures noted { OnOk result (T.noted notes.new ≡ T.noted notes.old ++ kept T.KEEPS (told (touched NW PAGES (arrived before timeline.now) (state_of parts.old)))) }
+    ensures noted { OnOk result (T.noted notes.new ≡ noting (keeping T.KEEPS T.OBSERVES) (T.noted notes.old) (told (touched NW PAGES (arrived before timeline.now) (state_of parts.old))) []) }
 {
     touches.clear();
     parts.act(before, timeline, touches)?;
     touches.tell(notes)?;
+    Ok(())
+}
+
+/// What a step does behind its events, with all notes as they come.
+#[inline(always)]
+fn act_watched<const NW: usize, const PAGES: usize, T: Touches>(
+    parts: &mut Parts<NW, PAGES>,
+    before: u32,
+    timeline: &Timeline,
+    notes: &mut T,
+) -> Result<(), AllocError>
+    requires few_windows { NW ≤ 32 }
+    requires delivered { parts.old.memory.phys.taken ≤ bytes_below before timeline.now.inputs }
+    ensures ok { OnOk result (state_of parts.new ≡ acted_on (arrived before timeline.now) (state_of parts.old) (step_action NW PAGES (state_of parts.old))) }
+    ensures taken { OnOk result (parts.new.memory.phys.taken ≤ bytes_below before timeline.now.inputs) }
+    ensures noted { OnOk result (T.noted notes.new ≡ noting (keeping T.KEEPS T.OBSERVES) (T.noted notes.old)
+        (touched NW PAGES (arrived before timeline.now) (state_of parts.old)) (seen NW PAGES (arrived before timeline.now) (state_of parts.old))) }
+{
+    parts.act(before, timeline, notes)?;
     Ok(())
 }
 
@@ -373,10 +134,32 @@ fn step_noted<const NW: usize, const PAGES: usize, T: Touches>(
     requires delivered { parts.old.memory.phys.taken ≤ bytes_below n timeline.now.inputs }
     ensures ok { OnOk result (state_of parts.new ≡ step NW PAGES timeline.now n (state_of parts.old)) }
     ensures taken { OnOk result (parts.new.memory.phys.taken ≤ bytes_below (n + 1) timeline.now.inputs) }
-    ensures noted { OnOk result (T.noted notes.new ≡ T.noted notes.old ++ kept T.KEEPS (told (footprint NW PAGES timeline.now n (state_of parts.old)))) }
+    ensures noted { OnOk result (T.noted notes.new ≡ noting (keeping T.KEEPS T.OBSERVES) (T.noted notes.old) (told (footprint NW PAGES timeline.now n (state_of parts.old))) []) }
 {
     let before = begin(parts, n, timeline)?;
     act_noted(parts, touches, before, timeline, notes)?;
+    Ok(())
+}
+
+/// Step n; all that it touches, and what is to be seen of it, is noted as it comes.
+#[inline(always)]
+#[tactic(auto, unfolding(crate::specs::Run::step, crate::specs::Run::footprint, crate::specs::Run::observed))]
+fn step_watched<const NW: usize, const PAGES: usize, T: Touches>(
+    parts: &mut Parts<NW, PAGES>,
+    n: u32,
+    timeline: &Timeline,
+    notes: &mut T,
+) -> Result<(), AllocError>
+    requires few_windows { NW ≤ 32 }
+    requires limit { timeline.now.limit ≡ ram_size PAGES }
+    requires delivered { parts.old.memory.phys.taken ≤ bytes_below n timeline.now.inputs }
+    ensures ok { OnOk result (state_of parts.new ≡ step NW PAGES timeline.now n (state_of parts.old)) }
+    ensures taken { OnOk result (parts.new.memory.phys.taken ≤ bytes_below (n + 1) timeline.now.inputs) }
+    ensures noted { OnOk result (T.noted notes.new ≡ noting (keeping T.KEEPS T.OBSERVES) (T.noted notes.old)
+        (footprint NW PAGES timeline.now n (state_of parts.old)) (observed NW PAGES timeline.now n (state_of parts.old))) }
+{
+    let before = begin(parts, n, timeline)?;
+    act_watched(parts, before, timeline, notes)?;
     Ok(())
 }
 
@@ -453,12 +236,41 @@ impl<const NW: usize, const PAGES: usize> Machine<NW, PAGES> {
         requires delivered { self.memory.taken ≤ bytes_below n timeline.now.inputs }
         ensures ok { IfOk result (λ m. m ≡ step NW PAGES timeline.now n self.entry) }
         ensures delivered { IfOk result (λ m. m.memory.taken ≤ bytes_below (n + 1) timeline.now.inputs) }
-        ensures noted { OnOk result (T.noted notes.new ≡ T.noted notes.old ++ kept T.KEEPS (told (footprint NW PAGES timeline.now n self.entry))) }
+        ensures noted { OnOk result (T.noted notes.new ≡ noting (keeping T.KEEPS T.OBSERVES) (T.noted notes.old) (told (footprint NW PAGES timeline.now n self.entry)) []) }
         ensures counted { OnOk result (work.new ≡ counted work.old) }
         ensures uncounted { OnErr result (work.new ≡ work.old) }
     {
         let mut machine = self;
         machine.advance(n, timeline, notes)?;
+        work.raise();
+        Ok(machine)
+    }
+
+    /// Step n, as `step` makes it, for an observer: `notes` takes each touch as it comes, where `step` tells a step's
+    /// touches at its end and each once, and it takes what is to be seen of the step.
+    ///
+    /// # Errors
+    ///
+    /// Those of `step`.
+    #[inline]
+    pub fn watch<T: Touches>(
+        self,
+        n: u32,
+        timeline: &Timeline,
+        notes: &mut T,
+        work: &mut Work,
+    ) -> Result<Self, AllocError>
+        requires limit { timeline.now.limit ≡ ram_size PAGES }
+        requires delivered { self.memory.taken ≤ bytes_below n timeline.now.inputs }
+        ensures ok { IfOk result (λ m. m ≡ step NW PAGES timeline.now n self.entry) }
+        ensures delivered { IfOk result (λ m. m.memory.taken ≤ bytes_below (n + 1) timeline.now.inputs) }
+        ensures noted { OnOk result (T.noted notes.new ≡ noting (keeping T.KEEPS T.OBSERVES) (T.noted notes.old)
+            (footprint NW PAGES timeline.now n self.entry) (observed NW PAGES timeline.now n self.entry)) }
+        ensures counted { OnOk result (work.new ≡ counted work.old) }
+        ensures uncounted { OnErr result (work.new ≡ work.old) }
+    {
+        let mut machine = self;
+        step_watched(&mut machine.parts, n, timeline, notes)?;
         work.raise();
         Ok(machine)
     }
@@ -475,7 +287,7 @@ impl<const NW: usize, const PAGES: usize> Machine<NW, PAGES> {
         requires delivered { self.old.memory.taken ≤ bytes_below n timeline.now.inputs }
         ensures ok { OnOk result (self.new ≡ step NW PAGES timeline.now n self.old) }
         ensures delivered { OnOk result (self.new.memory.taken ≤ bytes_below (n + 1) timeline.now.inputs) }
-        ensures noted { OnOk result (T.noted notes.new ≡ T.noted notes.old ++ kept T.KEEPS (told (footprint NW PAGES timeline.now n self.old))) }
+        ensures noted { OnOk result (T.noted notes.new ≡ noting (keeping T.KEEPS T.OBSERVES) (T.noted notes.old) (told (footprint NW PAGES timeline.now n self.old)) []) }
     {
         if T::KEEPS {
             step_noted(&mut self.parts, &mut self.touches, n, timeline, notes)?;

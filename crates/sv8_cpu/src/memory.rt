@@ -2,7 +2,7 @@
 
 ghost use Rattle.std.specs.Prelude.{◌≡◌, ℕ, ◌+◌, ◌*◌, ◌%◌, ◌/◌, ◌≤◌, ◌<◌, List, [], true, false, IfOk, OnOk, OnErr, slice_set, length};
 ghost use Rattle.sv8_model.specs.Action as model;
-ghost use Rattle.sv8_model.specs.Does.{Does};
+ghost use Rattle.sv8_model.specs.Does.{Does, keeping};
 ghost use Rattle.sv8_time.specs.Schedule.{bytes_below};
 ghost use Rattle.sv8_phys.specs.Memory.{bytes_in, ram_size, with_page};
 ghost use Rattle.sv8_phys.specs.Contents.{arrived, outside_of};
@@ -93,7 +93,7 @@ impl<const PAGES: usize> Memory<PAGES> {
     /// `AllocError` where memory for the note of an expiry cannot be had.
     #[inline(always)]
     pub fn tick<T: Touches>(&mut self, notes: &mut T) -> Result<(), AllocError>
-        ensures ok { OnOk result ((bytes : List ℕ) → Does T.KEEPS (tick self.old.phys.timer)
+        ensures ok { OnOk result ((bytes : List ℕ) → Does (keeping T.KEEPS T.OBSERVES) (tick self.old.phys.timer)
             (outside_of self.old.phys bytes) (outside_of self.new.phys bytes) self.new.phys.timer (T.noted notes.old) (T.noted notes.new)) }
         ensures taken { self.new.phys.taken ≡ self.old.phys.taken }
         ensures mmu { self.new.mmu ≡ self.old.mmu }
@@ -109,7 +109,7 @@ impl<const PAGES: usize> Memory<PAGES> {
     /// `AllocError` where memory for the note cannot be had.
     #[inline(always)]
     pub fn pending_among<T: Touches>(&self, levels: u16, notes: &mut T) -> Result<u32, AllocError>
-        ensures { IfOk result (λ word. (bytes : List ℕ) → Does T.KEEPS (model.ask_levels levels (λ word. model.done word))
+        ensures { IfOk result (λ word. (bytes : List ℕ) → Does (keeping T.KEEPS T.OBSERVES) (model.ask_levels levels (λ word. model.done word))
             (outside_of self.now.phys bytes) (outside_of self.now.phys bytes) word (T.noted notes.old) (T.noted notes.new)) }
     {
         let pending = self.physical.phys.pending_among(levels, notes)?;
@@ -131,7 +131,7 @@ impl<const PAGES: usize> Memory<PAGES> {
     ) -> Result<Response, AllocError>
         requires aligned { IsAligned request }
         requires delivered { self.old.phys.taken ≤ bytes_below before timeline.now.inputs }
-        ensures ok { IfOk result (λ r. MemoryDoes T.KEEPS (arrived before timeline.now) (access (ram_size PAGES) (units_of self.old) request)
+        ensures ok { IfOk result (λ r. MemoryDoes (keeping T.KEEPS T.OBSERVES) (arrived before timeline.now) (access (ram_size PAGES) (units_of self.old) request)
             self.old self.new r (T.noted notes.old) (T.noted notes.new)) }
         ensures taken { OnOk result (self.new.phys.taken ≤ bytes_below before timeline.now.inputs) }
     {
@@ -175,7 +175,7 @@ impl<const PAGES: usize> Memory<PAGES> {
         requires space { space_of asi ≡ Space.Virtual }
         requires aligned { at % bytes_in size ≡ 0 }
         requires delivered { self.old.phys.taken ≤ bytes_below before timeline.now.inputs }
-        ensures ok { IfOk result (λ r. MemoryDoes T.KEEPS (arrived before timeline.now) (access (ram_size PAGES) (units_of self.old) (AccessRequest.Load size asi at))
+        ensures ok { IfOk result (λ r. MemoryDoes (keeping T.KEEPS T.OBSERVES) (arrived before timeline.now) (access (ram_size PAGES) (units_of self.old) (AccessRequest.Load size asi at))
             self.old self.new r (T.noted notes.old) (T.noted notes.new)) }
         ensures taken { OnOk result (self.new.phys.taken ≤ bytes_below before timeline.now.inputs) }
     {
@@ -209,7 +209,7 @@ impl<const PAGES: usize> Memory<PAGES> {
         requires translated { translates self.old.mmu ≡ TRANSLATED }
         requires space { space_of asi ≡ Space.Virtual }
         requires aligned { at % bytes_in size ≡ 0 }
-        ensures ok { IfOk result (λ r. (bytes : List ℕ) → MemoryDoes T.KEEPS bytes (access (ram_size PAGES) (units_of self.old) (AccessRequest.Store size asi at value))
+        ensures ok { IfOk result (λ r. (bytes : List ℕ) → MemoryDoes (keeping T.KEEPS T.OBSERVES) bytes (access (ram_size PAGES) (units_of self.old) (AccessRequest.Store size asi at value))
             self.old self.new r (T.noted notes.old) (T.noted notes.new)) }
         ensures taken { OnOk result (self.new.phys.taken ≡ self.old.phys.taken) }
     {

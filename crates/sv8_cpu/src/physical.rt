@@ -1,19 +1,20 @@
 //! Accesses at a physical address: RAM, the devices, and the registers of the memory management unit, which record faults.
 
-ghost use Rattle.std.specs.Prelude.{◌≡◌, ℕ, ◌+◌, ◌*◌, ◌%◌, ◌/◌, ◌≤◌, ◌<◌, ◌∷◌, List, true, IfOk, OnOk, OnErr};
+ghost use Rattle.std.specs.Prelude.{◌≡◌, ℕ, ◌+◌, ◌*◌, ◌%◌, ◌/◌, ◌≤◌, ◌<◌, ◌∷◌, [], List, true, IfOk, OnOk, OnErr};
+ghost use Rattle.sv8_model.specs.Does.{keeping, noting};
 ghost use Rattle.sv8_time.specs.Schedule.{bytes_below};
 ghost use Rattle.sv8_phys.specs.declared.timer.Timer.{Timer};
 ghost use Rattle.sv8_phys.specs.Memory.{bytes_in, ram_size};
 ghost use Rattle.sv8_phys.specs.Contents.{arrived};
 ghost use Rattle.sv8_mmu.specs.Kept.{DiffersInPage};
 ghost use Rattle.sv8_cpu.specs.Units.{served, failed, is_hidden};
-ghost use Rattle.sv8_cpu.specs.Access.{load_type, store_type, bus_fault, fetched_from, load_answer, is_word, takes_byte, counts_bytes, plainly_loaded, loaded_from, answer_to_store, stored_at, exchanged_at};
+ghost use Rattle.sv8_cpu.specs.Access.{access_seen, seen_if, load_type, store_type, bus_fault, fetched_from, load_answer, is_word, takes_byte, counts_bytes, plainly_loaded, loaded_from, answer_to_store, stored_at, exchanged_at};
 ghost use Rattle.sv8_cpu.specs.View.{MemoryDoes, units_of};
 
 use std::alloc::AllocError;
-use sv8_iu::Response;
+use sv8_iu::{Response, low_word};
 use sv8_mmu::{AccessType, Fault, FaultType, Mmu};
-use sv8_phys::{BusError, INPUT, Phys, Size, Touches, WAITING};
+use sv8_phys::{AccessKind, BusError, INPUT, Observation, Phys, Size, Touches, WAITING};
 use sv8_time::Timeline;
 use sv8_trap::Trap;
 
@@ -73,6 +74,37 @@ fn counts_bytes(size: Size, pa: u64) -> bool
     ensures { result ≡ counts_bytes size pa }
 {
     is_word(size) && pa == WAITING
+}
+
+/// What an observer sees of an access.
+#[inline(always)]
+fn seen(kind: AccessKind, size: Size, va: u32, pa: u64) -> Observation
+    ensures { result ≡ access_seen kind size va pa }
+{
+    Observation::Access {
+        kind,
+        bytes: size.bytes(),
+        va,
+        pa,
+    }
+}
+
+/// Lets an observer see an access, if it was answered.
+#[inline(always)]
+fn show<A, T: Touches>(
+    answer: &Result<A, BusError>,
+    access: Observation,
+    notes: &mut T,
+) -> Result<(), AllocError>
+    ensures { OnOk result (T.noted notes.new ≡ noting (keeping T.KEEPS T.OBSERVES) (T.noted notes.old) [] (seen_if answer.now access)) }
+{
+    match answer {
+        Ok(_) => {
+            notes.observe(access)?;
+            Ok(())
+        }
+        Err(_) => Ok(()),
+    }
 }
 
 /// Whether NF keeps a fault in an address space from raising a trap.
@@ -157,7 +189,7 @@ impl<const PAGES: usize> Physical<PAGES> {
         notes: &mut T,
     ) -> Result<Response, AllocError>
         requires { pa % 4 ≡ 0 }
-        ensures ok { IfOk result (λ r. (bytes : List ℕ) → MemoryDoes T.KEEPS bytes (fetched_from (ram_size PAGES) (units_of self.old) asi va pa)
+        ensures ok { IfOk result (λ r. (bytes : List ℕ) → MemoryDoes (keeping T.KEEPS T.OBSERVES) bytes (fetched_from (ram_size PAGES) (units_of self.old) asi va pa)
             self.old self.new r (T.noted notes.old) (T.noted notes.new)) }
         ensures kept { self.new.phys.ram ≡ self.old.phys.ram }
         ensures pointer { self.new.mmu.table_pointer ≡ self.old.mmu.table_pointer }
@@ -165,6 +197,10 @@ impl<const PAGES: usize> Physical<PAGES> {
     {
         if self.phys.is_ram(pa) {
             let word = self.phys.read_ram(pa, Size::Word, notes)?;
+            notes.observe(Observation::Fetch {
+                from: pa,
+                word: low_word(word),
+            })?;
             Ok(Response::Value(word))
         } else {
             Ok(self.fail_bus(Trap::InstructionAccessException, asi, load_type(asi), va))
@@ -182,13 +218,14 @@ impl<const PAGES: usize> Physical<PAGES> {
         notes: &mut T,
     ) -> Result<Response, AllocError>
         requires { pa % bytes_in size ≡ 0 }
-        ensures ok { IfOk result (λ r. (bytes : List ℕ) → MemoryDoes T.KEEPS bytes (plainly_loaded (ram_size PAGES) (units_of self.old) size asi va pa)
+        ensures ok { IfOk result (λ r. (bytes : List ℕ) → MemoryDoes (keeping T.KEEPS T.OBSERVES) bytes (plainly_loaded (ram_size PAGES) (units_of self.old) size asi va pa)
             self.old self.new r (T.noted notes.old) (T.noted notes.new)) }
         ensures kept { self.new.phys.ram ≡ self.old.phys.ram }
         ensures pointer { self.new.mmu.table_pointer ≡ self.old.mmu.table_pointer }
         ensures taken { OnOk result (self.new.phys.taken ≡ self.old.phys.taken) }
     {
         let answer = self.phys.read_noted(pa, size, notes)?;
+        show(&answer, seen(AccessKind::Load, size, va, pa), notes)?;
         Ok(self.load_answer(asi, va, answer))
     }
 
@@ -207,7 +244,7 @@ impl<const PAGES: usize> Physical<PAGES> {
     ) -> Result<Response, AllocError>
         requires aligned { pa % bytes_in size ≡ 0 }
         requires delivered { self.old.phys.taken ≤ bytes_below before timeline.now.inputs }
-        ensures ok { IfOk result (λ r. MemoryDoes T.KEEPS (arrived before timeline.now) (loaded_from (ram_size PAGES) (units_of self.old) size asi va pa)
+        ensures ok { IfOk result (λ r. MemoryDoes (keeping T.KEEPS T.OBSERVES) (arrived before timeline.now) (loaded_from (ram_size PAGES) (units_of self.old) size asi va pa)
             self.old self.new r (T.noted notes.old) (T.noted notes.new)) }
         ensures kept { self.new.phys.ram ≡ self.old.phys.ram }
         ensures pointer { self.new.mmu.table_pointer ≡ self.old.mmu.table_pointer }
@@ -215,9 +252,11 @@ impl<const PAGES: usize> Physical<PAGES> {
     {
         if takes_byte(size, pa) {
             let byte = self.phys.take_input_noted(before, timeline, notes)?;
+            notes.observe(seen(AccessKind::Load, size, va, pa))?;
             Ok(Response::Value(byte as u64))
         } else if counts_bytes(size, pa) {
             let count = self.phys.waiting_noted(before, timeline, notes)?;
+            notes.observe(seen(AccessKind::Load, size, va, pa))?;
             Ok(Response::Value(count as u64))
         } else {
             let response = self.load_plain(size, asi, va, pa, notes)?;
@@ -239,7 +278,7 @@ impl<const PAGES: usize> Physical<PAGES> {
     ) -> Result<Response, AllocError>
         requires aligned { pa % bytes_in size ≡ 0 }
         requires delivered { self.old.phys.taken ≤ bytes_below before timeline.now.inputs }
-        ensures ok { IfOk result (λ r. MemoryDoes T.KEEPS (arrived before timeline.now) (loaded_from (ram_size PAGES) (units_of self.old) size asi va pa)
+        ensures ok { IfOk result (λ r. MemoryDoes (keeping T.KEEPS T.OBSERVES) (arrived before timeline.now) (loaded_from (ram_size PAGES) (units_of self.old) size asi va pa)
             self.old self.new r (T.noted notes.old) (T.noted notes.new)) }
         ensures kept { self.new.phys.ram ≡ self.old.phys.ram }
         ensures pointer { self.new.mmu.table_pointer ≡ self.old.mmu.table_pointer }
@@ -266,14 +305,14 @@ impl<const PAGES: usize> Physical<PAGES> {
         notes: &mut T,
     ) -> Result<Response, AllocError>
         requires { pa % bytes_in size ≡ 0 }
-        ensures ok { IfOk result (λ r. (bytes : List ℕ) → MemoryDoes T.KEEPS bytes (stored_at (ram_size PAGES) (units_of self.old) size asi value va pa)
+        ensures ok { IfOk result (λ r. (bytes : List ℕ) → MemoryDoes (keeping T.KEEPS T.OBSERVES) bytes (stored_at (ram_size PAGES) (units_of self.old) size asi value va pa)
             self.old self.new r (T.noted notes.old) (T.noted notes.new)) }
-        ensures kept { OnErr result (self.new.phys.ram ≡ self.old.phys.ram) }
         ensures page { DiffersInPage (pa / 4096) self.old.phys.ram self.new.phys.ram }
         ensures pointer { self.new.mmu.table_pointer ≡ self.old.mmu.table_pointer }
         ensures taken { OnOk result (self.new.phys.taken ≡ self.old.phys.taken) }
     {
         let answer = self.phys.write_noted(pa, size, value, notes)?;
+        show(&answer, seen(AccessKind::Store, size, va, pa), notes)?;
         Ok(self.store_answer(asi, va, answer))
     }
 
@@ -289,7 +328,7 @@ impl<const PAGES: usize> Physical<PAGES> {
         notes: &mut T,
     ) -> Result<Response, AllocError>
         requires { pa % bytes_in size ≡ 0 }
-        ensures ok { IfOk result (λ r. (bytes : List ℕ) → MemoryDoes T.KEEPS bytes (exchanged_at (ram_size PAGES) (units_of self.old) size asi value va pa)
+        ensures ok { IfOk result (λ r. (bytes : List ℕ) → MemoryDoes (keeping T.KEEPS T.OBSERVES) bytes (exchanged_at (ram_size PAGES) (units_of self.old) size asi value va pa)
             self.old self.new r (T.noted notes.old) (T.noted notes.new)) }
         ensures kept { OnErr result (self.new.phys.ram ≡ self.old.phys.ram) }
         ensures page { DiffersInPage (pa / 4096) self.old.phys.ram self.new.phys.ram }
@@ -299,6 +338,7 @@ impl<const PAGES: usize> Physical<PAGES> {
         if !self.phys.is_ram(pa) {
             return Ok(self.fail_bus(Trap::DataAccessException, asi, store_type(asi), va));
         }
+        notes.observe(seen(AccessKind::Exchange, size, va, pa))?;
         let old = self.phys.read_ram(pa, size, notes)?;
         self.phys.write_ram(pa, size, value, notes)?;
         Ok(Response::Value(old))

@@ -1,6 +1,7 @@
 //! Accesses by address space (Appendices H and I).
 
 ghost use Rattle.std.specs.Prelude.{◌≡◌, ℕ, ◌+◌, ◌*◌, ◌%◌, ◌/◌, ◌^◌, ◌≤◌, ◌<◌, List, true, false, IfOk, OnOk, OnErr};
+ghost use Rattle.sv8_model.specs.Does.{keeping};
 ghost use Rattle.sv8_time.specs.Schedule.{bytes_below};
 ghost use Rattle.sv8_phys.specs.declared.size.Size.{Size};
 ghost use Rattle.sv8_mmu.specs.Registers.{translates};
@@ -97,7 +98,7 @@ fn locate<const PAGES: usize, T: Touches>(
     notes: &mut T,
 ) -> Result<Place, AllocError>
     requires serves { Serves physical.old buffer.old }
-    ensures ok { IfOk result (λ place. (bytes : List ℕ) → Locates T.KEEPS bytes (ram_size PAGES) trap asi access
+    ensures ok { IfOk result (λ place. (bytes : List ℕ) → Locates (keeping T.KEEPS T.OBSERVES) bytes (ram_size PAGES) trap asi access
         physical.old physical.new place (T.noted notes.old) (T.noted notes.new)) }
     ensures address { IfOk result (λ place. IsPlace access.address place) }
     ensures taken { OnOk result (physical.new.phys.taken ≡ physical.old.phys.taken) }
@@ -123,7 +124,7 @@ fn fetch<const PAGES: usize, T: Touches>(
 ) -> Result<Response, AllocError>
     requires aligned { at % 4 ≡ 0 }
     requires serves { Serves physical.old buffer.old }
-    ensures ok { IfOk result (λ r. (bytes : List ℕ) → MemoryDoes T.KEEPS bytes (fetched_in (ram_size PAGES) (units_of physical.old) asi at)
+    ensures ok { IfOk result (λ r. (bytes : List ℕ) → MemoryDoes (keeping T.KEEPS T.OBSERVES) bytes (fetched_in (ram_size PAGES) (units_of physical.old) asi at)
         physical.old physical.new r (T.noted notes.old) (T.noted notes.new)) }
     ensures taken { OnOk result (physical.new.phys.taken ≡ physical.old.phys.taken) }
     ensures serves { Serves physical.new buffer.new }
@@ -164,7 +165,7 @@ fn load_virtual<const PAGES: usize, T: Touches>(
     requires aligned { at % bytes_in size ≡ 0 }
     requires delivered { physical.old.phys.taken ≤ bytes_below before timeline.now.inputs }
     requires serves { Serves physical.old buffer.old }
-    ensures ok { IfOk result (λ r. MemoryDoes T.KEEPS (arrived before timeline.now) (loaded_in (ram_size PAGES) (units_of physical.old) size asi at Space.Virtual)
+    ensures ok { IfOk result (λ r. MemoryDoes (keeping T.KEEPS T.OBSERVES) (arrived before timeline.now) (loaded_in (ram_size PAGES) (units_of physical.old) size asi at Space.Virtual)
         physical.old physical.new r (T.noted notes.old) (T.noted notes.new)) }
     ensures taken { OnOk result (physical.new.phys.taken ≤ bytes_below before timeline.now.inputs) }
     ensures serves { Serves physical.new buffer.new }
@@ -211,7 +212,7 @@ fn load_probe<const PAGES: usize, T: Touches>(
     at: u32,
     notes: &mut T,
 ) -> Result<Response, AllocError>
-    ensures ok { IfOk result (λ r. (bytes : List ℕ) → MemoryDoes T.KEEPS bytes (probed (ram_size PAGES) (units_of physical.now) size at)
+    ensures ok { IfOk result (λ r. (bytes : List ℕ) → MemoryDoes (keeping T.KEEPS T.OBSERVES) bytes (probed (ram_size PAGES) (units_of physical.now) size at)
         physical.now physical.now r (T.noted notes.old) (T.noted notes.new)) }
 {
     if !is_word(size) {
@@ -236,7 +237,7 @@ fn load<const PAGES: usize, T: Touches>(
     requires aligned { at % bytes_in size ≡ 0 }
     requires delivered { physical.old.phys.taken ≤ bytes_below before timeline.now.inputs }
     requires serves { Serves physical.old buffer.old }
-    ensures ok { IfOk result (λ r. MemoryDoes T.KEEPS (arrived before timeline.now) (loaded_in (ram_size PAGES) (units_of physical.old) size asi at (space_of asi))
+    ensures ok { IfOk result (λ r. MemoryDoes (keeping T.KEEPS T.OBSERVES) (arrived before timeline.now) (loaded_in (ram_size PAGES) (units_of physical.old) size asi at (space_of asi))
         physical.old physical.new r (T.noted notes.old) (T.noted notes.new)) }
     ensures taken { OnOk result (physical.new.phys.taken ≤ bytes_below before timeline.now.inputs) }
     ensures serves { Serves physical.new buffer.new }
@@ -281,14 +282,14 @@ fn store_physical<const PAGES: usize, T: Touches>(
     requires aligned { pa % bytes_in size ≡ 0 }
     requires small { pa < 2 ^ 44 }
     requires serves { Serves physical.old buffer.old }
-    ensures ok { IfOk result (λ r. (bytes : List ℕ) → MemoryDoes T.KEEPS bytes (stored_at (ram_size PAGES) (units_of physical.old) size asi value at pa)
+    ensures ok { IfOk result (λ r. (bytes : List ℕ) → MemoryDoes (keeping T.KEEPS T.OBSERVES) bytes (stored_at (ram_size PAGES) (units_of physical.old) size asi value at pa)
         physical.old physical.new r (T.noted notes.old) (T.noted notes.new)) }
     ensures taken { OnOk result (physical.new.phys.taken ≡ physical.old.phys.taken) }
     ensures serves { Serves physical.new buffer.new }
 {
-    let response = physical.store(size, asi, at, pa, value, notes)?;
+    let stored = physical.store(size, asi, at, pa, value, notes);
     buffer.forget_page((pa / 4096) as u32);
-    Ok(response)
+    stored
 }
 
 /// Stores to RAM or a device at a virtual address.
@@ -304,7 +305,7 @@ fn store_virtual<const PAGES: usize, T: Touches>(
 ) -> Result<Response, AllocError>
     requires aligned { at % bytes_in size ≡ 0 }
     requires serves { Serves physical.old buffer.old }
-    ensures ok { IfOk result (λ r. (bytes : List ℕ) → MemoryDoes T.KEEPS bytes (stored_in (ram_size PAGES) (units_of physical.old) size asi at value Space.Virtual)
+    ensures ok { IfOk result (λ r. (bytes : List ℕ) → MemoryDoes (keeping T.KEEPS T.OBSERVES) bytes (stored_in (ram_size PAGES) (units_of physical.old) size asi at value Space.Virtual)
         physical.old physical.new r (T.noted notes.old) (T.noted notes.new)) }
     ensures taken { OnOk result (physical.new.phys.taken ≡ physical.old.phys.taken) }
     ensures serves { Serves physical.new buffer.new }
@@ -373,7 +374,7 @@ fn store<const PAGES: usize, T: Touches>(
 ) -> Result<Response, AllocError>
     requires aligned { at % bytes_in size ≡ 0 }
     requires serves { Serves physical.old buffer.old }
-    ensures ok { IfOk result (λ r. (bytes : List ℕ) → MemoryDoes T.KEEPS bytes (stored_in (ram_size PAGES) (units_of physical.old) size asi at value (space_of asi))
+    ensures ok { IfOk result (λ r. (bytes : List ℕ) → MemoryDoes (keeping T.KEEPS T.OBSERVES) bytes (stored_in (ram_size PAGES) (units_of physical.old) size asi at value (space_of asi))
         physical.old physical.new r (T.noted notes.old) (T.noted notes.new)) }
     ensures taken { OnOk result (physical.new.phys.taken ≡ physical.old.phys.taken) }
     ensures serves { Serves physical.new buffer.new }
@@ -421,7 +422,7 @@ fn exchange_physical<const PAGES: usize, T: Touches>(
     requires aligned { pa % bytes_in size ≡ 0 }
     requires small { pa < 2 ^ 44 }
     requires serves { Serves physical.old buffer.old }
-    ensures ok { IfOk result (λ r. (bytes : List ℕ) → MemoryDoes T.KEEPS bytes (exchanged_at (ram_size PAGES) (units_of physical.old) size asi value at pa)
+    ensures ok { IfOk result (λ r. (bytes : List ℕ) → MemoryDoes (keeping T.KEEPS T.OBSERVES) bytes (exchanged_at (ram_size PAGES) (units_of physical.old) size asi value at pa)
         physical.old physical.new r (T.noted notes.old) (T.noted notes.new)) }
     ensures taken { OnOk result (physical.new.phys.taken ≡ physical.old.phys.taken) }
     ensures serves { Serves physical.new buffer.new }
@@ -443,7 +444,7 @@ fn exchange_virtual<const PAGES: usize, T: Touches>(
 ) -> Result<Response, AllocError>
     requires aligned { at % bytes_in size ≡ 0 }
     requires serves { Serves physical.old buffer.old }
-    ensures ok { IfOk result (λ r. (bytes : List ℕ) → MemoryDoes T.KEEPS bytes (exchanged_in (ram_size PAGES) (units_of physical.old) size asi at value Space.Virtual)
+    ensures ok { IfOk result (λ r. (bytes : List ℕ) → MemoryDoes (keeping T.KEEPS T.OBSERVES) bytes (exchanged_in (ram_size PAGES) (units_of physical.old) size asi at value Space.Virtual)
         physical.old physical.new r (T.noted notes.old) (T.noted notes.new)) }
     ensures taken { OnOk result (physical.new.phys.taken ≡ physical.old.phys.taken) }
     ensures serves { Serves physical.new buffer.new }
@@ -482,7 +483,7 @@ fn exchange<const PAGES: usize, T: Touches>(
 ) -> Result<Response, AllocError>
     requires aligned { at % bytes_in size ≡ 0 }
     requires serves { Serves physical.old buffer.old }
-    ensures ok { IfOk result (λ r. (bytes : List ℕ) → MemoryDoes T.KEEPS bytes (exchanged_in (ram_size PAGES) (units_of physical.old) size asi at value (space_of asi))
+    ensures ok { IfOk result (λ r. (bytes : List ℕ) → MemoryDoes (keeping T.KEEPS T.OBSERVES) bytes (exchanged_in (ram_size PAGES) (units_of physical.old) size asi at value (space_of asi))
         physical.old physical.new r (T.noted notes.old) (T.noted notes.new)) }
     ensures taken { OnOk result (physical.new.phys.taken ≡ physical.old.phys.taken) }
     ensures serves { Serves physical.new buffer.new }
@@ -520,7 +521,7 @@ pub fn load_untranslated<const PAGES: usize, T: Touches>(
     requires aligned { at % bytes_in size ≡ 0 }
     requires delivered { physical.old.phys.taken ≤ bytes_below before timeline.now.inputs }
     requires serves { Serves physical.old buffer.now }
-    ensures ok { IfOk result (λ r. MemoryDoes T.KEEPS (arrived before timeline.now) (access (ram_size PAGES) (units_of physical.old) (AccessRequest.Load size asi at))
+    ensures ok { IfOk result (λ r. MemoryDoes (keeping T.KEEPS T.OBSERVES) (arrived before timeline.now) (access (ram_size PAGES) (units_of physical.old) (AccessRequest.Load size asi at))
         physical.old physical.new r (T.noted notes.old) (T.noted notes.new)) }
     ensures taken { OnOk result (physical.new.phys.taken ≤ bytes_below before timeline.now.inputs) }
     ensures serves { Serves physical.new buffer.now }
@@ -544,7 +545,7 @@ pub fn store_untranslated<const PAGES: usize, T: Touches>(
     requires space { space_of asi ≡ Space.Virtual }
     requires aligned { at % bytes_in size ≡ 0 }
     requires serves { Serves physical.old buffer.old }
-    ensures ok { IfOk result (λ r. (bytes : List ℕ) → MemoryDoes T.KEEPS bytes (access (ram_size PAGES) (units_of physical.old) (AccessRequest.Store size asi at value))
+    ensures ok { IfOk result (λ r. (bytes : List ℕ) → MemoryDoes (keeping T.KEEPS T.OBSERVES) bytes (access (ram_size PAGES) (units_of physical.old) (AccessRequest.Store size asi at value))
         physical.old physical.new r (T.noted notes.old) (T.noted notes.new)) }
     ensures taken { OnOk result (physical.new.phys.taken ≡ physical.old.phys.taken) }
     ensures serves { Serves physical.new buffer.new }
@@ -568,7 +569,7 @@ pub fn load_translated<const PAGES: usize, T: Touches>(
     requires aligned { at % bytes_in size ≡ 0 }
     requires delivered { physical.old.phys.taken ≤ bytes_below before timeline.now.inputs }
     requires serves { Serves physical.old buffer.old }
-    ensures ok { IfOk result (λ r. MemoryDoes T.KEEPS (arrived before timeline.now) (loaded_in (ram_size PAGES) (units_of physical.old) size asi at Space.Virtual)
+    ensures ok { IfOk result (λ r. MemoryDoes (keeping T.KEEPS T.OBSERVES) (arrived before timeline.now) (loaded_in (ram_size PAGES) (units_of physical.old) size asi at Space.Virtual)
         physical.old physical.new r (T.noted notes.old) (T.noted notes.new)) }
     ensures taken { OnOk result (physical.new.phys.taken ≤ bytes_below before timeline.now.inputs) }
     ensures serves { Serves physical.new buffer.new }
@@ -590,7 +591,7 @@ pub fn store_translated<const PAGES: usize, T: Touches>(
 ) -> Result<Response, AllocError>
     requires aligned { at % bytes_in size ≡ 0 }
     requires serves { Serves physical.old buffer.old }
-    ensures ok { IfOk result (λ r. (bytes : List ℕ) → MemoryDoes T.KEEPS bytes (stored_in (ram_size PAGES) (units_of physical.old) size asi at value Space.Virtual)
+    ensures ok { IfOk result (λ r. (bytes : List ℕ) → MemoryDoes (keeping T.KEEPS T.OBSERVES) bytes (stored_in (ram_size PAGES) (units_of physical.old) size asi at value Space.Virtual)
         physical.old physical.new r (T.noted notes.old) (T.noted notes.new)) }
     ensures taken { OnOk result (physical.new.phys.taken ≡ physical.old.phys.taken) }
     ensures serves { Serves physical.new buffer.new }
@@ -613,7 +614,7 @@ pub fn access<const PAGES: usize, T: Touches>(
     requires aligned { IsAligned request }
     requires delivered { physical.old.phys.taken ≤ bytes_below before timeline.now.inputs }
     requires serves { Serves physical.old buffer.old }
-    ensures ok { IfOk result (λ r. MemoryDoes T.KEEPS (arrived before timeline.now) (access (ram_size PAGES) (units_of physical.old) request)
+    ensures ok { IfOk result (λ r. MemoryDoes (keeping T.KEEPS T.OBSERVES) (arrived before timeline.now) (access (ram_size PAGES) (units_of physical.old) request)
         physical.old physical.new r (T.noted notes.old) (T.noted notes.new)) }
     ensures taken { OnOk result (physical.new.phys.taken ≤ bytes_below before timeline.now.inputs) }
     ensures serves { Serves physical.new buffer.new }

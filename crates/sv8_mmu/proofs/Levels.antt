@@ -1,25 +1,27 @@
 -- The levels of a walk and of a probe, from one to the next.
-use Rattle.std.proofs.Common.{◌≡◌, ℕ, zero, suc, ◌+◌, ◌*◌, ◌-◌, ◌/◌, ◌%◌, ◌≤◌, true, false, nat_lt, ◌++◌, append_assoc, List, [], ◌∷◌, length, drop, take, get_or, refl, ap, ◌∙◌, arith}
+use Rattle.std.proofs.Common.{◌≡◌, ℕ, zero, suc, ◌+◌, ◌*◌, ◌-◌, ◌/◌, ◌%◌, ◌≤◌, true, false, nat_lt, ◌++◌, List, [], ◌∷◌, length, drop, take, get_or, refl, ap, ◌∙◌, arith}
 use Rattle.std.proofs.lemmas.List.{take_all, map-append}
 use Rattle.sv8_model.specs.declared.touch.Touch.TheVariants.{Read}
 use Rattle.sv8_model.specs.Outside.{Outside, word_of}
-use Rattle.sv8_model.specs.Action.{Action, done, load_word, result_of, after, touches}
-use Rattle.sv8_model.specs.Does.{Does}
-use Rattle.sv8_model.proofs.Common.{does_if_true}
+use Rattle.sv8_model.specs.Action.{Action, done, load_word, result_of, after, touches, observations}
+use Rattle.sv8_model.specs.Does.{Does, keeping, noting, touching}
+use Rattle.sv8_model.proofs.Common.{does_if_true, noting_then}
 use Rattle.sv8_mmu.specs.Kept.{reads_of}
 use Rattle.sv8_mmu.specs.Walk.{is_pointer, table_of, entry_at, looked_up, below_pointer}
 use Rattle.sv8_mmu.specs.Probe.{sought}
 
 -- an entry is read, and what it leads to
 pub entry_read : {R : Type 0} (limit at : ℕ) (outside : R) (use_entry : ℕ → Action R) (e : ℕ) (o : Outside) (r : R) (before now later : List ℕ) → nat_lt at limit ≡ true → at % 4 ≡ 0
-    → e ≡ word_of o.ram (at / 4) → now ≡ before ++ at ∷ [] → Does true (use_entry e) o o r (reads_of now) (reads_of later) → Does true (entry_at limit at outside use_entry) o o r (reads_of before) (reads_of later)
+    → e ≡ word_of o.ram (at / 4) → now ≡ before ++ at ∷ [] → Does (keeping true true) (use_entry e) o o r (touching (reads_of now)) (touching (reads_of later))
+    → Does (keeping true true) (entry_at limit at outside use_entry) o o r (touching (reads_of before)) (touching (reads_of later))
 entry_read limit at outside use_entry e o r before now later inside aligned is trail d =
-    does_if_true true (nat_lt at limit) (load_word (at / 4) use_entry) (done outside) o o r (reads_of before) (reads_of later) inside (record {
+    does_if_true (keeping true true) (nat_lt at limit) (load_word (at / 4) use_entry) (done outside) o o r (touching (reads_of before)) (touching (reads_of later)) inside (record {
       result = d.result ∙ ap (λ x. result_of (use_entry x) o) is;
       outside = d.outside ∙ ap (λ x. after (use_entry x) o) is;
-      noted = d.noted ∙ ap (λ t. reads_of t ++ touches (use_entry e) o) trail ∙ ap (λ t. t ++ touches (use_entry e) o) (map-append (λ x. Read x) before (at ∷ []))
-          ∙ append_assoc (reads_of before) (Read at ∷ []) (touches (use_entry e) o) ∙ ap (λ x. reads_of before ++ Read at ∷ touches (use_entry x) o) is
-          ∙ ap (λ x. reads_of before ++ Read x ∷ touches (use_entry (word_of o.ram (at / 4))) o) whole;
+      noted = d.noted ∙ ap (λ t. noting (keeping true true) (touching t) (touches (use_entry e) o) (observations (use_entry e) o)) (ap reads_of trail ∙ map-append (λ x. Read x) before (at ∷ []))
+          ∙ noting_then (keeping true true) (touching (reads_of before)) (Read at ∷ []) (touches (use_entry e) o) [] (observations (use_entry e) o)
+          ∙ ap (λ x. noting (keeping true true) (touching (reads_of before)) (Read at ∷ touches (use_entry x) o) (observations (use_entry x) o)) is
+          ∙ ap (λ x. noting (keeping true true) (touching (reads_of before)) (Read x ∷ touches (use_entry (word_of o.ram (at / 4))) o) (observations (use_entry (word_of o.ram (at / 4))) o)) whole;
     })
   where
     whole : at ≡ 4 * (at / 4)

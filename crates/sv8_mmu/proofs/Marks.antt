@@ -13,7 +13,7 @@ use Rattle.sv8_mmu.specs.declared.walk.Walked.{Walked}
 use Rattle.sv8_mmu.specs.declared.walk.Walked.TheVariants.{Page, Fault}
 use Rattle.sv8_mmu.specs.Walk.{met, looked_up, below_pointer, indices_of, walk}
 use Rattle.sv8_mmu.specs.Kept.{IsWalk, Kept, Stands, AllStand, AreAmong, NoneReads}
-use Rattle.sv8_mmu.proofs.Walks.{after_loads, walk_loads, other_word, stand_but_entry}
+use Rattle.sv8_mmu.proofs.Walks.{after_loads, walk_loads, other_word, stand_but_entry, same_noted}
 
 -- a word is an entry e in the one RAM and v in the other, and no other word differs
 pub record Differs (ram now : List ℕ) (k e v : ℕ) : Type 0 where
@@ -138,7 +138,8 @@ corrected limit ram table_pointer context va trail e l at v large kind fits s =
       does = λ o.
           let g = s.does o in
           let m = walk_marks limit (record o { ram = ram }) (record o { ram = now }) e v l at d table_pointer context va (sym g.result) in
-          record { result = sym m.2; outside = sym (after_loads a (record o { ram = now }) (walk_loads limit table_pointer context va)); noted = g.noted ∙ sym m.3 };
+          let loads = walk_loads limit table_pointer context va in
+          record { result = sym m.2; outside = sym (after_loads a (record o { ram = now }) loads); noted = g.noted ∙ same_noted a (record o { ram = ram }) (record o { ram = now }) loads m.3 };
     }
 
 -- the corrected walk stands with the rest

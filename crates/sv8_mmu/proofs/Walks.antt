@@ -4,7 +4,8 @@ use Rattle.std.specs.Prelude.{⊤}
 use Rattle.lru.proofs.Splits.{Contains-head, Contains-tail, Contains-cons, Contains-nil}
 use Rattle.sv8_model.specs.declared.touch.Touch.TheVariants.{Read}
 use Rattle.sv8_model.specs.Outside.{Outside, word_of, with_word}
-use Rattle.sv8_model.specs.Action.{Action, done, load_word, store_word, load_byte, store_byte, take_input, count_waiting, emit, ask_levels, clear_levels, expire, result_of, after, touches}
+use Rattle.sv8_model.specs.Action.{Action, done, load_word, store_word, load_byte, store_byte, take_input, count_waiting, emit, ask_levels, clear_levels, expire, observe, result_of, after, touches, observations}
+use Rattle.sv8_model.specs.Does.{Notes, keeping, no_notes, noting}
 use Rattle.sv8_model.proofs.Common.{length-with_word, word_other}
 use Rattle.sv8_mmu.specs.declared.fault_type.FaultType.TheVariants as of
 use Rattle.sv8_mmu.specs.declared.walk.Walk.{Walk}
@@ -26,6 +27,7 @@ OnlyLoads (emit b a) = ⊥
 OnlyLoads (ask_levels w g) = ⊥
 OnlyLoads (clear_levels w a) = ⊥
 OnlyLoads (expire a) = ⊥
+OnlyLoads (observe s a) = ⊥
 
 -- where the words that are loaded are the same, so is all else
 pub same_loads : {R : Type 0} (a : Action R) (o o' : Outside) → OnlyLoads a → ((k : ℕ) → Contains (touches a o) (Read (4 * k)) → word_of o'.ram k ≡ word_of o.ram k)
@@ -44,6 +46,7 @@ same_loads (emit b a) o o' l h = absurd l
 same_loads (ask_levels w g) o o' l h = absurd l
 same_loads (clear_levels w a) o o' l h = absurd l
 same_loads (expire a) o o' l h = absurd l
+same_loads (observe s a) o o' l h = absurd l
 
 pub after_loads : {R : Type 0} (a : Action R) (o : Outside) → OnlyLoads a → after a o ≡ o
 after_loads (done x) o l = refl
@@ -57,6 +60,27 @@ after_loads (emit b a) o l = absurd l
 after_loads (ask_levels w g) o l = absurd l
 after_loads (clear_levels w a) o l = absurd l
 after_loads (expire a) o l = absurd l
+after_loads (observe s a) o l = absurd l
+
+loads_unseen : {R : Type 0} (a : Action R) (o : Outside) → OnlyLoads a → observations a o ≡ []
+loads_unseen (done x) o l = refl
+loads_unseen (load_word k g) o l = loads_unseen (g (word_of o.ram k)) o (l _)
+loads_unseen (store_word k v a) o l = absurd l
+loads_unseen (load_byte i g) o l = absurd l
+loads_unseen (store_byte i v a) o l = absurd l
+loads_unseen (take_input g) o l = absurd l
+loads_unseen (count_waiting g) o l = absurd l
+loads_unseen (emit b a) o l = absurd l
+loads_unseen (ask_levels w g) o l = absurd l
+loads_unseen (clear_levels w a) o l = absurd l
+loads_unseen (expire a) o l = absurd l
+loads_unseen (observe s a) o l = absurd l
+
+-- what is noted of the same loads is the same
+pub same_noted : {R : Type 0} (a : Action R) (o o' : Outside) → OnlyLoads a → touches a o' ≡ touches a o
+    → noting (keeping true true) no_notes (touches a o) (observations a o) ≡ noting (keeping true true) no_notes (touches a o') (observations a o')
+same_noted a o o' l t =
+    ap (λ ss. noting (keeping true true) no_notes (touches a o) ss) (loads_unseen a o l ∙ sym (loads_unseen a o' l)) ∙ ap (λ ts. noting (keeping true true) no_notes ts (observations a o')) (sym t)
 
 -- ---- a walk makes nothing but loads
 
@@ -101,8 +125,8 @@ walk_same limit ram now table_pointer context va w h s = record {
       let a = walk limit table_pointer context va in
       let loads = walk_loads limit table_pointer context va in
       let d = s.does o in
-      let r = same_loads a (record o { ram = ram }) (record o { ram = now }) loads (λ k m. h k (read_place _ (4 * k) (subst (λ t. Contains t (Read (4 * k))) (sym d.noted) m))) in
-      record { result = d.result ∙ sym r.0; outside = sym (after_loads a (record o { ram = now }) loads); noted = d.noted ∙ sym r.1 };
+      let r = same_loads a (record o { ram = ram }) (record o { ram = now }) loads (λ k m. h k (read_place _ (4 * k) (subst (λ t. Contains t (Read (4 * k))) (sym (ap (λ (n : Notes). n.touches) d.noted)) m))) in
+      record { result = d.result ∙ sym r.0; outside = sym (after_loads a (record o { ram = now }) loads); noted = d.noted ∙ same_noted a (record o { ram = ram }) (record o { ram = now }) loads r.1 };
 }
 
 -- ---- words

@@ -4,7 +4,7 @@ use Rattle.lru.specs.LruCache.{LruCache}
 use Rattle.sv8_model.specs.declared.touch.Touch.{Touch}
 use Rattle.sv8_model.specs.declared.touch.Touch.TheVariants.{Read}
 use Rattle.sv8_model.specs.Outside.{Outside}
-use Rattle.sv8_model.specs.Does.{Does}
+use Rattle.sv8_model.specs.Does.{Does, keeping, no_notes, touching}
 use Rattle.sv8_mmu.specs.Walk.{walk}
 use Rattle.sv8_mmu.specs.declared.walk.Walked.{Walked}
 use Rattle.sv8_mmu.specs.declared.walk.Walked.TheVariants.{Page, Fault}
@@ -44,7 +44,7 @@ IsAnswer va access_type (Err f) = (f.level ≤ 3) × (f.access_type ≡ access_t
 -- w is the walk for a context and an address in that RAM, with the entries that it reads
 pub record IsWalk (limit : ℕ) (ram : List ℕ) (table_pointer context va : ℕ) (w : Walk) : Type 0 where
   pub end : IsEnd limit w.end
-  pub does : (o : Outside) → Does true (walk limit table_pointer context va) (record o { ram = ram }) (record o { ram = ram }) w.end [] (reads_of (places_of w.trail))
+  pub does : (o : Outside) → Does (keeping true true) (walk limit table_pointer context va) (record o { ram = ram }) (record o { ram = ram }) w.end no_notes (touching (reads_of (places_of w.trail)))
 
 -- ---- the buffer
 

@@ -1,7 +1,7 @@
 //! Translation whose faults are whole.
 
 ghost use Rattle.std.specs.Prelude.{◌≡◌, ℕ, List, [], true, IfOk, OnErr};
-ghost use Rattle.sv8_model.specs.Does.{Does};
+ghost use Rattle.sv8_model.specs.Does.{Does, keeping};
 ghost use Rattle.sv8_phys.specs.Memory.{ram_size};
 ghost use Rattle.sv8_phys.specs.Contents.{outside_of};
 ghost use Rattle.sv8_mmu.specs.Answers.{answer_of, answered_translation, translation_grows};
@@ -47,7 +47,7 @@ pub fn translate<const PAGES: usize, T: Touches>(
     notes: &mut T,
 ) -> Result<Result<u64, Fault>, AllocError>
     requires stand { AllStand (ram_size PAGES) phys.old.ram registers.now.table_pointer buffer.old }
-    ensures ok { IfOk result (λ r. (bytes : List ℕ) → Does T.KEEPS (answered_translation (ram_size PAGES) registers.now access.address access.access_type access.reach)
+    ensures ok { IfOk result (λ r. (bytes : List ℕ) → Does (keeping T.KEEPS T.OBSERVES) (answered_translation (ram_size PAGES) registers.now access.address access.access_type access.reach)
         (outside_of phys.old bytes) (outside_of phys.new bytes) r (T.noted notes.old) (T.noted notes.new)) }
     ensures answer { IfOk result (λ r. IsAnswer access.address access.access_type r) }
     ensures others { phys.new ≡ record phys.old { ram = phys.new.ram } }

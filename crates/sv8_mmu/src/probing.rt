@@ -2,7 +2,7 @@
 
 ghost use Rattle.std.specs.Prelude.{◌≡◌, ℕ, ◌<◌, ◌≤◌, ◌+◌, ◌-◌, ◌*◌, ◌/◌, ◌%◌, ◌^◌, List, [], ◌∷◌, length, IfOk, OnErr, true};
 ghost use Rattle.sv8_model.specs.Outside.{Outside};
-ghost use Rattle.sv8_model.specs.Does.{Does};
+ghost use Rattle.sv8_model.specs.Does.{Does, keeping, touching, no_notes};
 ghost use Rattle.sv8_phys.specs.Memory.{ram_size};
 ghost use Rattle.sv8_phys.specs.Contents.{outside_of};
 ghost use Rattle.sv8_mmu.specs.Walk.{table_of, entry_at, indices_of, root_of, walk};
@@ -54,8 +54,8 @@ fn sought<const PAGES: usize>(
     trail: &mut Trail,
 ) -> u32
     requires room { trail.old.count + length below.now ≤ 4 }
-    ensures { (o : Outside) → Does true (sought (ram_size PAGES) depth below.now entry)
-        (record o { ram = phys.now.ram }) (record o { ram = phys.now.ram }) result (reads_of (places_of trail.old)) (reads_of (places_of trail.new)) }
+    ensures { (o : Outside) → Does (keeping true true) (sought (ram_size PAGES) depth below.now entry)
+        (record o { ram = phys.now.ram }) (record o { ram = phys.now.ram }) result (touching (reads_of (places_of trail.old))) (touching (reads_of (places_of trail.new))) }
 {
     if depth == 0 {
         return found(below, entry);
@@ -83,8 +83,8 @@ fn probe_level<const PAGES: usize>(
     trail: &mut Trail,
 ) -> u32
     requires empty { trail.old.count ≡ 0 }
-    ensures { (o : Outside) → Does true (level_probed (ram_size PAGES) registers.now level va)
-        (record o { ram = phys.now.ram }) (record o { ram = phys.now.ram }) result [] (reads_of (places_of trail.new)) }
+    ensures { (o : Outside) → Does (keeping true true) (level_probed (ram_size PAGES) registers.now level va)
+        (record o { ram = phys.now.ram }) (record o { ram = phys.now.ram }) result no_notes (touching (reads_of (places_of trail.new))) }
 {
     let indices = indices_of(va);
     let root = table_of(registers.table_pointer) + 4 * (registers.context as u64);
@@ -101,8 +101,8 @@ fn probe_entire<const PAGES: usize>(
     va: u32,
     trail: &mut Trail,
 ) -> u32
-    ensures { (o : Outside) → Does true (entirely_probed (ram_size PAGES) registers.now va)
-        (record o { ram = phys.now.ram }) (record o { ram = phys.now.ram }) result [] (reads_of (places_of trail.new)) }
+    ensures { (o : Outside) → Does (keeping true true) (entirely_probed (ram_size PAGES) registers.now va)
+        (record o { ram = phys.now.ram }) (record o { ram = phys.now.ram }) result no_notes (touching (reads_of (places_of trail.new))) }
 {
     let walk = walk_for(phys, registers.table_pointer, registers.context, va);
     *trail = walk.trail;
@@ -121,8 +121,8 @@ fn probed_as<const PAGES: usize>(
     trail: &mut Trail,
 ) -> u32
     requires empty { trail.old.count ≡ 0 }
-    ensures { (o : Outside) → Does true (probed_as (ram_size PAGES) registers.now va kind)
-        (record o { ram = phys.now.ram }) (record o { ram = phys.now.ram }) result [] (reads_of (places_of trail.new)) }
+    ensures { (o : Outside) → Does (keeping true true) (probed_as (ram_size PAGES) registers.now va kind)
+        (record o { ram = phys.now.ram }) (record o { ram = phys.now.ram }) result no_notes (touching (reads_of (places_of trail.new))) }
 {
     match kind {
         ProbeKind::Page => probe_level(registers, phys, 3, va, trail),
@@ -143,8 +143,8 @@ fn probed<const PAGES: usize>(
 ) -> u32
     requires empty { trail.old.count ≡ 0 }
     requires nothing { places_of trail.old ≡ [] }
-    ensures { (o : Outside) → Does true (probe (ram_size PAGES) registers.now va)
-        (record o { ram = phys.now.ram }) (record o { ram = phys.now.ram }) result [] (reads_of (places_of trail.new)) }
+    ensures { (o : Outside) → Does (keeping true true) (probe (ram_size PAGES) registers.now va)
+        (record o { ram = phys.now.ram }) (record o { ram = phys.now.ram }) result no_notes (touching (reads_of (places_of trail.new))) }
 {
     let kind = va / 0x100 % 0x10;
     if kind < 4 {
@@ -169,7 +169,7 @@ pub fn probe<const PAGES: usize, T: Touches>(
     kind: ProbeKind,
     notes: &mut T,
 ) -> Result<u32, AllocError>
-    ensures ok { IfOk result (λ v. (bytes : List ℕ) → Does T.KEEPS (probed_as (ram_size PAGES) registers.now va kind)
+    ensures ok { IfOk result (λ v. (bytes : List ℕ) → Does (keeping T.KEEPS T.OBSERVES) (probed_as (ram_size PAGES) registers.now va kind)
         (outside_of phys.now bytes) (outside_of phys.now bytes) v (T.noted notes.old) (T.noted notes.new)) }
     ensures err { OnErr result (T.KEEPS ≡ true) }
 {
@@ -190,7 +190,7 @@ pub fn probe_by_address<const PAGES: usize, T: Touches>(
     va: u32,
     notes: &mut T,
 ) -> Result<u32, AllocError>
-    ensures ok { IfOk result (λ v. (bytes : List ℕ) → Does T.KEEPS (probe (ram_size PAGES) registers.now va)
+    ensures ok { IfOk result (λ v. (bytes : List ℕ) → Does (keeping T.KEEPS T.OBSERVES) (probe (ram_size PAGES) registers.now va)
         (outside_of phys.now bytes) (outside_of phys.now bytes) v (T.noted notes.old) (T.noted notes.new)) }
     ensures err { OnErr result (T.KEEPS ≡ true) }
 {

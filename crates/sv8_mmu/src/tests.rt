@@ -8,7 +8,7 @@ use crate::buffer::{Key, Purpose};
 use crate::*;
 use std::alloc::{AllocError, Global};
 use std::test::Fail;
-use sv8_phys::{NoTouches, Phys, Size, Touch, Touches};
+use sv8_phys::{NoTouches, Observation, Phys, Size, Touch, Touches};
 
 /// Keeps every note.
 #[derive(Drop)]
@@ -17,17 +17,23 @@ struct Told {
 }
 
 impl Touches for Told {
-    ghost use Rattle.std.specs.Prelude.{Bool, true, List};
-    ghost use Rattle.sv8_model.specs.declared.touch.Touch.{Touch};
+    ghost use Rattle.std.specs.Prelude.{Bool, true, false};
+    ghost use Rattle.sv8_model.specs.Does.{touching};
 
     const KEEPS: bool = true;
 
     ghost KEEPS = { true };
 
-    ghost noted = { λ t. t.notes.items };
+    ghost OBSERVES = { false };
+
+    ghost noted = { λ t. touching t.notes.items };
 
     fn note(&mut self, touch: Touch) -> Result<(), AllocError> {
         self.notes.push(touch)?;
+        Ok(())
+    }
+
+    fn observe(&mut self, _observation: Observation) -> Result<(), AllocError> {
         Ok(())
     }
 }
@@ -37,15 +43,22 @@ impl Touches for Told {
 struct Full;
 
 impl Touches for Full {
-    ghost use Rattle.std.specs.Prelude.{Bool, true, List, []};
+    ghost use Rattle.std.specs.Prelude.{Bool, true};
+    ghost use Rattle.sv8_model.specs.Does.{no_notes};
 
     const KEEPS: bool = true;
 
     ghost KEEPS = { true };
 
-    ghost noted = { λ _. [] };
+    ghost OBSERVES = { true };
+
+    ghost noted = { λ _. no_notes };
 
     fn note(&mut self, _touch: Touch) -> Result<(), AllocError> {
+        Err(AllocError)
+    }
+
+    fn observe(&mut self, _observation: Observation) -> Result<(), AllocError> {
         Err(AllocError)
     }
 }

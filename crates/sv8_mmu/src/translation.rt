@@ -2,7 +2,7 @@
 
 ghost use Rattle.std.specs.Prelude.{◌≡◌, ℕ, ◌<◌, ◌≤◌, ◌+◌, ◌*◌, ◌/◌, ◌%◌, ◌^◌, List, [], ◌++◌, IfOk, IfSome, OnOk, OnErr, true, slice_index_or};
 ghost use Rattle.sv8_model.specs.Outside.{Outside, with_word};
-ghost use Rattle.sv8_model.specs.Does.{Does, kept};
+ghost use Rattle.sv8_model.specs.Does.{Does, kept, noting, keeping, touching, no_notes};
 ghost use Rattle.sv8_phys.specs.Memory.{ram_size};
 ghost use Rattle.sv8_phys.specs.Contents.{outside_of};
 ghost use Rattle.sv8_mmu.specs.Registers.{translates};
@@ -168,7 +168,7 @@ fn is_served<const PAGES: usize>(phys: &Phys<PAGES>, reach: Reach, pa: u64) -> b
 
 /// Notes the entries that a walk read.
 pub fn note_reads<T: Touches>(trail: &Trail, notes: &mut T) -> Result<(), AllocError>
-    ensures ok { OnOk result (T.noted notes.new ≡ T.noted notes.old ++ kept T.KEEPS (reads_of (places_of trail.now))) }
+    ensures ok { OnOk result (T.noted notes.new ≡ noting (keeping T.KEEPS T.OBSERVES) (T.noted notes.old) (reads_of (places_of trail.now)) []) }
     ensures err { OnErr result (T.KEEPS ≡ true) }
 {
     for at in trail.places.iter().take(trail.count) {
@@ -225,7 +225,7 @@ fn store_marks<const PAGES: usize, T: Touches>(
 ) -> Result<(), AllocError>
     requires kind { old % 4 ≡ 2 → entry % 4 ≡ 2 }
     requires end { IsEnd (ram_size PAGES) (Walked.Page old level at) }
-    ensures ok { OnOk result ((answer : Translated) (bytes : List ℕ) → Does T.KEEPS (store_word (at / 4) entry (done answer))
+    ensures ok { OnOk result ((answer : Translated) (bytes : List ℕ) → Does (keeping T.KEEPS T.OBSERVES) (store_word (at / 4) entry (done answer))
         (outside_of phys.old bytes) (outside_of phys.new bytes) answer (T.noted notes.old) (T.noted notes.new)) }
     ensures others { phys.new ≡ record phys.old { ram = phys.new.ram } }
     ensures err { OnErr result (phys.new ≡ phys.old) }
@@ -251,7 +251,7 @@ fn settle<const PAGES: usize, T: Touches>(
     notes: &mut T,
 ) -> Result<Translated, AllocError>
     requires end { IsEnd (ram_size PAGES) walk.end }
-    ensures ok { IfOk result (λ r. (bytes : List ℕ) → Does T.KEEPS (settled (ram_size PAGES) access.address access.access_type access.reach walk.end)
+    ensures ok { IfOk result (λ r. (bytes : List ℕ) → Does (keeping T.KEEPS T.OBSERVES) (settled (ram_size PAGES) access.address access.access_type access.reach walk.end)
         (outside_of phys.old bytes) (outside_of phys.new bytes) r (T.noted notes.old) (T.noted notes.new)) }
     ensures answer { IfOk result (λ r. IsTranslation access.address r) }
     ensures others { phys.new ≡ record phys.old { ram = phys.new.ram } }
@@ -319,8 +319,8 @@ fn find_shortcut<'a, const PAGES: usize>(
     requires on { translates registers.now ≡ true }
     requires stand { AllStand (ram_size PAGES) phys.now.ram registers.now.table_pointer buffer.now }
     ensures answer { IfSome result (λ s. IsTranslation access.address (Translated.At s.0)) }
-    ensures does { IfSome result (λ s. (o : Outside) → Does true (translate (ram_size PAGES) registers.now access.address access.access_type access.reach)
-        (record o { ram = phys.now.ram }) (record o { ram = phys.now.ram }) (Translated.At s.0) [] (reads_of (places_of s.1.now))) }
+    ensures does { IfSome result (λ s. (o : Outside) → Does (keeping true true) (translate (ram_size PAGES) registers.now access.address access.access_type access.reach)
+        (record o { ram = phys.now.ram }) (record o { ram = phys.now.ram }) (Translated.At s.0) no_notes (touching (reads_of (places_of s.1.now)))) }
 {
     let key = Key {
         context: registers.context,
@@ -344,7 +344,7 @@ fn translate_by_tables<const PAGES: usize, T: Touches>(
 ) -> Result<Translated, AllocError>
     requires on { translates registers.now ≡ true }
     requires stand { AllStand (ram_size PAGES) phys.old.ram registers.now.table_pointer buffer.old }
-    ensures ok { IfOk result (λ r. (bytes : List ℕ) → Does T.KEEPS (translate (ram_size PAGES) registers.now access.address access.access_type access.reach)
+    ensures ok { IfOk result (λ r. (bytes : List ℕ) → Does (keeping T.KEEPS T.OBSERVES) (translate (ram_size PAGES) registers.now access.address access.access_type access.reach)
         (outside_of phys.old bytes) (outside_of phys.new bytes) r (T.noted notes.old) (T.noted notes.new)) }
     ensures answer { IfOk result (λ r. IsTranslation access.address r) }
     ensures others { phys.new ≡ record phys.old { ram = phys.new.ram } }
@@ -379,7 +379,7 @@ pub fn resolve<const PAGES: usize, T: Touches>(
     notes: &mut T,
 ) -> Result<Translated, AllocError>
     requires stand { AllStand (ram_size PAGES) phys.old.ram registers.now.table_pointer buffer.old }
-    ensures ok { IfOk result (λ r. (bytes : List ℕ) → Does T.KEEPS (translate (ram_size PAGES) registers.now access.address access.access_type access.reach)
+    ensures ok { IfOk result (λ r. (bytes : List ℕ) → Does (keeping T.KEEPS T.OBSERVES) (translate (ram_size PAGES) registers.now access.address access.access_type access.reach)
         (outside_of phys.old bytes) (outside_of phys.new bytes) r (T.noted notes.old) (T.noted notes.new)) }
     ensures answer { IfOk result (λ r. IsTranslation access.address r) }
     ensures others { phys.new ≡ record phys.old { ram = phys.new.ram } }

@@ -2,7 +2,7 @@
 
 ghost use Rattle.std.specs.Prelude.{◌≡◌, ℕ, ◌<◌, ◌≤◌, ◌+◌, ◌*◌, ◌/◌, ◌%◌, ◌^◌, List, [], ◌∷◌, ◌++◌, length, IfSome, MatchOption, nat_lt, true, false};
 ghost use Rattle.sv8_model.specs.Outside.{Outside, word_of};
-ghost use Rattle.sv8_model.specs.Does.{Does};
+ghost use Rattle.sv8_model.specs.Does.{Does, keeping, touching};
 ghost use Rattle.sv8_phys.specs.Memory.{ram_size};
 ghost use Rattle.sv8_mmu.specs.Walk.{table_of, indices_of, root_of, met, looked_up, below_pointer, walk};
 ghost use Rattle.sv8_mmu.specs.Kept.{places_of, reads_of, IsEnd, IsWalk};
@@ -107,8 +107,8 @@ fn below_pointer<const PAGES: usize>(
     requires levels { level + length below.now ≤ 3 }
     requires room { trail.old.count + length below.now ≤ 4 }
     ensures end { IsEnd (ram_size PAGES) result }
-    ensures walk { (o : Outside) → Does true (below_pointer (ram_size PAGES) level below.now entry)
-        (record o { ram = phys.now.ram }) (record o { ram = phys.now.ram }) result (reads_of (places_of trail.old)) (reads_of (places_of trail.new)) }
+    ensures walk { (o : Outside) → Does (keeping true true) (below_pointer (ram_size PAGES) level below.now entry)
+        (record o { ram = phys.now.ram }) (record o { ram = phys.now.ram }) result (touching (reads_of (places_of trail.old))) (touching (reads_of (places_of trail.new))) }
 {
     match below {
         [] => Walked::Fault {
@@ -138,8 +138,8 @@ fn look_up<const PAGES: usize>(
     requires levels { level + length below.now ≤ 3 }
     requires room { trail.old.count + length below.now ≤ 3 }
     ensures end { IsEnd (ram_size PAGES) result }
-    ensures walk { (o : Outside) → Does true (looked_up (ram_size PAGES) level at (below_pointer (ram_size PAGES) level below.now))
-        (record o { ram = phys.now.ram }) (record o { ram = phys.now.ram }) result (reads_of (places_of trail.old)) (reads_of (places_of trail.new)) }
+    ensures walk { (o : Outside) → Does (keeping true true) (looked_up (ram_size PAGES) level at (below_pointer (ram_size PAGES) level below.now))
+        (record o { ram = phys.now.ram }) (record o { ram = phys.now.ram }) result (touching (reads_of (places_of trail.old))) (touching (reads_of (places_of trail.new))) }
 {
     match entry_at(phys, at, trail) {
         None => Walked::Fault {

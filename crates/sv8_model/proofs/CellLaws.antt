@@ -1,5 +1,5 @@
 -- A cell holds what was put there last, and to put something changes no other cell.
-use Rattle.std.proofs.Common.{◌≡◌, ◌≢◌, ℕ, ◌<◌, ◌≤◌, ◌==◌, Bool, true, false, List, length, get_or, set, refl, sym, ◌∙◌, ap, arith, inl, inr}
+use Rattle.std.proofs.Common.{◌≡◌, ◌≢◌, ℕ, ◌==◌, Bool, false, List, length, get_or, set, refl, sym, ◌∙◌, ap, arith, inl, inr}
 use Rattle.std.proofs.Math.Seq.{set-set}
 use Rattle.std.proofs.lemmas.List.{length-set, get_or-set_same, get_or-set_other, get_or_past, set-get_or}
 use Rattle.std.proofs.lemmas.Bool.{true≢false, cases_eq, cases_lt}
@@ -8,7 +8,7 @@ use Rattle.std.proofs.lemmas.List.{ext_get_or}
 use Rattle.std.proofs.lemmas.Bool.Decides.{nat_tests}
 use Rattle.sv8_model.specs.Outside.{Outside}
 use Rattle.sv8_model.specs.Cells.{Cell, ram_byte, waiting_bytes, pending_level, Value, byte, queue, held, byte_of, queue_of, held_of, get, put, Has, Fits, same_cell}
-use Rattle.sv8_model.specs.Frame.{Cells, Alike, only, IsSound, CellsHold}
+use Rattle.sv8_model.specs.Frame.{Alike, only, IsSound, CellsHold}
 use Rattle.sv8_model.proofs.Lists.{set_each, IsByte}
 
 apart : (i j : ℕ) → (i == j) ≡ false → j ≢ i

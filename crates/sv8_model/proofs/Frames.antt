@@ -9,9 +9,9 @@ use Rattle.sv8_model.specs.declared.touch.Touch.TheVariants.{Read, Write, Input,
 use Rattle.sv8_model.specs.Words.{bit}
 use Rattle.sv8_model.specs.Levels.{asked, cleared, levels_word, every_level, timer_level}
 use Rattle.sv8_model.specs.Outside.{Outside, word_of, with_word, with_byte, word_address, oldest, without_oldest}
-use Rattle.sv8_model.specs.Action.{Action, done, load_word, store_word, load_byte, store_byte, take_input, count_waiting, emit, ask_levels, clear_levels, expire, result_of, after, touches}
-use Rattle.sv8_model.specs.Cells.{Cell, ram_byte, waiting_bytes, pending_level, byte, queue, held, byte_of, queue_of, held_of, get, is_read, is_written}
-use Rattle.sv8_model.specs.Frame.{Cells, Alike, Unread, remaining, Framed, FrameOfAction}
+use Rattle.sv8_model.specs.Action.{Action, done, load_word, store_word, load_byte, store_byte, take_input, count_waiting, emit, ask_levels, clear_levels, expire, observe, result_of, after, touches, observations}
+use Rattle.sv8_model.specs.Cells.{Cell, ram_byte, waiting_bytes, pending_level, byte, queue, held, byte_of, queue_of, held_of, get, is_written}
+use Rattle.sv8_model.specs.Frame.{Cells, Alike, Unread, remaining, FrameOfAction}
 use Rattle.sv8_model.proofs.Lists.{set_alike, set_sizes, length-with_word, with_word_alike, length-unmasked, get_or-unmasked, masked_alike}
 use Rattle.sv8_model.proofs.Footprints.{hits, covers, is_covered, is_read-more, is_covered-more, unread_covered, true_first, rest_false, read_covers, input_covers, levels_cover, write_keeps_levels}
 
@@ -38,6 +38,7 @@ left cells (t ∷ ts) = left (without cells t) ts
 record Same {R : Type 0} (cells : Cells) (a a' : Action R) (o o' : Outside) : Type 0 where
   pub result : result_of a o ≡ result_of a' o'
   pub touched : touches a o ≡ touches a' o'
+  pub observed : observations a o ≡ observations a' o'
   pub alike : Alike (left cells (touches a o)) (after a o) (after a' o')
 
 -- ---- what both outsides hold
@@ -146,46 +147,49 @@ expire_alike cs o o' h = record {
 -- ---- the law, by the accesses of the action
 
 same : {R : Type 0} (cs : Cells) (a : Action R) (o o' : Outside) → Alike cs o o' → SparesAll cs (touches a o) → Same cs a a o o'
-same cs (done x) o o' h u = record { result = refl; touched = refl; alike = h }
+same cs (done x) o o' h u = record { result = refl; touched = refl; observed = refl; alike = h }
 same cs (load_word k g) o o' h u =
     let ds = without cs (Read (4 * k)) in
     let ih = subst (λ w. Same ds (g (word_of o.ram k)) (g w) o o') (word_alike cs o o' k h u.0) (same ds (g (word_of o.ram k)) o o' (alike_on cs o o' (Read (4 * k)) (read_covers (4 * k)) h) u.1) in
-    record { result = ih.result; touched = ap (λ ts. Read (4 * k) ∷ ts) ih.touched; alike = ih.alike }
+    record { result = ih.result; touched = ap (λ ts. Read (4 * k) ∷ ts) ih.touched; observed = ih.observed; alike = ih.alike }
 same cs (store_word k v a) o o' h u =
     let ih = same (without cs (Write (4 * k))) a _ _ (store_alike cs o o' k v h) u.1 in
-    record { result = ih.result; touched = ap (λ ts. Write (4 * k) ∷ ts) ih.touched; alike = ih.alike }
+    record { result = ih.result; touched = ap (λ ts. Write (4 * k) ∷ ts) ih.touched; observed = ih.observed; alike = ih.alike }
 same cs (load_byte i g) o o' h u =
     let ds = without cs (Read (word_address i)) in
     let ih = subst (λ b. Same ds (g (get_or o.ram i 0)) (g b) o o') (spared_byte cs o o' i h u.0 i refl)
     (same ds (g (get_or o.ram i 0)) o o' (alike_on cs o o' (Read (word_address i)) (read_covers (word_address i)) h) u.1) in
-    record { result = ih.result; touched = ap (λ ts. Read (word_address i) ∷ ts) ih.touched; alike = ih.alike }
+    record { result = ih.result; touched = ap (λ ts. Read (word_address i) ∷ ts) ih.touched; observed = ih.observed; alike = ih.alike }
 same cs (store_byte i v a) o o' h u =
     let ih = same (without cs (Read (word_address i))) a _ _ (alike_on cs _ _ (Read (word_address i)) (read_covers (word_address i)) (byte_alike cs o o' i v h)) u.1 in
-    record { result = ih.result; touched = ap (λ ts. Read (word_address i) ∷ ts) ih.touched; alike = ih.alike }
+    record { result = ih.result; touched = ap (λ ts. Read (word_address i) ∷ ts) ih.touched; observed = ih.observed; alike = ih.alike }
 same cs (take_input g) o o' h u =
     let p : Outside = record o { waiting = without_oldest o.waiting } in
     let p' : Outside = record o' { waiting = without_oldest o'.waiting } in
     let e = waiting_alike cs o o' h u.0 in
     let ds = without cs Input in
     let ih = subst (λ b. Same ds (g (oldest o.waiting)) (g b) p p') (ap oldest e) (same ds (g (oldest o.waiting)) p p' (alike_on cs p p' Input input_covers (take_alike cs o o' h e)) u.1) in
-    record { result = ih.result; touched = ap (λ ts. Input ∷ ts) ih.touched; alike = ih.alike }
+    record { result = ih.result; touched = ap (λ ts. Input ∷ ts) ih.touched; observed = ih.observed; alike = ih.alike }
 same cs (count_waiting g) o o' h u =
     let ds = without cs Input in
     let ih = subst (λ n. Same ds (g (length o.waiting)) (g n) o o') (ap length (waiting_alike cs o o' h u.0)) (same ds (g (length o.waiting)) o o' (alike_on cs o o' Input input_covers h) u.1) in
-    record { result = ih.result; touched = ap (λ ts. Input ∷ ts) ih.touched; alike = ih.alike }
+    record { result = ih.result; touched = ap (λ ts. Input ∷ ts) ih.touched; observed = ih.observed; alike = ih.alike }
 same cs (emit b a) o o' h u =
     let ih = same cs a _ _ (emit_alike cs o o' b h) u in
-    record { result = ih.result; touched = ih.touched; alike = ih.alike }
+    record { result = ih.result; touched = ih.touched; observed = ih.observed; alike = ih.alike }
 same cs (ask_levels w g) o o' h u =
     let ds = without cs (Levels w) in
     let ih = subst (λ b. Same ds (g (asked w o.pending)) (g b) o o') (asked_alike cs o o' w h u.0) (same ds (g (asked w o.pending)) o o' (alike_on cs o o' (Levels w) (levels_cover w) h) u.1) in
-    record { result = ih.result; touched = ap (λ ts. Levels w ∷ ts) ih.touched; alike = ih.alike }
+    record { result = ih.result; touched = ap (λ ts. Levels w ∷ ts) ih.touched; observed = ih.observed; alike = ih.alike }
 same cs (clear_levels w a) o o' h u =
     let ih = same (without cs (Levels every_level)) a _ _ (alike_on cs _ _ (Levels every_level) (levels_cover every_level) (clear_alike cs o o' w h)) u.1 in
-    record { result = ih.result; touched = ap (λ ts. Levels every_level ∷ ts) ih.touched; alike = ih.alike }
+    record { result = ih.result; touched = ap (λ ts. Levels every_level ∷ ts) ih.touched; observed = ih.observed; alike = ih.alike }
 same cs (expire a) o o' h u =
     let ih = same (without cs Expiry) a _ _ (expire_alike cs o o' h) u.1 in
-    record { result = ih.result; touched = ap (λ ts. Expiry ∷ ts) ih.touched; alike = ih.alike }
+    record { result = ih.result; touched = ap (λ ts. Expiry ∷ ts) ih.touched; observed = ih.observed; alike = ih.alike }
+same cs (observe s a) o o' h u =
+    let ih = same cs a o o' h u in
+    record { result = ih.result; touched = ih.touched; observed = ap (λ ss. s ∷ ss) ih.observed; alike = ih.alike }
 
 -- ---- over the whole footprint
 
@@ -225,6 +229,7 @@ framed cs a o o' h u =
     record {
       result = all.result;
       touched = all.touched;
+      observed = all.observed;
       alike = record {
         size = all.alike.size;
         levels = all.alike.levels;

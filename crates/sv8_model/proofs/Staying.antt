@@ -1,18 +1,17 @@
 -- What an action neither reads nor writes stays; and it keeps bytes bytes, and levels levels.
-use Rattle.std.proofs.Common.{◌≡◌, ◌≢◌, ℕ, zero, suc, ◌+◌, ◌*◌, ◌/◌, ◌%◌, ◌^◌, ◌<◌, ◌≤◌, ◌==◌, Bool, true, false, List, [], ◌∷◌, ◌++◌, length, get_or, set, refl, sym, ◌∙◌, ap, arith, inl, inr}
-use Rattle.std.specs.Prelude.{not, ◌&&◌, ◌||◌}
-use Rattle.std.proofs.Math.Bool.{and-true}
+use Rattle.std.proofs.Common.{◌≡◌, ℕ, zero, suc, ◌+◌, ◌*◌, ◌%◌, ◌^◌, ◌<◌, ◌≤◌, Bool, true, false, List, [], ◌∷◌, ◌++◌, length, get_or, set, refl, sym, ◌∙◌, ap, arith, inl, inr}
+use Rattle.std.specs.Prelude.{not, ◌&&◌}
 use Rattle.std.proofs.lemmas.List.{length-set, get_or-set_other, get_or_past}
 use Rattle.std.proofs.lemmas.Bool.{true≢false, cases_lt}
 use Rattle.std.proofs.lemmas.Bool.Decides.{nat_tests}
 use Rattle.sv8_model.specs.declared.touch.Touch.{Touch}
 use Rattle.sv8_model.specs.declared.touch.Touch.TheVariants.{Read, Write, Input, Levels, Expiry}
 use Rattle.sv8_model.specs.Words.{bit}
-use Rattle.sv8_model.specs.Levels.{asked, cleared, every_level, timer_level}
-use Rattle.sv8_model.specs.Outside.{Outside, word_of, with_word, with_byte, word_address, oldest, without_oldest}
-use Rattle.sv8_model.specs.Action.{Action, done, load_word, store_word, load_byte, store_byte, take_input, count_waiting, emit, ask_levels, clear_levels, expire, result_of, after, touches}
-use Rattle.sv8_model.specs.Cells.{Cell, ram_byte, waiting_bytes, pending_level, byte, queue, held, get, is_read, is_written}
-use Rattle.sv8_model.specs.Frame.{Stays, UntouchedStays, IsSound, SoundStays}
+use Rattle.sv8_model.specs.Levels.{cleared, every_level, timer_level}
+use Rattle.sv8_model.specs.Outside.{Outside, with_word, with_byte, word_address, without_oldest}
+use Rattle.sv8_model.specs.Action.{Action, done, load_word, store_word, load_byte, store_byte, take_input, count_waiting, emit, ask_levels, clear_levels, expire, observe, after, touches}
+use Rattle.sv8_model.specs.Cells.{Cell, ram_byte, waiting_bytes, pending_level, byte, held, get, is_read}
+use Rattle.sv8_model.specs.Frame.{UntouchedStays, IsSound, SoundStays}
 use Rattle.sv8_model.proofs.Lists.{set_each, length-with_word, word_other, word_bytes, IsByte, length-unmasked, get_or-unmasked}
 use Rattle.sv8_model.proofs.Footprints.{hits, covers, is_covered, is_read-more, is_covered-more, unread_covered, first_false, rest_false}
 
@@ -145,6 +144,7 @@ sound (emit b a) o h = sound a _ (record { bytes = h.bytes; count = h.count; non
 sound (ask_levels w g) o h = sound (g _) o h
 sound (clear_levels w a) o h = sound a _ (clear_sound w o h)
 sound (expire a) o h = sound a _ (expire_sound o h)
+sound (observe s a) o h = sound a o h
 
 -- ---- the law
 
@@ -167,6 +167,7 @@ keeps (emit b a) o h = emitted (keeps a (record o { output = o.output ++ b ∷ [
 keeps (ask_levels w g) o h = then_keeps _ _ o o _ (one_self _ o) (keeps (g _) o h)
 keeps (clear_levels w a) o h = then_keeps _ _ o _ _ (clear_keeps w o h) (keeps a _ (clear_sound w o h))
 keeps (expire a) o h = then_keeps _ _ o _ _ (expire_keeps o) (keeps a _ (expire_sound o h))
+keeps (observe s a) o h = keeps a o h
 
 pub stays : {R : Type 0} → UntouchedStays R
 stays a o h =

@@ -1,8 +1,8 @@
 -- The frame law: an action that reads no cell in which two outsides differ does the same in both; and what it does not touch stays.
-use Rattle.std.specs.Prelude.{◌≡◌, ℕ, ◌<◌, Bool, true, false, not, ◌&&◌, List, [], ◌∷◌, length, slice_index_or}
+use Rattle.std.specs.Prelude.{◌≡◌, ℕ, ◌<◌, Bool, true, false, not, ◌&&◌, List, length, slice_index_or}
 use Rattle.sv8_model.specs.declared.touch.Touch.{Touch}
 use Rattle.sv8_model.specs.Outside.{Outside}
-use Rattle.sv8_model.specs.Action.{Action, result_of, after, touches}
+use Rattle.sv8_model.specs.Action.{Action, result_of, after, touches, observations}
 use Rattle.sv8_model.specs.Cells.{Cell, Value, get, put, Has, Fits, same_cell, is_read, is_written}
 
 -- a set of cells
@@ -28,6 +28,7 @@ remaining cells ts c = cells c && not (is_written ts c)
 pub record Framed {R : Type 0} (cells : Cells) (a : Action R) (o o' : Outside) : Type 0 where
   pub result : result_of a o ≡ result_of a o'
   pub touched : touches a o ≡ touches a o'
+  pub observed : observations a o ≡ observations a o'
   pub alike : Alike (remaining cells (touches a o)) (after a o) (after a o')
 
 abbrev pub FrameOfAction : Type 0 → Type 0

@@ -5,6 +5,8 @@
 #![tactic(auto)]
 
 pub mod laws;
+mod observation;
 mod touch;
 
+pub use observation::{AccessKind, Observation};
 pub use touch::Touch;

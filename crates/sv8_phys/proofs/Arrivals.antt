@@ -11,10 +11,9 @@ use Rattle.sv8_time.specs.Schedule.{Input, Schedule, input_bytes, byte_count, by
 use Rattle.sv8_time.specs.Order.{Each, Rising}
 use Rattle.sv8_time.proofs.Common.{filter_none}
 use Rattle.sv8_model.specs.Outside.{Outside, oldest, without_oldest}
-use Rattle.sv8_model.specs.declared.touch.Touch.{Touch}
 use Rattle.sv8_model.specs.declared.touch.Touch.TheVariants as note
 use Rattle.sv8_model.specs.Action.{done, take_input, count_waiting}
-use Rattle.sv8_model.specs.Does.{Does, kept}
+use Rattle.sv8_model.specs.Does.{Does, Keeps, Notes, noting}
 use Rattle.sv8_phys.specs.Contents.{Contents, arrived, outside_of}
 
 -- the bytes of some inputs are as many as these have together
@@ -77,36 +76,36 @@ module _ (before : ℕ) (schedule : Schedule) where
       ap (λ bs. slice_get bs k) (sym (first_bytes before schedule.inputs rising)) ∙ get_of_take (bytes_below before schedule.inputs) k (input_bytes schedule.inputs) below
 
 -- what is noted of either access
-abbrev noted_input : Bool → List Touch → List Touch → Type 0
-noted_input keeps ts ts1 = ts1 ≡ ts ++ kept keeps (note.Input ∷ [])
+abbrev noted_input : Keeps → Notes → Notes → Type 0
+noted_input keeps ns ns1 = ns1 ≡ noting keeps ns (note.Input ∷ []) []
 
-module _ (keeps : Bool) (m : Contents) (bytes : List ℕ) (ts ts1 : List Touch) (note : noted_input keeps ts ts1) where
+module _ (keeps : Keeps) (m : Contents) (bytes : List ℕ) (ns ns1 : Notes) (note : noted_input keeps ns ns1) where
   abbrev waits : List ℕ → Outside
   waits w = record { ram = m.ram; waiting = w; output = m.output; pending = m.pending }
 
-  byte_taken : (b : ℕ) → slice_get bytes m.taken ≡ Some b → Does keeps (take_input (λ x. done x)) (outside_of m bytes) (outside_of (record m { taken = m.taken + 1 }) bytes) b ts ts1
+  byte_taken : (b : ℕ) → slice_get bytes m.taken ≡ Some b → Does keeps (take_input (λ x. done x)) (outside_of m bytes) (outside_of (record m { taken = m.taken + 1 }) bytes) b ns ns1
   byte_taken b e =
       let next : suc m.taken ≡ m.taken + 1 = omega arith in
       let d = drop_at bytes m.taken b e ∙ ap (λ n. b ∷ drop n bytes) next in
       record { result = sym (ap oldest d); outside = ap waits (sym (ap without_oldest d)); noted = note }
 
-  none_taken : length bytes ≤ m.taken → Does keeps (take_input (λ x. done x)) (outside_of m bytes) (outside_of m bytes) 0 ts ts1
+  none_taken : length bytes ≤ m.taken → Does keeps (take_input (λ x. done x)) (outside_of m bytes) (outside_of m bytes) 0 ns ns1
   none_taken all =
       let d : drop m.taken bytes ≡ [] = drop_of_length-le bytes all in
       record { result = sym (ap oldest d); outside = ap waits (d ∙ sym (ap without_oldest d)); noted = note }
 
-  waiting_counted : (n : ℕ) → n ≡ length bytes - m.taken → Does keeps (count_waiting (λ x. done x)) (outside_of m bytes) (outside_of m bytes) n ts ts1
+  waiting_counted : (n : ℕ) → n ≡ length bytes - m.taken → Does keeps (count_waiting (λ x. done x)) (outside_of m bytes) (outside_of m bytes) n ns ns1
   waiting_counted n e = record { result = e ∙ sym (length-drop m.taken bytes); outside = refl; noted = note }
 
 -- the same under a timeline
-module _ (keeps : Bool) (m : Contents) (before : ℕ) (schedule : Schedule) (ts ts1 : List Touch) (note : noted_input keeps ts ts1) where
+module _ (keeps : Keeps) (m : Contents) (before : ℕ) (schedule : Schedule) (ns ns1 : Notes) (note : noted_input keeps ns ns1) where
   pub takes_byte : (b : ℕ) (m1 : Contents) → m1 ≡ record m { taken = m.taken + 1 } → Rising input_before schedule.inputs → m.taken < bytes_below before schedule.inputs
-      → slice_get (input_bytes schedule.inputs) m.taken ≡ Some b → Does keeps (take_input (λ x. done x)) (outside_of m (arrived before schedule)) (outside_of m1 (arrived before schedule)) b ts ts1
-  takes_byte b m1 next rising below e = rw next (byte_taken keeps m (arrived before schedule) ts ts1 note b (arrived_byte before schedule m.taken rising below ∙ e))
+      → slice_get (input_bytes schedule.inputs) m.taken ≡ Some b → Does keeps (take_input (λ x. done x)) (outside_of m (arrived before schedule)) (outside_of m1 (arrived before schedule)) b ns ns1
+  takes_byte b m1 next rising below e = rw next (byte_taken keeps m (arrived before schedule) ns ns1 note b (arrived_byte before schedule m.taken rising below ∙ e))
 
   pub takes_none : bytes_below before schedule.inputs ≤ m.taken
-      → Does keeps (take_input (λ x. done x)) (outside_of m (arrived before schedule)) (outside_of m (arrived before schedule)) 0 ts ts1
-  takes_none all = none_taken keeps m (arrived before schedule) ts ts1 note (rw (length-arrived before schedule) all)
+      → Does keeps (take_input (λ x. done x)) (outside_of m (arrived before schedule)) (outside_of m (arrived before schedule)) 0 ns ns1
+  takes_none all = none_taken keeps m (arrived before schedule) ns ns1 note (rw (length-arrived before schedule) all)
 
   -- a byte that came in stands in the list of all
   pub is_there : Rising input_before schedule.inputs → m.taken < bytes_below before schedule.inputs → slice_get (input_bytes schedule.inputs) m.taken ≡ None → ⊥
@@ -116,5 +115,5 @@ module _ (keeps : Bool) (m : Contents) (before : ℕ) (schedule : Schedule) (ts 
       omega arith
 
   pub counts_waiting : (n : ℕ) → n ≡ bytes_below before schedule.inputs - m.taken
-      → Does keeps (count_waiting (λ x. done x)) (outside_of m (arrived before schedule)) (outside_of m (arrived before schedule)) n ts ts1
-  counts_waiting n e = waiting_counted keeps m (arrived before schedule) ts ts1 note n (e ∙ ap (λ k. k - m.taken) (sym (length-arrived before schedule)))
+      → Does keeps (count_waiting (λ x. done x)) (outside_of m (arrived before schedule)) (outside_of m (arrived before schedule)) n ns ns1
+  counts_waiting n e = waiting_counted keeps m (arrived before schedule) ns ns1 note n (e ∙ ap (λ k. k - m.taken) (sym (length-arrived before schedule)))

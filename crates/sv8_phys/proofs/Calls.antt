@@ -3,7 +3,7 @@ use Rattle.std.proofs.Common.{arith, ◌≡◌, ◌≤◌, ℕ, ◌+◌, ◌-◌
 use Rattle.std.proofs.lemmas.List.{length-drop}
 use Rattle.sv8_model.specs.Outside.{Outside, without_oldest}
 use Rattle.sv8_model.specs.Action.{done, expire}
-use Rattle.sv8_model.specs.Does.{Does}
+use Rattle.sv8_model.specs.Does.{DoesUnnoted}
 use Rattle.sv8_phys.specs.declared.timer.Timer.{Timer}
 use Rattle.sv8_phys.specs.Contents.{Contents, outside_of}
 use Rattle.sv8_phys.specs.Devices.{tick}
@@ -22,12 +22,12 @@ module _ (m m1 : Contents) (same : m1.taken ≡ m.taken) where
   joined n outside taken timer =
       same_parts n m1 (ap (λ (o : Outside). o.ram) outside) (same ∙ taken) (ap (λ (o : Outside). o.output) outside) (ap (λ (o : Outside). o.pending) outside) timer
 
-  pub ticks : Does false (tick m.timer) (outside_of m []) (outside_of m1 []) m1.timer [] [] → m1 ≡ ticked m
+  pub ticks : DoesUnnoted (tick m.timer) (outside_of m []) (outside_of m1 []) m1.timer → m1 ≡ ticked m
   unfolding tick ticked
   ticks d = by (m.timer.count == 0) (m.timer.count == 1) d where
     by : (none last : Bool)
-        → Does false (cond none (done m.timer) (cond last (expire (done (record m.timer { count = m.timer.reload }))) (done (record m.timer { count = m.timer.count - 1 }))))
-        (outside_of m []) (outside_of m1 []) m1.timer [] []
+        → DoesUnnoted (cond none (done m.timer) (cond last (expire (done (record m.timer { count = m.timer.reload }))) (done (record m.timer { count = m.timer.count - 1 }))))
+        (outside_of m []) (outside_of m1 []) m1.timer
         → m1 ≡ cond none m (cond last (expired m) (counted_down m))
     by true last d = joined m d.outside refl d.result
     by false true d = joined (expired m) d.outside refl d.result

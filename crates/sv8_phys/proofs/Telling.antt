@@ -5,8 +5,8 @@ use Rattle.std.specs.Int.Bits.{or_zero_r}
 use Rattle.std.proofs.Math.ListN.{drop_of_length-le}
 use Rattle.std.proofs.lemmas.List.{append_assoc, drop_more}
 use Rattle.sv8_model.specs.declared.touch.Touch.{Touch}
-use Rattle.sv8_model.specs.Does.{kept}
-use Rattle.sv8_model.proofs.Common.{kept_append}
+use Rattle.sv8_model.specs.Does.{Keeps, Notes, noting}
+use Rattle.sv8_model.proofs.Common.{noting_then}
 use Rattle.sv8_phys.specs.Notes.{levels_of, levels_in}
 use Rattle.sv8_phys.proofs.Bits.{or_groups}
 
@@ -30,14 +30,12 @@ filter-append p (x ∷ xs) ys = elim (p x) as (λ b. cond b (x ∷ filter p (xs 
 ]
 
 -- one note more is handed on, if it passes
-pub handed_more : (keeps : Bool) (p : Touch → Bool) (ts : List Touch) (i : ℕ) (d : Touch) (before after all : List Touch) → i < length ts
-    → after ≡ before ++ kept keeps (filter p (get_or ts i d ∷ [])) → before ++ kept keeps (filter p (drop i ts)) ≡ all
-    → after ++ kept keeps (filter p (drop (i + 1) ts)) ≡ all
+pub handed_more : (keeps : Keeps) (p : Touch → Bool) (ts : List Touch) (i : ℕ) (d : Touch) (before after all : Notes) → i < length ts
+    → after ≡ noting keeps before (filter p (get_or ts i d ∷ [])) [] → noting keeps before (filter p (drop i ts)) [] ≡ all
+    → noting keeps after (filter p (drop (i + 1) ts)) [] ≡ all
 handed_more keeps p ts i d before after all h e so_far =
     let t = get_or ts i d in
     let rest = drop (i + 1) ts in
-    ap (λ l. l ++ kept keeps (filter p rest)) e ∙ append_assoc before _ _
-    ∙ ap (λ l. before ++ l) (sym (kept_append keeps (filter p (t ∷ [])) (filter p rest))
-    ∙ ap (kept keeps) (sym (filter-append p (t ∷ []) rest))
-    ∙ ap (λ l. kept keeps (filter p l)) (sym (drop_more ts i d h)))
+    ap (λ (l : Notes). noting keeps l (filter p rest) []) e ∙ noting_then keeps before (filter p (t ∷ [])) (filter p rest) [] []
+    ∙ ap (λ l. noting keeps before l []) (sym (filter-append p (t ∷ []) rest) ∙ ap (filter p) (sym (drop_more ts i d h)))
     ∙ so_far

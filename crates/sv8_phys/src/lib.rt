@@ -21,6 +21,6 @@ pub use page::Page;
 pub use phys::{INPUT, OUTPUT, PENDING, Phys, TIMER_COUNT, TIMER_RELOAD, WAITING};
 pub use size::Size;
 pub use step_touches::StepTouches;
-pub use sv8_model::Touch;
+pub use sv8_model::{AccessKind, Observation, Touch};
 pub use timer::Timer;
 pub use touch::{NoTouches, Touches};

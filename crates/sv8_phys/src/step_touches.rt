@@ -1,14 +1,14 @@
 //! The notes of one step, kept until its end.
 
 ghost use Rattle.std.specs.Prelude.{◌≡◌, ◌∷◌, ◌++◌, [], IfOk, OnOk, OnErr, true, filter};
-ghost use Rattle.sv8_model.specs.Does.{kept};
+ghost use Rattle.sv8_model.specs.Does.{kept, noting, keeping};
 ghost use Rattle.sv8_model.specs.Footprint.{reads_word};
 ghost use Rattle.sv8_phys.specs.Notes.{is_told, levels_of, levels_in, levels_note, told};
 
 use crate::touch::Touches;
 use std::alloc::{AllocError, Global};
 use std::marker::Model;
-use sv8_model::Touch;
+use sv8_model::{Observation, Touch};
 
 /// The notes of one step, in their order.
 ///
@@ -29,16 +29,24 @@ impl Model for StepTouches {
 }
 
 impl Touches for StepTouches {
-    ghost use Rattle.std.specs.Prelude.{Bool, true};
+    ghost use Rattle.std.specs.Prelude.{Bool, true, false};
+    ghost use Rattle.sv8_model.specs.Does.{touching};
 
     const KEEPS: bool = true;
 
     ghost KEEPS = { true };
 
-    ghost noted = { λ s. s };
+    ghost OBSERVES = { false };
+
+    ghost noted = { λ s. touching s };
 
     fn note(&mut self, touch: Touch) -> Result<(), AllocError> {
         self.notes.push(touch)?;
+        Ok(())
+    }
+
+    #[inline(always)]
+    fn observe(&mut self, _observation: Observation) -> Result<(), AllocError> {
         Ok(())
     }
 }
@@ -73,7 +81,7 @@ fn levels_of_note(note: Touch) -> u16
 
 /// Hands on a note, if it is told as it stands.
 fn tell_note<T: Touches>(from: &[Touch], note: Touch, notes: &mut T) -> Result<(), AllocError>
-    ensures ok { OnOk result (T.noted notes.new ≡ T.noted notes.old ++ kept T.KEEPS (filter (is_told from.now) (note ∷ []))) }
+    ensures ok { OnOk result (T.noted notes.new ≡ noting (keeping T.KEEPS T.OBSERVES) (T.noted notes.old) (filter (is_told from.now) (note ∷ [])) []) }
     ensures err { OnErr result (T.KEEPS ≡ true) }
 {
     if !stands(from, note) {
@@ -88,7 +96,7 @@ fn tell_note<T: Touches>(from: &[Touch], note: Touch, notes: &mut T) -> Result<(
 /// Hands on the notes that are told as they stand. Answers all levels that some note asks.
 #[tactic(auto, using(crate::proofs::Telling::handed_more, crate::proofs::Telling::levels_more, crate::proofs::Telling::levels_all))]
 fn tell_standing<T: Touches>(from: &[Touch], notes: &mut T) -> Result<u16, AllocError>
-    ensures ok { OnOk result (T.noted notes.new ≡ T.noted notes.old ++ kept T.KEEPS (filter (is_told from.now) from.now)) }
+    ensures ok { OnOk result (T.noted notes.new ≡ noting (keeping T.KEEPS T.OBSERVES) (T.noted notes.old) (filter (is_told from.now) from.now) []) }
     ensures levels { IfOk result (λ levels. levels ≡ levels_in from.now) }
     ensures err { OnErr result (T.KEEPS ≡ true) }
 {
@@ -102,7 +110,7 @@ fn tell_standing<T: Touches>(from: &[Touch], notes: &mut T) -> Result<u16, Alloc
 
 /// Hands on a note of levels, if there are any.
 fn tell_levels<T: Touches>(levels: u16, notes: &mut T) -> Result<(), AllocError>
-    ensures ok { OnOk result (T.noted notes.new ≡ T.noted notes.old ++ kept T.KEEPS (levels_note levels)) }
+    ensures ok { OnOk result (T.noted notes.new ≡ noting (keeping T.KEEPS T.OBSERVES) (T.noted notes.old) (levels_note levels) []) }
     ensures err { OnErr result (T.KEEPS ≡ true) }
 {
     if levels == 0 {
@@ -117,7 +125,7 @@ fn tell_levels<T: Touches>(levels: u16, notes: &mut T) -> Result<(), AllocError>
 /// Hands on what is told of some notes.
 #[tactic(auto, using(sv8_model::proofs::Common::kept_append), unfolding(crate::specs::Notes::told))]
 fn tell_all<T: Touches>(from: &[Touch], notes: &mut T) -> Result<(), AllocError>
-    ensures ok { OnOk result (T.noted notes.new ≡ T.noted notes.old ++ kept T.KEEPS (told from.now)) }
+    ensures ok { OnOk result (T.noted notes.new ≡ noting (keeping T.KEEPS T.OBSERVES) (T.noted notes.old) (told from.now) []) }
     ensures err { OnErr result (T.KEEPS ≡ true) }
 {
     match tell_standing(from, notes) {
@@ -143,7 +151,7 @@ impl StepTouches {
     /// `AllocError` where those that take the notes cannot have memory for them. Some may have been handed on then, and
     /// none is forgotten.
     pub fn tell<T: Touches>(&mut self, notes: &mut T) -> Result<(), AllocError>
-        ensures ok { OnOk result (T.noted notes.new ≡ T.noted notes.old ++ kept T.KEEPS (told self.old)) }
+        ensures ok { OnOk result (T.noted notes.new ≡ noting (keeping T.KEEPS T.OBSERVES) (T.noted notes.old) (told self.old) []) }
         ensures empty { OnOk result (self.new ≡ []) }
         ensures err { OnErr result (T.KEEPS ≡ true) }
         ensures stays { OnErr result (self.new ≡ self.old) }

@@ -15,17 +15,23 @@ struct Told {
 }
 
 impl Touches for Told {
-    ghost use Rattle.std.specs.Prelude.{Bool, true, List};
-    ghost use Rattle.sv8_model.specs.declared.touch.Touch.{Touch};
+    ghost use Rattle.std.specs.Prelude.{Bool, true, false};
+    ghost use Rattle.sv8_model.specs.Does.{touching};
 
     const KEEPS: bool = true;
 
     ghost KEEPS = { true };
 
-    ghost noted = { λ t. t.notes.items };
+    ghost OBSERVES = { false };
+
+    ghost noted = { λ t. touching t.notes.items };
 
     fn note(&mut self, touch: Touch) -> Result<(), AllocError> {
         self.notes.push(touch)?;
+        Ok(())
+    }
+
+    fn observe(&mut self, _observation: Observation) -> Result<(), AllocError> {
         Ok(())
     }
 }

@@ -1,32 +1,44 @@
-//! Notes of what a step touches.
+//! Notes of what a step touches, and of what an observer sees of it.
 
-ghost use Rattle.std.specs.Prelude.{◌≡◌, ◌++◌, ◌∷◌, [], true, OnOk, OnErr};
-ghost use Rattle.sv8_model.specs.Does.{kept};
+ghost use Rattle.std.specs.Prelude.{◌≡◌, ◌∷◌, [], true, OnOk, OnErr};
+ghost use Rattle.sv8_model.specs.Does.{keeping, noting};
 
 use std::alloc::AllocError;
-use sv8_model::Touch;
+use sv8_model::{Observation, Touch};
 
-/// What takes notes of touches.
+/// What takes notes of touches and of observations.
 pub trait Touches {
-    ghost use Rattle.std.specs.Prelude.{Bool, List};
-    ghost use Rattle.sv8_model.specs.declared.touch.Touch.{Touch};
+    ghost use Rattle.std.specs.Prelude.{Bool};
+    ghost use Rattle.sv8_model.specs.Does.{Notes};
 
-    /// Whether notes are kept.
+    /// Whether notes of touches are kept.
     const KEEPS: bool;
 
     ghost KEEPS: { Bool };
 
-    /// The touches noted so far.
-    ghost noted: { Self → List Touch };
+    // Whether notes of observations are kept.
+    ghost OBSERVES: { Bool };
 
-    /// Takes a note, behind those taken so far.
+    /// The notes taken so far.
+    ghost noted: { Self → Notes };
+
+    /// Takes a note of a touch, behind those taken so far.
     ///
     /// # Errors
     ///
-    /// `AllocError` where memory for the note cannot be had; never where no notes are kept.
+    /// `AllocError` where memory for the note cannot be had; never where no notes of touches are kept.
     fn note(&mut self, touch: Touch) -> Result<(), AllocError>
-        ensures ok { OnOk result (noted self.new ≡ noted self.old ++ kept KEEPS (touch ∷ [])) }
+        ensures ok { OnOk result (noted self.new ≡ noting (keeping KEEPS OBSERVES) (noted self.old) (touch ∷ []) []) }
         ensures err { OnErr result (KEEPS ≡ true) };
+
+    /// Takes a note of an observation, behind those taken so far.
+    ///
+    /// # Errors
+    ///
+    /// `AllocError` where memory for the note cannot be had; never where no notes of observations are kept.
+    fn observe(&mut self, observation: Observation) -> Result<(), AllocError>
+        ensures ok { OnOk result (noted self.new ≡ noting (keeping KEEPS OBSERVES) (noted self.old) [] (observation ∷ [])) }
+        ensures err { OnErr result (OBSERVES ≡ true) };
 }
 
 /// Keeps no notes.
@@ -34,15 +46,23 @@ pub trait Touches {
 pub struct NoTouches;
 
 impl Touches for NoTouches {
-    ghost use Rattle.std.specs.Prelude.{Bool, false, List, []};
+    ghost use Rattle.std.specs.Prelude.{Bool, false};
+    ghost use Rattle.sv8_model.specs.Does.{no_notes};
 
     const KEEPS: bool = false;
 
     ghost KEEPS = { false };
 
-    ghost noted = { λ _. [] };
+    ghost OBSERVES = { false };
+
+    ghost noted = { λ _. no_notes };
 
     fn note(&mut self, _touch: Touch) -> Result<(), AllocError> {
+        Ok(())
+    }
+
+    #[inline(always)]
+    fn observe(&mut self, _observation: Observation) -> Result<(), AllocError> {
         Ok(())
     }
 }

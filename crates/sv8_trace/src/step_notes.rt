@@ -8,7 +8,7 @@ ghost use Rattle.sv8_trace.specs.Cells.{cell_of};
 use crate::cell::Cell;
 use std::alloc::{AllocError, Global};
 use std::marker::Model;
-use sv8_phys::{Touch, Touches};
+use sv8_phys::{Observation, Touch, Touches};
 
 /// The interrupt level of the timer.
 pub(crate) const TIMER_LEVEL: u32 = 10;
@@ -29,16 +29,24 @@ impl Model for StepNotes {
 }
 
 impl Touches for StepNotes {
-    ghost use Rattle.std.specs.Prelude.{Bool, true};
+    ghost use Rattle.std.specs.Prelude.{Bool, true, false};
+    ghost use Rattle.sv8_model.specs.Does.{touching};
 
     const KEEPS: bool = true;
 
     ghost KEEPS = { true };
 
-    ghost noted = { λ n. n };
+    ghost OBSERVES = { false };
+
+    ghost noted = { λ n. touching n };
 
     fn note(&mut self, touch: Touch) -> Result<(), AllocError> {
         self.touches.push(touch)?;
+        Ok(())
+    }
+
+    #[inline(always)]
+    fn observe(&mut self, _observation: Observation) -> Result<(), AllocError> {
         Ok(())
     }
 }

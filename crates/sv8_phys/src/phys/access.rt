@@ -1,7 +1,7 @@
 //! Loads and stores.
 
 ghost use Rattle.std.specs.Prelude.{◌≡◌, ℕ, ◌+◌, ◌*◌, ◌/◌, ◌%◌, ◌<◌, ◌++◌, ◌∷◌, [], true, false, List, IfOk, OnOk, OnErr};
-ghost use Rattle.sv8_model.specs.Does.{Does, DoesUnnoted, kept};
+ghost use Rattle.sv8_model.specs.Does.{Does, DoesUnnoted, noting, keeping};
 ghost use Rattle.sv8_model.specs.Outside.{word_address};
 ghost use Rattle.sv8_phys.specs.Memory.{bytes_in, ram_size};
 ghost use Rattle.sv8_phys.specs.Contents.{outside_of};
@@ -72,7 +72,7 @@ impl<const PAGES: usize> Phys<PAGES> {
         notes: &mut T,
     ) -> Result<Result<u64, BusError>, AllocError>
         requires { pa % bytes_in size ≡ 0 }
-        ensures ok { IfOk result (λ r. (bytes : List ℕ) → Does T.KEEPS (load (ram_size PAGES) self.now.timer size pa)
+        ensures ok { IfOk result (λ r. (bytes : List ℕ) → Does (keeping T.KEEPS T.OBSERVES) (load (ram_size PAGES) self.now.timer size pa)
             (outside_of self.now bytes) (outside_of self.now bytes) r (T.noted notes.old) (T.noted notes.new)) }
         ensures growth { OnErr result (load_grows T.KEEPS (ram_size PAGES) size pa ≡ true) }
     {
@@ -100,7 +100,7 @@ impl<const PAGES: usize> Phys<PAGES> {
         notes: &mut T,
     ) -> Result<Result<(), BusError>, AllocError>
         requires { pa % bytes_in size ≡ 0 }
-        ensures ok { IfOk result (λ r. (bytes : List ℕ) → Does T.KEEPS (store (ram_size PAGES) self.old.timer size pa value)
+        ensures ok { IfOk result (λ r. (bytes : List ℕ) → Does (keeping T.KEEPS T.OBSERVES) (store (ram_size PAGES) self.old.timer size pa value)
             (outside_of self.old bytes) (outside_of self.new bytes) (record { answer = r; timer = self.new.timer }) (T.noted notes.old) (T.noted notes.new)) }
         ensures taken { self.new.taken ≡ self.old.taken }
         ensures err { OnErr result (self.new ≡ self.old) }
@@ -129,7 +129,7 @@ impl<const PAGES: usize> Phys<PAGES> {
     ) -> Result<u64, AllocError>
         requires within { pa < ram_size PAGES }
         requires aligned { pa % bytes_in size ≡ 0 }
-        ensures ok { IfOk result (λ v. (bytes : List ℕ) → Does T.KEEPS (ram_load size pa)
+        ensures ok { IfOk result (λ v. (bytes : List ℕ) → Does (keeping T.KEEPS T.OBSERVES) (ram_load size pa)
             (outside_of self.now bytes) (outside_of self.now bytes) v (T.noted notes.old) (T.noted notes.new)) }
         ensures err { OnErr result (T.KEEPS ≡ true) }
     {
@@ -153,7 +153,7 @@ impl<const PAGES: usize> Phys<PAGES> {
     ) -> Result<(), AllocError>
         requires within { pa < ram_size PAGES }
         requires aligned { pa % bytes_in size ≡ 0 }
-        ensures ok { OnOk result ((bytes : List ℕ) (timer : Timer) → Does T.KEEPS (ram_store size pa value (stored_with timer))
+        ensures ok { OnOk result ((bytes : List ℕ) (timer : Timer) → Does (keeping T.KEEPS T.OBSERVES) (ram_store size pa value (stored_with timer))
             (outside_of self.old bytes) (outside_of self.new bytes) (stored_with timer) (T.noted notes.old) (T.noted notes.new)) }
         ensures others { self.new ≡ record self.old { ram = self.new.ram } }
         ensures err { OnErr result (self.new ≡ self.old) }
@@ -177,7 +177,7 @@ fn word_address(pa: u32) -> u32
 #[inline(always)]
 fn note_load<T: Touches>(pa: u32, size: Size, notes: &mut T) -> Result<(), AllocError>
     requires { pa % bytes_in size ≡ 0 }
-    ensures ok { OnOk result (T.noted notes.new ≡ T.noted notes.old ++ kept T.KEEPS (load_touches size pa)) }
+    ensures ok { OnOk result (T.noted notes.new ≡ noting (keeping T.KEEPS T.OBSERVES) (T.noted notes.old) (load_touches size pa) []) }
     ensures err { OnErr result (T.KEEPS ≡ true) }
 {
     match size {
@@ -200,7 +200,7 @@ fn note_load<T: Touches>(pa: u32, size: Size, notes: &mut T) -> Result<(), Alloc
 #[inline(always)]
 fn note_store<T: Touches>(pa: u32, size: Size, notes: &mut T) -> Result<(), AllocError>
     requires { pa % bytes_in size ≡ 0 }
-    ensures ok { OnOk result (T.noted notes.new ≡ T.noted notes.old ++ kept T.KEEPS (store_touches size pa)) }
+    ensures ok { OnOk result (T.noted notes.new ≡ noting (keeping T.KEEPS T.OBSERVES) (T.noted notes.old) (store_touches size pa) []) }
     ensures err { OnErr result (T.KEEPS ≡ true) }
 {
     match size {
@@ -219,7 +219,7 @@ fn note_store<T: Touches>(pa: u32, size: Size, notes: &mut T) -> Result<(), Allo
 #[inline(always)]
 #[tactic(auto, using(sv8_model::proofs::Common::kept_append))]
 fn note_both<T: Touches>(first: Touch, second: Touch, notes: &mut T) -> Result<(), AllocError>
-    ensures ok { OnOk result (T.noted notes.new ≡ T.noted notes.old ++ kept T.KEEPS (first ∷ second ∷ [])) }
+    ensures ok { OnOk result (T.noted notes.new ≡ noting (keeping T.KEEPS T.OBSERVES) (T.noted notes.old) (first ∷ second ∷ []) []) }
     ensures err { OnErr result (T.KEEPS ≡ true) }
 {
     notes.note(first)?;

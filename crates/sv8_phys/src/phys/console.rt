@@ -2,7 +2,7 @@
 
 ghost use Rattle.std.specs.Prelude.{◌≡◌, ◌≤◌, true, length, IfOk, OnErr};
 ghost use Rattle.sv8_model.specs.Action as model;
-ghost use Rattle.sv8_model.specs.Does.{Does};
+ghost use Rattle.sv8_model.specs.Does.{Does, keeping};
 ghost use Rattle.sv8_model.specs.Outside.{oldest};
 ghost use Rattle.sv8_time.specs.Schedule.{bytes_below};
 ghost use Rattle.sv8_phys.specs.Contents.{arrived, outside_of};
@@ -52,7 +52,7 @@ impl<const PAGES: usize> Phys<PAGES> {
         notes: &mut T,
     ) -> Result<u8, AllocError>
         requires { self.old.taken ≤ bytes_below before timeline.now.inputs }
-        ensures ok { IfOk result (λ byte. Does T.KEEPS (model.take_input (λ b. model.done b))
+        ensures ok { IfOk result (λ byte. Does (keeping T.KEEPS T.OBSERVES) (model.take_input (λ b. model.done b))
             (outside_of self.old (arrived before timeline.now)) (outside_of self.new (arrived before timeline.now)) byte (T.noted notes.old) (T.noted notes.new)) }
         ensures others { self.new ≡ record self.old { taken = self.new.taken } }
         ensures delivered { self.new.taken ≤ bytes_below before timeline.now.inputs }
@@ -81,7 +81,7 @@ impl<const PAGES: usize> Phys<PAGES> {
         notes: &mut T,
     ) -> Result<u32, AllocError>
         requires { self.now.taken ≤ bytes_below before timeline.now.inputs }
-        ensures ok { IfOk result (λ count. Does T.KEEPS (model.count_waiting (λ n. model.done n))
+        ensures ok { IfOk result (λ count. Does (keeping T.KEEPS T.OBSERVES) (model.count_waiting (λ n. model.done n))
             (outside_of self.now (arrived before timeline.now)) (outside_of self.now (arrived before timeline.now)) count (T.noted notes.old) (T.noted notes.new)) }
         ensures quiet { OnErr result (T.KEEPS ≡ true) }
     {

@@ -1,8 +1,5 @@
-use Rattle.sv8_cpu.proofs.Accesses.{stand_on, stand_written}
+use Rattle.sv8_cpu.proofs.Accesses.{stand_written}
 use Rattle.sv8_cpu.proofs.spaces.store_physical.Goals as goal
 
-pub returns-in_err-response-clause-serves : goal.returns-in_err-response-clause-serves
-returns-in_err-response-clause-serves g c = stand_on _ _ _ _ _ _ c.in_err-response.ensures.kept c.store.ensures.pointer c.requires.serves
-
 pub returns-clause-serves : goal.returns-clause-serves
-returns-clause-serves g c = stand_written _ _ _ _ _ c.store.ensures.pointer (c.forget_page.ensures.stand _ _ _ _ c.store.ensures.page c.requires.serves)
+returns-clause-serves g c = stand_written _ _ _ _ _ c.store-stored.ensures.pointer (c.forget_page.ensures.stand _ _ _ _ c.store-stored.ensures.page c.requires.serves)

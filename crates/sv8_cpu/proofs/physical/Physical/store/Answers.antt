@@ -1,11 +1,11 @@
-use Rattle.std.proofs.Common.{refl, sym, subst, ◌/◌, []}
+use Rattle.std.proofs.Common.{refl, sym, subst, ◌/◌, [], rules}
 use Rattle.sv8_mmu.specs.Kept.{DiffersInPage}
 use Rattle.sv8_cpu.proofs.Accesses.{plain_store}
 use Rattle.sv8_cpu.proofs.Pages.{stored_in_page}
 use Rattle.sv8_cpu.proofs.physical.Physical.store.Goals as goal
 
 pub returns-clause-ok : goal.returns-clause-ok
-returns-clause-ok g c = λ bytes. plain_store _ _ _ _ _ _ _ _ _ _ _ _ _ _ _ (rw (c.store_answer.ensures.memory) refl) (c.in_ok-answer.ensures.ok bytes) c.store_answer.ensures.served
+returns-clause-ok g c = λ bytes. plain_store _ _ _ _ _ _ _ _ _ _ _ _ _ _ _ _ (rw (c.store_answer.ensures.memory) refl) (c.in_ok-answer.ensures.ok bytes) (search rules) c.store_answer.ensures.served
 
 pub returns-clause-page : goal.returns-clause-page
 returns-clause-page g c =

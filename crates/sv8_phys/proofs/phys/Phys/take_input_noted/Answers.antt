@@ -1,4 +1,5 @@
 use Rattle.std.proofs.Common.{rules, arith, ap, ◌+◌}
+use Rattle.sv8_model.specs.Does.{keeping}
 use Rattle.sv8_phys.specs.Contents.{Contents}
 use Rattle.sv8_phys.proofs.Arrivals.{takes_byte, takes_none, is_there}
 use Rattle.sv8_phys.proofs.phys.Phys.take_input_noted.Goals as goal
@@ -10,7 +11,7 @@ returns-in-Some-clause-ok g c =
 
 pub returns-in_default-clause-ok : goal.returns-in_default-clause-ok
 returns-in_default-clause-ok g c =
-    absurd (is_there g.T.Touches.KEEPS c.args.self.now c.args.before c.args.timeline.now _ _ c.in_ok-note.ensures.ok
+    absurd (is_there (keeping g.T.Touches.KEEPS g.T.Touches.OBSERVES) c.args.self.now c.args.before c.args.timeline.now _ _ c.in_ok-note.ensures.ok
     c.byte.ensures.steps_rise (omega (arith, c.delivered.ensures.value, ap (λ (m : Contents). m.taken) c.self.view_is)) (search rules))
 
 pub returns-else-self-delivered-clause-ok : goal.returns-else-self-delivered-clause-ok

@@ -1,6 +1,6 @@
 use Rattle.std.proofs.Common.{refl}
 use Rattle.sv8_cpu.proofs.Steps.{instruction_by}
-use Rattle.sv8_cpu.proofs.machine.Parts.run_instruction.Goals as goal
+use Rattle.sv8_cpu.proofs.parts.Parts.run_instruction.Goals as goal
 
 pub returns-clause-ok : goal.returns-clause-ok
 returns-clause-ok g c =

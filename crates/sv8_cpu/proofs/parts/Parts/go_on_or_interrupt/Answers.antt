@@ -1,5 +1,5 @@
 use Rattle.sv8_cpu.proofs.Steps.{interruptible_by}
-use Rattle.sv8_cpu.proofs.machine.Parts.go_on_or_interrupt.Goals as goal
+use Rattle.sv8_cpu.proofs.parts.Parts.go_on_or_interrupt.Goals as goal
 
 pub returns-in_ok-serve-clause-ok : goal.returns-in_ok-serve-clause-ok
 returns-in_ok-serve-clause-ok g c =

@@ -1,6 +1,6 @@
 use Rattle.std.proofs.Common.{ap}
 use Rattle.sv8_cpu.proofs.Steps.{awake_by}
-use Rattle.sv8_cpu.proofs.machine.Parts.tick_and_go_on.Goals as goal
+use Rattle.sv8_cpu.proofs.parts.Parts.tick_and_go_on.Goals as goal
 
 pub returns-clause-ok : goal.returns-clause-ok
 returns-clause-ok g c =

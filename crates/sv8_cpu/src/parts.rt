@@ -1,0 +1,302 @@
+//! The parts of a machine, and what a step does with them behind its events.
+
+ghost use Rattle.std.specs.Prelude.{◌≡◌, ◌<◌, ◌≤◌, ◌/◌, [], None, OnOk};
+ghost use Rattle.sv8_isa.specs.Registers.{HasRegisters};
+ghost use Rattle.sv8_model.specs.Does.{kept, noting, keeping};
+ghost use Rattle.sv8_cpu.specs.Run.{step};
+ghost use Rattle.sv8_time.specs.Schedule.{bytes_below};
+ghost use Rattle.sv8_trap.specs.Table.{taken};
+ghost use Rattle.sv8_phys.specs.Memory.{ram_size};
+ghost use Rattle.sv8_phys.specs.Contents.{arrived};
+ghost use Rattle.sv8_iu.specs.Instruction.{raised};
+ghost use Rattle.sv8_cpu.specs.Step.{trap_seen, refusal_seen, answered, executed, carried_out, fetched, instruction, continued, requested, interruptible, awake, action};
+ghost use Rattle.sv8_cpu.specs.View.{units_of};
+ghost use Rattle.sv8_cpu.specs.Whole.{inner_of_parts, MachineDoes};
+
+use crate::memory::Memory;
+use std::alloc::AllocError;
+use sv8_isa::{Instr, decode};
+use sv8_iu::{AccessRequest, Response, asked, complete, low_word, raised_by, take_trap};
+use sv8_phys::{Observation, Touches};
+use sv8_time::Timeline;
+use sv8_trap::{Processor, Trap, highest_level};
+
+/// The state of a machine, kept in one place so that a step changes it where it stands.
+#[derive(Drop)]
+pub struct Parts<const NW: usize, const PAGES: usize> {
+    pub processor: Processor<NW>,
+    pub memory: Memory<PAGES>,
+}
+
+/// What an observer sees of a trap.
+#[inline(always)]
+fn seen(trap: Trap) -> Observation
+    ensures { result ≡ trap_seen trap }
+{
+    Observation::Trap(trap.row().trap_type)
+}
+
+/// Lets an observer see the trap that a refused access raises.
+#[inline(always)]
+pub fn show_refusal<T: Touches>(response: Response, notes: &mut T) -> Result<(), AllocError>
+    ensures { OnOk result (T.noted notes.new ≡ noting (keeping T.KEEPS T.OBSERVES) (T.noted notes.old) [] (refusal_seen response)) }
+{
+    match response {
+        Response::Value(_) => Ok(()),
+        Response::Refused(trap) => {
+            notes.observe(seen(trap))?;
+            Ok(())
+        }
+    }
+}
+
+/// The end of an instruction whose access was answered.
+#[inline(always)]
+fn answer<const NW: usize>(p: &mut Processor<NW>, instr: Instr, response: Response)
+    requires registers { HasRegisters instr }
+    requires no_trap { taken (raised NW p.old instr) ≡ None }
+    ensures { p.new ≡ answered NW p.old instr response }
+{
+    match response {
+        Response::Value(value) => complete(p, instr, value),
+        Response::Refused(trap) => p.take(trap),
+    }
+}
+
+impl<const NW: usize, const PAGES: usize> Parts<NW, PAGES> {
+    /// Makes the access of an instruction that raises no trap, and completes it.
+    #[inline(always)]
+    fn make_access<T: Touches>(
+        &mut self,
+        instr: Instr,
+        before: u32,
+        timeline: &Timeline,
+        notes: &mut T,
+    ) -> Result<(), AllocError>
+        requires registers { HasRegisters instr }
+        requires no_trap { taken (raised NW self.old.processor instr) ≡ None }
+        requires delivered { self.old.memory.phys.taken ≤ bytes_below before timeline.now.inputs }
+        ensures ok { OnOk result (MachineDoes (keeping T.KEEPS T.OBSERVES) (arrived before timeline.now) (executed NW (ram_size PAGES) (inner_of_parts self.old) instr None)
+            self.old self.new (T.noted notes.old) (T.noted notes.new)) }
+        ensures taken { OnOk result (self.new.memory.phys.taken ≤ bytes_below before timeline.now.inputs) }
+    {
+        let request = asked(&self.processor, instr);
+        let response = self.memory.access(request, before, timeline, notes)?;
+        show_refusal(response, notes)?;
+        answer(&mut self.processor, instr, response);
+        Ok(())
+    }
+
+    /// Carries an instruction out: takes the trap that it raises, or makes its access and completes it.
+    #[inline(always)]
+    fn execute<T: Touches>(
+        &mut self,
+        instr: Instr,
+        before: u32,
+        timeline: &Timeline,
+        notes: &mut T,
+    ) -> Result<(), AllocError>
+        requires registers { HasRegisters instr }
+        requires delivered { self.old.memory.phys.taken ≤ bytes_below before timeline.now.inputs }
+        ensures ok { OnOk result (MachineDoes (keeping T.KEEPS T.OBSERVES) (arrived before timeline.now) (executed NW (ram_size PAGES) (inner_of_parts self.old) instr (taken (raised NW self.old.processor instr)))
+            self.old self.new (T.noted notes.old) (T.noted notes.new)) }
+        ensures taken { OnOk result (self.new.memory.phys.taken ≤ bytes_below before timeline.now.inputs) }
+    {
+        match raised_by(&self.processor, instr) {
+            Some(trap) => {
+                notes.observe(seen(trap))?;
+                take_trap(&mut self.processor, instr, trap);
+                Ok(())
+            }
+            None => {
+                self.make_access(instr, before, timeline, notes)?;
+                Ok(())
+            }
+        }
+    }
+
+    /// Carries out a word. It is a function of its own, so that a word comes in and no decoded instruction goes from one function to another.
+    #[inline(never)]
+    fn carry_out_word<T: Touches>(
+        &mut self,
+        word: u32,
+        before: u32,
+        timeline: &Timeline,
+        notes: &mut T,
+    ) -> Result<(), AllocError>
+        requires delivered { self.old.memory.phys.taken ≤ bytes_below before timeline.now.inputs }
+        ensures ok { OnOk result (MachineDoes (keeping T.KEEPS T.OBSERVES) (arrived before timeline.now) (carried_out NW (ram_size PAGES) (inner_of_parts self.old) word)
+            self.old self.new (T.noted notes.old) (T.noted notes.new)) }
+        ensures taken { OnOk result (self.new.memory.phys.taken ≤ bytes_below before timeline.now.inputs) }
+    {
+        self.execute(decode(word), before, timeline, notes)?;
+        Ok(())
+    }
+
+    /// Carries out a word that was fetched, or takes the trap of its fetch.
+    #[inline(always)]
+    fn carry_out<T: Touches>(
+        &mut self,
+        response: Response,
+        before: u32,
+        timeline: &Timeline,
+        notes: &mut T,
+    ) -> Result<(), AllocError>
+        requires delivered { self.old.memory.phys.taken ≤ bytes_below before timeline.now.inputs }
+        ensures ok { OnOk result (MachineDoes (keeping T.KEEPS T.OBSERVES) (arrived before timeline.now) (fetched NW (ram_size PAGES) self.old.processor response (units_of self.old.memory))
+            self.old self.new (T.noted notes.old) (T.noted notes.new)) }
+        ensures taken { OnOk result (self.new.memory.phys.taken ≤ bytes_below before timeline.now.inputs) }
+    {
+        match response {
+            Response::Refused(trap) => {
+                notes.observe(seen(trap))?;
+                self.processor.take(trap);
+                Ok(())
+            }
+            Response::Value(value) => {
+                let word = low_word(value);
+                if self.carry_out_frequent(word, before, timeline, notes)? {
+                    return Ok(());
+                }
+                self.carry_out_word(word, before, timeline, notes)?;
+                Ok(())
+            }
+        }
+    }
+
+    /// Fetches the instruction at PC and carries it out.
+    #[inline(always)]
+    fn run_instruction<T: Touches>(
+        &mut self,
+        before: u32,
+        timeline: &Timeline,
+        notes: &mut T,
+    ) -> Result<(), AllocError>
+        requires delivered { self.old.memory.phys.taken ≤ bytes_below before timeline.now.inputs }
+        ensures ok { OnOk result (MachineDoes (keeping T.KEEPS T.OBSERVES) (arrived before timeline.now) (instruction NW (ram_size PAGES) (inner_of_parts self.old))
+            self.old self.new (T.noted notes.old) (T.noted notes.new)) }
+        ensures taken { OnOk result (self.new.memory.phys.taken ≤ bytes_below before timeline.now.inputs) }
+    {
+        let request = AccessRequest::Fetch {
+            supervisor: self.processor.registers().psr().s,
+            at: self.processor.pc(),
+        };
+        let response = self.memory.access(request, before, timeline, notes)?;
+        self.carry_out(response, before, timeline, notes)?;
+        Ok(())
+    }
+
+    /// Passes over an annulled slot, or carries an instruction out.
+    #[inline(always)]
+    #[tactic(auto, unfolding(crate::specs::Step::continued))]
+    fn go_on<T: Touches>(
+        &mut self,
+        before: u32,
+        timeline: &Timeline,
+        notes: &mut T,
+    ) -> Result<(), AllocError>
+        requires delivered { self.old.memory.phys.taken ≤ bytes_below before timeline.now.inputs }
+        ensures ok { OnOk result (MachineDoes (keeping T.KEEPS T.OBSERVES) (arrived before timeline.now) (continued NW (ram_size PAGES) (inner_of_parts self.old))
+            self.old self.new (T.noted notes.old) (T.noted notes.new)) }
+        ensures taken { OnOk result (self.new.memory.phys.taken ≤ bytes_below before timeline.now.inputs) }
+    {
+        if self.processor.annul() {
+            self.processor.skip_slot();
+            Ok(())
+        } else {
+            self.run_instruction(before, timeline, notes)?;
+            Ok(())
+        }
+    }
+
+    /// Enters the handler of the highest of these levels; where there is none, the program goes on.
+    #[inline(always)]
+    #[tactic(auto, unfolding(crate::specs::Step::requested))]
+    fn serve<T: Touches>(
+        &mut self,
+        levels: u32,
+        before: u32,
+        timeline: &Timeline,
+        notes: &mut T,
+    ) -> Result<(), AllocError>
+        requires delivered { self.old.memory.phys.taken ≤ bytes_below before timeline.now.inputs }
+        ensures ok { OnOk result (MachineDoes (keeping T.KEEPS T.OBSERVES) (arrived before timeline.now) (requested NW (ram_size PAGES) (inner_of_parts self.old) levels)
+            self.old self.new (T.noted notes.old) (T.noted notes.new)) }
+        ensures taken { OnOk result (self.new.memory.phys.taken ≤ bytes_below before timeline.now.inputs) }
+    {
+        let level = highest_level(levels);
+        if level == 0 {
+            self.go_on(before, timeline, notes)?;
+            Ok(())
+        } else {
+            notes.observe(seen(Trap::Interrupt(level)))?;
+            self.processor.interrupt(level);
+            Ok(())
+        }
+    }
+
+    /// Takes an interrupt where one is to be taken; else the program goes on.
+    #[inline(always)]
+    #[tactic(auto, unfolding(crate::specs::Step::interruptible))]
+    fn go_on_or_interrupt<T: Touches>(
+        &mut self,
+        before: u32,
+        timeline: &Timeline,
+        notes: &mut T,
+    ) -> Result<(), AllocError>
+        requires delivered { self.old.memory.phys.taken ≤ bytes_below before timeline.now.inputs }
+        ensures ok { OnOk result (MachineDoes (keeping T.KEEPS T.OBSERVES) (arrived before timeline.now) (interruptible NW (ram_size PAGES) (inner_of_parts self.old))
+            self.old self.new (T.noted notes.old) (T.noted notes.new)) }
+        ensures taken { OnOk result (self.new.memory.phys.taken ≤ bytes_below before timeline.now.inputs) }
+    {
+        if self.processor.registers().psr().et {
+            let levels = self.processor.unmasked_levels();
+            let pending = self.memory.pending_among(levels, notes)?;
+            self.serve(pending, before, timeline, notes)?;
+            Ok(())
+        } else {
+            self.go_on(before, timeline, notes)?;
+            Ok(())
+        }
+    }
+
+    /// The timer's step, and then the rest.
+    #[inline(always)]
+    #[tactic(auto, unfolding(crate::specs::Step::awake))]
+    fn tick_and_go_on<T: Touches>(
+        &mut self,
+        before: u32,
+        timeline: &Timeline,
+        notes: &mut T,
+    ) -> Result<(), AllocError>
+        requires delivered { self.old.memory.phys.taken ≤ bytes_below before timeline.now.inputs }
+        ensures ok { OnOk result (MachineDoes (keeping T.KEEPS T.OBSERVES) (arrived before timeline.now) (awake NW (ram_size PAGES) (inner_of_parts self.old))
+            self.old self.new (T.noted notes.old) (T.noted notes.new)) }
+        ensures taken { OnOk result (self.new.memory.phys.taken ≤ bytes_below before timeline.now.inputs) }
+    {
+        self.memory.tick(notes)?;
+        self.go_on_or_interrupt(before, timeline, notes)?;
+        Ok(())
+    }
+
+    /// What a step does behind its events: in error mode nothing.
+    #[inline(always)]
+    #[tactic(auto, unfolding(crate::specs::Step::action))]
+    pub fn act<T: Touches>(
+        &mut self,
+        before: u32,
+        timeline: &Timeline,
+        notes: &mut T,
+    ) -> Result<(), AllocError>
+        requires delivered { self.old.memory.phys.taken ≤ bytes_below before timeline.now.inputs }
+        ensures ok { OnOk result (MachineDoes (keeping T.KEEPS T.OBSERVES) (arrived before timeline.now) (action NW (ram_size PAGES) (inner_of_parts self.old))
+            self.old self.new (T.noted notes.old) (T.noted notes.new)) }
+        ensures taken { OnOk result (self.new.memory.phys.taken ≤ bytes_below before timeline.now.inputs) }
+    {
+        if !self.processor.is_running() {
+            return Ok(());
+        }
+        self.tick_and_go_on(before, timeline, notes)?;
+        Ok(())
+    }
+}
