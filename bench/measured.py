@@ -8,6 +8,9 @@ from image import image
 BENCH = Path(__file__).resolve().parent
 INTERPRETER = BENCH / "out" / "interpreter"
 
+# As `sparc8` starts the program: with memory in large pages.
+os.environ.setdefault("GLIBC_TUNABLES", "glibc.malloc.hugetlb=1")
+
 
 def build_interpreter():
     """The plain interpreter, built where its source is newer."""

@@ -42,7 +42,7 @@ def main():
     here = os.path.dirname(os.path.abspath(__file__))
     with tempfile.TemporaryDirectory() as folder:
         shim = os.path.join(folder, "refuse_growth.so")
-        subprocess.run(["cc", "-O1", "-shared", "-fPIC", "-o", shim, os.path.join(here, "refuse_growth.c"), "-ldl"], check=True)
+        subprocess.run(["cc", "-O1", "-shared", "-fPIC", "-o", shim, os.path.join(here, "../tests/growths/refuse_growth.c"), "-ldl"], check=True)
         whole = run(program, script)
         refusals = answers_without(program, script)
         counts = {"before any command": 0, "a command": 0, "no answer changed": 0}

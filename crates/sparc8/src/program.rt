@@ -5,7 +5,7 @@ ghost use Rattle.clap.specs.Words.{Kinds, kind_of};
 ghost use Rattle.sv8_bench.specs.Kept.{empty};
 ghost use Rattle.sparc8.specs.Windows.{is_window_count};
 ghost use Rattle.sparc8.specs.Words.{MayFailBy};
-ghost use Rattle.sparc8.specs.Ends.{EndsBy, Serves, is_run_end, refusal_end};
+ghost use Rattle.sparc8.specs.Ends.{EndsBy, Serves, ServesInto, is_run_end, refusal_end};
 
 use crate::end::{End, end_of, refusal_end};
 use crate::words::{not_text, settings};
@@ -21,6 +21,20 @@ const PAGES: usize = 256;
 
 /// The steps from one checkpoint to the next.
 const CHECKPOINT_STEPS: u32 = 256;
+
+/// Runs a script on a workbench.
+fn run_on<const NW: usize, R: Read, W: Write>(
+    alloc: Global,
+    bench: &mut Bench<NW, PAGES, CHECKPOINT_STEPS>,
+    reader: &mut R,
+    writer: &mut W,
+) -> End
+    ensures run { IsTrue (is_run_end result) }
+    ensures serves { Serves bench.old.kept result (R.remaining reader.old) (R.remaining reader.new)
+        (W.contents writer.old) (W.contents writer.new) }
+{
+    end_of(run(alloc, bench, reader, writer))
+}
 
 /// Runs a script on a new workbench of so many windows.
 pub fn serve<const NW: usize, R: Read, W: Write>(
@@ -40,7 +54,7 @@ pub fn serve<const NW: usize, R: Read, W: Write>(
     let Ok(mut bench) = Bench::<NW, PAGES, CHECKPOINT_STEPS>::new(alloc) else {
         return End::Memory;
     };
-    end_of(run(alloc, &mut bench, reader, writer))
+    run_on(alloc, &mut bench, reader, writer)
 }
 
 /// Calls `serve` with the number of windows that was chosen.
@@ -53,16 +67,32 @@ macro_rules! serve_with {
     };
 }
 
+/// Runs a script on a new workbench of as many windows as were chosen.
+fn serve_chosen<R: Read, W: Write>(
+    alloc: Global,
+    windows: u32,
+    reader: &mut R,
+    writer: &mut W,
+) -> End
+    requires { IsTrue (is_window_count windows) }
+    ensures run { IsTrue (is_run_end result) }
+    ensures serves { Serves (empty windows 256) result (R.remaining reader.old) (R.remaining reader.new)
+        (W.contents writer.old) (W.contents writer.new) }
+{
+    serve_with!(windows, alloc, reader, writer, [2 4 16 32])
+}
+
 /// Runs what a reader gives, and writes the answers to standard output.
 fn answer<R: Read>(rt: &HostRuntime, windows: u32, reader: &mut R) -> End
     requires { IsTrue (is_window_count windows) }
-    ensures { IsTrue (is_run_end result) }
+    ensures run { IsTrue (is_run_end result) }
+    ensures serves { ServesInto (empty windows 256) result (R.remaining reader.old) (R.remaining reader.new) }
 {
     let alloc = rt.alloc();
     let Ok(mut writer) = BufWriter::new(alloc, rt.stdout()) else {
         return End::Memory;
     };
-    serve_with!(windows, alloc, reader, &mut writer, [2 4 16 32])
+    serve_chosen(alloc, windows, reader, &mut writer)
 }
 
 /// Reads the words, then opens the script.

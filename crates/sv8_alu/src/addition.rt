@@ -54,7 +54,7 @@ pub fn sub(x: u32, y: u32, carry: bool) -> Answer
 }
 
 #[inline(always)]
-fn tagged(x: u32, y: u32, answer: Answer) -> Answer
+fn with_tags(x: u32, y: u32, answer: Answer) -> Answer
     ensures { result ≡ with_tags x y answer }
 {
     let v = answer.icc.v || x % 4 != 0 || y % 4 != 0;
@@ -71,7 +71,7 @@ fn tagged(x: u32, y: u32, answer: Answer) -> Answer
 pub fn tagged_add(x: u32, y: u32) -> Answer
     ensures { result ≡ tagged_sum_of x y }
 {
-    tagged(x, y, add(x, y, false))
+    with_tags(x, y, add(x, y, false))
 }
 
 /// A tagged word less another, as TSUBcc. Appendix B.16.
@@ -81,5 +81,5 @@ pub fn tagged_add(x: u32, y: u32) -> Answer
 pub fn tagged_sub(x: u32, y: u32) -> Answer
     ensures { result ≡ tagged_difference_of x y }
 {
-    tagged(x, y, sub(x, y, false))
+    with_tags(x, y, sub(x, y, false))
 }

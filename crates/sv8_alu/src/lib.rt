@@ -8,6 +8,7 @@
 mod addition;
 mod bitwise;
 mod division;
+mod families;
 mod laws;
 mod multiplication;
 #[cfg(test)]
@@ -19,6 +20,7 @@ mod words;
 pub use addition::{add, sub, tagged_add, tagged_sub};
 pub use bitwise::{logic, shift};
 pub use division::{signed_divide, unsigned_divide};
+pub use families::{divide, mul, mulscc, tagged};
 pub use laws::{worked_bits, worked_products, worked_quotients, worked_sums};
 pub use multiplication::{multiply_step, signed_multiply, unsigned_multiply};
 
@@ -54,6 +56,27 @@ pub struct Product {
 pub struct Step {
     pub sum: Answer,
     pub y: u32,
+}
+
+/// The tagged instructions. Appendix B.14 and B.16.
+#[derive(Clone, Copy)]
+pub enum TaggedForm {
+    /// TADDcc.
+    Add,
+    /// TADDccTV, which traps where V would be set.
+    AddTrapping,
+    /// TSUBcc.
+    Sub,
+    /// TSUBccTV, which traps where V would be set.
+    SubTrapping,
+}
+
+/// Whether words are multiplied and divided as signed numbers. Appendix B.18 and B.19.
+#[derive(Clone, Copy)]
+pub enum Signedness {
+    Unsigned,
+    /// In two's complement.
+    Signed,
 }
 
 /// The shift instructions. Appendix B.12.

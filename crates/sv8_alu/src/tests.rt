@@ -163,3 +163,65 @@ fn logical_operations(rt: HostRuntime) {
         }
     }
 }
+
+/// The answers of a family's functions, one by one, worked out by hand from the manual's text.
+#[test]
+fn tagged_forms(rt: HostRuntime) {
+    let plain = [TaggedForm::Add, TaggedForm::AddTrapping];
+    for form in plain.iter() {
+        assert_eq!(rt; tagged(*form, 4, 8).map(shown), Some([12, 0b0000]));
+    }
+    assert_eq!(rt;
+        tagged(TaggedForm::Add, 4, 9).map(shown),
+        Some([13, 0b0010])
+    );
+    assert!(rt; tagged(TaggedForm::AddTrapping, 4, 9).is_none());
+    assert_eq!(rt;
+        tagged(TaggedForm::Add, 0x7FFF_FFFC, 4).map(shown),
+        Some([0x8000_0000, 0b1010])
+    );
+    assert!(rt; tagged(TaggedForm::AddTrapping, 0x7FFF_FFFC, 4).is_none());
+    assert_eq!(rt; tagged(TaggedForm::Sub, 8, 8).map(shown), Some([0, 0b0100]));
+    assert_eq!(rt;
+        tagged(TaggedForm::SubTrapping, 8, 12).map(shown),
+        Some([0xFFFF_FFFC, 0b1001])
+    );
+    assert_eq!(rt; tagged(TaggedForm::Sub, 3, 0).map(shown), Some([3, 0b0010]));
+    assert!(rt; tagged(TaggedForm::SubTrapping, 3, 0).is_none());
+    assert!(rt; tagged(TaggedForm::SubTrapping, 0x8000_0000, 4).is_none());
+}
+
+#[test]
+fn signed_and_unsigned_products(rt: HostRuntime) {
+    let unsigned = mul(Signedness::Unsigned, 0xFFFF_FFFE, 3);
+    assert_eq!(rt; unsigned.high, 2);
+    assert_eq!(rt; shown(unsigned.low), [0xFFFF_FFFA, 0b1000]);
+    let signed = mul(Signedness::Signed, 0xFFFF_FFFE, 3);
+    assert_eq!(rt; signed.high, 0xFFFF_FFFF);
+    assert_eq!(rt; shown(signed.low), [0xFFFF_FFFA, 0b1000]);
+}
+
+#[test]
+fn a_step_of_three_times_five(rt: HostRuntime) {
+    let icc = Icc {
+        n: true,
+        z: false,
+        v: false,
+        c: true,
+    };
+    let step = mulscc(6, 5, 3, icc);
+    assert_eq!(rt; shown(step.sum), [0x8000_0008, 0b1000]);
+    assert_eq!(rt; step.y, 1);
+}
+
+#[test]
+fn signed_and_unsigned_quotients(rt: HostRuntime) {
+    let negative = divide(Signedness::Signed, 0xFFFF_FFFF, 0xFFFF_FFF8, 3);
+    assert_eq!(rt; negative.map(shown), Some([0xFFFF_FFFE, 0b1000]));
+    let small = divide(Signedness::Unsigned, 0, 100, 7);
+    assert_eq!(rt; small.map(shown), Some([14, 0b0000]));
+    let large = divide(Signedness::Unsigned, 7, 0, 7);
+    assert_eq!(rt; large.map(shown), Some([0xFFFF_FFFF, 0b1010]));
+    assert!(rt; divide(Signedness::Signed, 0, 1, 0).is_none());
+    assert!(rt; divide(Signedness::Unsigned, 0, 1, 0).is_none());
+}

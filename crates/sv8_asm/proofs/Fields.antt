@@ -5,7 +5,7 @@ use Rattle.std.specs.Option.{is_some}
 use Rattle.std.specs.Int.Signed.{lt_z}
 use Rattle.std.proofs.lemmas.Bool.Decides.{nat_tests}
 use Rattle.sv8_isa.specs.Encoding.{encoding, is_source, is_natural, is_encodable}
-use Rattle.sv8_isa.proofs.InRange.{in_range as encodes_in_range}
+use Rattle.sv8_isa.proofs.Common.{in_range as encodes_in_range}
 use Rattle.sv8_isa.specs.declared.instr.Instr.{Instr}
 use Rattle.sv8_isa.specs.declared.instr.Instr.TheVariants as instr
 use Rattle.sv8_isa.specs.declared.instr.Operand.{Operand}

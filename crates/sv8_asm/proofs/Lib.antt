@@ -8,3 +8,4 @@ pub mod Encodes
 pub mod Ranges
 pub mod Fields
 pub mod OnLiterals
+pub mod Common

@@ -1,7 +1,7 @@
 //! The bytes of a statement.
 
 ghost use Rattle.std.specs.Prelude.{ℕ, List, Result, [], ◌≡◌, ℤ, pos, negsuc, ◌≤ℤ◌, ◌⊎◌, ◌-◌, ◌^◌, ◌++◌, IsOk, IfOk, OnErr, MatchResult, Ok, Err};
-ghost use Rattle.std.specs.Int.{w32, to_be_bytes};
+ghost use Rattle.std.specs.Int.{w16, w32, to_be_bytes};
 ghost use Rattle.sv8_syntax.specs.declared.fault.LineFault.{LineFault};
 ghost use Rattle.sv8_syntax.specs.declared.fault.LineFault.TheVariants.{OutOfMemory};
 ghost use Rattle.sv8_asm.specs.Size.{size};
@@ -12,6 +12,7 @@ ghost use Rattle.sv8_asm.specs.Gathering.{carried};
 use crate::instruction::{Coded, instruction_of, set_instructions};
 use crate::symbols::Symbols;
 use crate::value::{value, within, word_of_number};
+use byteorder::{BigEndian, ByteOrder};
 use std::alloc::{AllocError, Global};
 use sv8_isa::{Instr, encode};
 use sv8_syntax::{Expr, LineFault, Statement, Stmt, Width};
@@ -40,6 +41,24 @@ fn most_datum(width: Width) -> i128
     }
 }
 
+/// The bytes of a halfword, the most significant first.
+fn half_bytes(half: u16) -> [u8; 2]
+    ensures { result ≡ to_be_bytes w16 half }
+{
+    let mut bytes = [0u8; 2];
+    BigEndian::write_u16(&mut bytes, half);
+    bytes
+}
+
+/// The bytes of a word, the most significant first.
+fn word_bytes(word: u32) -> [u8; 4]
+    ensures { result ≡ to_be_bytes w32 word }
+{
+    let mut bytes = [0u8; 4];
+    BigEndian::write_u32(&mut bytes, word);
+    bytes
+}
+
 /// The bytes of a value in memory, in the place of which a number was found, behind those so far.
 fn put_datum(bytes: &mut Vec<u8>, width: Width, number: i128) -> Result<(), AllocError>
     requires low { negsuc (2 ^ 31) ≤ℤ number }
@@ -49,8 +68,8 @@ fn put_datum(bytes: &mut Vec<u8>, width: Width, number: i128) -> Result<(), Allo
     let word = word_of_number(number);
     match width {
         Width::Byte => bytes.push((word % 0x100) as u8)?,
-        Width::Half => bytes.extend_from_slice(&((word % 0x1_0000) as u16).to_be_bytes())?,
-        Width::Word => bytes.extend_from_slice(&word.to_be_bytes())?,
+        Width::Half => bytes.extend_from_slice(&half_bytes((word % 0x1_0000) as u16))?,
+        Width::Word => bytes.extend_from_slice(&word_bytes(word))?,
     }
     Ok(())
 }
@@ -116,11 +135,11 @@ fn data_bytes(
     }
 }
 
-/// The bytes of a word, the most significant first.
-fn word_bytes(alloc: Global, word: u32) -> Result<Vec<u8>, AllocError>
+/// The bytes of one word.
+fn one_word(alloc: Global, word: u32) -> Result<Vec<u8>, AllocError>
     ensures { IfOk result (λ v. v.items ≡ to_be_bytes w32 word) }
 {
-    let bytes = Vec::from_slice(alloc, &word.to_be_bytes())?;
+    let bytes = Vec::from_slice(alloc, &word_bytes(word))?;
     Ok(bytes)
 }
 
@@ -128,8 +147,8 @@ fn word_bytes(alloc: Global, word: u32) -> Result<Vec<u8>, AllocError>
 fn two_words(alloc: Global, first: u32, second: u32) -> Result<Vec<u8>, AllocError>
     ensures { IfOk result (λ v. v.items ≡ to_be_bytes w32 first ++ to_be_bytes w32 second) }
 {
-    let mut bytes = word_bytes(alloc, first)?;
-    bytes.extend_from_slice(&second.to_be_bytes())?;
+    let mut bytes = one_word(alloc, first)?;
+    bytes.extend_from_slice(&word_bytes(second))?;
     Ok(bytes)
 }
 
@@ -141,7 +160,7 @@ fn instruction_bytes(alloc: Global, coded: Coded) -> Result<Vec<u8>, LineFault>
         Coded::One(instr) => match encode(&instr) {
             None => Err(LineFault::OutOfRange),
             Some(word) => {
-                let bytes = word_bytes(alloc, word)?;
+                let bytes = one_word(alloc, word)?;
                 Ok(bytes)
             }
         },

@@ -13,8 +13,6 @@ mod marks;
 mod operand;
 mod size;
 mod symbols;
-#[cfg(test)]
-mod tests;
 mod used;
 mod value;
 

@@ -1,22 +1,21 @@
 -- Queries: how the record grows, the steps behind its last checkpoint, and how many of both are made.
-use Rattle.std.proofs.Common.{◌≡◌, ◌∙◌, ℕ, zero, suc, ◌+◌, ◌-◌, ◌*◌, ◌/◌, ◌%◌, ◌<◌, ◌≤◌, min, max, length, get_or, refl, sym, ap, arith, subst}
+use Rattle.std.proofs.Common.{◌≡◌, ◌∙◌, [], ◌∷◌, le-ltb, ℕ, zero, suc, ◌+◌, ◌-◌, ◌*◌, ◌/◌, ◌%◌, ◌<◌, ◌≤◌, min, max, length, get_or, refl, sym, ap, arith, subst}
 use Rattle.std.proofs.Math.Nat.{div-lt_iff_lt-mul, le-div_iff_mul-le, mul_comm, mul-le-mul_left, add-zero, add-suc, mul-div_cancel_left, div-add-mod}
 use Rattle.sv8_time.specs.Schedule.{Schedule, bytes_below}
-use Rattle.sv8_history.specs.Machine.{Run}
+use Rattle.sv8_history.specs.Machine.{Run, state_at}
 use Rattle.sv8_history.specs.Trace.{IsTraceOf}
 use Rattle.sv8_history.specs.Growing.{extended, restored, steps_from}
-use Rattle.sv8_history.proofs.Cut.{agrees_keeps}
-use Rattle.sv8_history.proofs.Growing.{extend_keeps, restore_gives, query_work}
+use Rattle.sv8_history.proofs.Common.{agrees_keeps, extend_keeps, restore_gives, query_work}
 use Rattle.sv8_source.specs.Text.{Text}
 use Rattle.sv8_cpu.specs.State.{State, reset_state}
 use Rattle.sv8_cpu.specs.Run.{step}
 use Rattle.sv8_cpu.specs.Events.{with_events}
 use Rattle.sv8_cpu.specs.Work.{counted}
 use Rattle.sv8_cpu.specs.Recorded.{machine, event_at, run_of, AreEvents}
-use Rattle.sv8_cpu.proofs.RecordedActs.{state_is}
-use Rattle.sv8_edits.proofs.Fed.{fed}
+use Rattle.sv8_cpu.proofs.Common.{state_is}
+use Rattle.sv8_edits.proofs.Common.{fed}
 use Rattle.sv8_trace.specs.Recorder.{steps_on, counted_by, RaisedUpTo}
-use Rattle.sv8_trace.specs.Recording.{Recording, blank, last_point, recorded, trace_of, IsExtended}
+use Rattle.sv8_trace.specs.Recording.{Recording, fresh, blank, last_point, recorded, trace_of, IsExtended}
 use Rattle.sv8_bench.specs.Kept.{Kept}
 use Rattle.sv8_bench.specs.Shown.{machine_state}
 use Rattle.sv8_bench.specs.Workbench.{Workbench, run_of_kept, IsRun, IsGivenUp}
@@ -93,6 +92,22 @@ extended_keeps windows pages k schedule old new pos longer start valid h =
     let run : Run (machine windows pages) = record { start = start; events = event_at schedule; valid = valid } in
     agrees_keeps (machine windows pages) k run (extended (machine windows pages) k run (trace_of windows pages k old)) (trace_of windows pages k new) (longer start valid)
     (extend_keeps (machine windows pages) k pos run (trace_of windows pages k old) h)
+
+-- ---- a new record
+
+-- the first checkpoint alone is a record of every run that begins there
+pub fresh_is : (windows pages k : ℕ) → 0 < k → (run : Run (machine windows pages)) (r : Recording) → r ≡ fresh run.start
+    → IsTraceOf (machine windows pages) k run (trace_of windows pages k r)
+fresh_is windows pages k pos run r e = rw e (record {
+  points = λ i l.
+      let none : i ≡ 0 = omega (arith, l) in
+      ap (λ x. get_or (run.start ∷ []) x blank) (mul-div_cancel_left i pos ∙ none) ∙ ap (state_at (machine windows pages) run) (start i none);
+  notes = λ n l. absurd (omega (arith, l));
+  kept = λ n a. let above = le-ltb n (k * 0) (omega arith) in rw above refl;
+})
+  where
+    start : (i : ℕ) → i ≡ 0 → 0 ≡ k * i
+    start i none = rw none (omega arith)
 
 -- ---- what the workbench has recorded
 

@@ -1,5 +1,5 @@
 -- A workbench as its contracts see it: what it keeps, the recorded run, and the count of the steps that were made. What edits and queries make of it.
-use Rattle.std.specs.Prelude.{◌≡◌, ℕ, ◌-◌, ◌/◌, ◌≤◌, List, length, max}
+use Rattle.std.specs.Prelude.{◌≡◌, ℕ, ◌-◌, ◌/◌, ◌≤◌, List, Option, Some, None, length, max}
 use Rattle.sv8_history.specs.Machine.{Run}
 use Rattle.sv8_history.specs.Changes.{Change}
 use Rattle.sv8_history.specs.Reads.{IsFirstRead}
@@ -49,12 +49,17 @@ pub record IsEdited (k : ℕ) (next : Kept) (old new : Workbench) (changes : Lis
   pub recorded : (valid : AreEvents old.kept.pages old.kept.timeline)
       → IsRightCount k (checkpoints old) (checkpoints new) (IsFirstRead (machine old.kept.windows old.kept.pages) (run_of_kept old.kept valid) changes)
 
--- .. where it is of the input from a step on, what is not above the first step that takes or counts the bytes that wait
-pub record IsRefed (k step : ℕ) (next : Kept) (old new : Workbench) : Type 0 where
+-- the first step of a run that takes or counts the bytes that wait, from the step on from which the input is another; none does where it is not
+abbrev pub IsFirstFed : (k : Kept) → AreEvents k.pages k.timeline → Option ℕ → ℕ → Type 0
+IsFirstFed k valid None s = ⊥
+IsFirstFed k valid (Some step) s = IsFirstTake (machine k.windows k.pages) (run_of_kept k valid) step s
+
+-- An edit of the input does the same, with that step for the first one that reads a change.
+pub record IsRefed (k : ℕ) (change : Option ℕ) (next : Kept) (old new : Workbench) : Type 0 where
   pub kept : new.kept ≡ next
   pub worked : new.worked ≡ old.worked
   pub recorded : (valid : AreEvents old.kept.pages old.kept.timeline)
-      → IsRightCount k (checkpoints old) (checkpoints new) (IsFirstTake (machine old.kept.windows old.kept.pages) (run_of_kept old.kept valid) step)
+      → IsRightCount k (checkpoints old) (checkpoints new) (IsFirstFed old.kept valid change)
 
 -- ---- queries
 

@@ -4,12 +4,10 @@
 mod bench;
 mod fault;
 mod shown;
-#[cfg(test)]
-mod tests;
 
 pub use bench::{Bench, LAST_STEP};
 pub use fault::BenchFault;
 pub use shown::Shown;
-pub use sv8_cpu::MmuRegisters;
+pub use sv8_cpu::Mmu;
 pub use sv8_phys::Timer;
 pub use sv8_source::Listed;

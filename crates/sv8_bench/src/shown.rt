@@ -5,7 +5,7 @@ ghost use Rattle.sv8_regs.specs.Ring.{read};
 ghost use Rattle.sv8_time.specs.Schedule.{bytes_below};
 ghost use Rattle.sv8_bench.specs.Shown.{shown_registers, shown_state};
 
-use sv8_cpu::{Machine, MmuRegisters};
+use sv8_cpu::{Machine, Mmu};
 use sv8_phys::Timer;
 use sv8_regs::Regs;
 use sv8_time::Timeline;
@@ -32,7 +32,7 @@ pub struct Shown {
     /// r[0] to r[31] of the current window (section 4.1).
     pub registers: [u32; 32],
     /// The registers of the memory management unit (Appendix H).
-    pub mmu: MmuRegisters,
+    pub mmu: Mmu,
     pub timer: Timer,
     /// The pending interrupt levels, bit l for level l, from 1 to 15.
     pub pending: u32,

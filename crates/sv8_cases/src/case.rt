@@ -2,9 +2,9 @@
 
 ghost use Rattle.std.specs.Prelude.{◌≤◌};
 
+use crate::commands::command_end;
 use std::alloc::{AllocError, Global};
 use std::fs;
-use crate::commands::command_end;
 use sv8_bench::Bench;
 use sv8_shell::{RunFault, run};
 use thiserror::Error;
@@ -12,7 +12,7 @@ use thiserror::Error;
 /// The pages of RAM: one mebibyte, as the program has.
 const PAGES: usize = 256;
 
-/// The steps from one checkpoint to the next, as the program has.
+/// The steps from one checkpoint to the next where a case's name does not say another number, as the program has.
 const CHECKPOINT_STEPS: u32 = 256;
 
 /// Why a case has no answer to compare.
@@ -22,7 +22,7 @@ pub enum CaseFault {
     #[error("no file .{0}")]
     NoFile(&'static str),
     /// The case's name does not say with how many register windows it runs.
-    #[error("the name does not end with -w2, -w4, -w8, -w16 or -w32")]
+    #[error("the name does not end with -w2, -w4, -w8, -w16 or -w32, nor with -w8-k1 or -w8-k4")]
     NoWindows,
     /// The run ended before the script did.
     #[error("{0}")]
@@ -52,12 +52,17 @@ pub fn read_file(
     }
 }
 
-/// What a new workbench of `NW` windows answers to a script.
-fn answer_of<const NW: usize>(alloc: Global, script: &[u8]) -> Result<Vec<u8>, CaseFault>
+/// What a new workbench of `NW` windows, with a checkpoint every `K` steps, answers to a script.
+fn answer_of<const NW: usize, const K: u32>(
+    alloc: Global,
+    script: &[u8],
+) -> Result<Vec<u8>, CaseFault>
     requires some_windows { 2 ≤ NW }
     requires few_windows { NW ≤ 32 }
+    requires some_steps { 1 ≤ K }
+    requires few_steps { K ≤ 1000000 }
 {
-    let mut bench = Bench::<NW, PAGES, CHECKPOINT_STEPS>::new(alloc)?;
+    let mut bench = Bench::<NW, PAGES, K>::new(alloc)?;
     let mut rest = script;
     let mut written = Vec::new(alloc);
     match run(alloc, &mut bench, &mut rest, &mut written) {
@@ -66,12 +71,19 @@ fn answer_of<const NW: usize>(alloc: Global, script: &[u8]) -> Result<Vec<u8>, C
     }
 }
 
-/// The counts of a new workbench of `NW` windows after each command of a script that it answers: a line `recorded R worked W` each.
-fn counts_of<const NW: usize>(alloc: Global, script: &[u8]) -> Result<Vec<u8>, CaseFault>
+/// The counts of a new workbench of `NW` windows, with a checkpoint every `K` steps, after each command of a script that it answers: a
+/// line `recorded R worked W` each. Before it stands the command's answer, where that is wanted too.
+fn counts_of<const NW: usize, const K: u32>(
+    alloc: Global,
+    script: &[u8],
+    with_answers: bool,
+) -> Result<Vec<u8>, CaseFault>
     requires some_windows { 2 ≤ NW }
     requires few_windows { NW ≤ 32 }
+    requires some_steps { 1 ≤ K }
+    requires few_steps { K ≤ 1000000 }
 {
-    let mut bench = Bench::<NW, PAGES, CHECKPOINT_STEPS>::new(alloc)?;
+    let mut bench = Bench::<NW, PAGES, K>::new(alloc)?;
     let mut rest = script;
     let mut counts = Vec::new(alloc);
     for _command in 0..script.len() {
@@ -82,8 +94,15 @@ fn counts_of<const NW: usize>(alloc: Global, script: &[u8]) -> Result<Vec<u8>, C
             Ok(()) => {}
             Err(fault) => return Err(CaseFault::Run(fault)),
         }
+        if with_answers {
+            counts.extend_from_slice(&written)?;
+        }
         if !written.is_empty() {
-            let line = format!(in alloc; "recorded {} worked {}\n", bench.recorded(), bench.worked())?;
+            let line = format!(in alloc;
+                "recorded {} worked {}\n",
+                bench.recorded(),
+                bench.worked()
+            )?;
             counts.extend_from_slice(line.as_bytes())?;
         }
     }
@@ -97,24 +116,29 @@ pub enum Wanted {
     Answer,
     /// The counts of its workbench after each command.
     Counts,
+    /// What each command answers, with the counts after it.
+    Both,
 }
 
-/// What a new workbench of `NW` windows makes of a script.
-fn wanted_of<const NW: usize>(
+/// What a new workbench of `NW` windows, with a checkpoint every `K` steps, makes of a script.
+fn wanted_of<const NW: usize, const K: u32>(
     alloc: Global,
     script: &[u8],
     wanted: Wanted,
 ) -> Result<Vec<u8>, CaseFault>
     requires some_windows { 2 ≤ NW }
     requires few_windows { NW ≤ 32 }
+    requires some_steps { 1 ≤ K }
+    requires few_steps { K ≤ 1000000 }
 {
     match wanted {
-        Wanted::Answer => answer_of::<NW>(alloc, script),
-        Wanted::Counts => counts_of::<NW>(alloc, script),
+        Wanted::Answer => answer_of::<NW, K>(alloc, script),
+        Wanted::Counts => counts_of::<NW, K>(alloc, script, false),
+        Wanted::Both => counts_of::<NW, K>(alloc, script, true),
     }
 }
 
-/// What a script makes of a workbench with as many windows as the case's name says.
+/// What a script makes of a workbench with as many windows, and steps from one checkpoint to the next, as the case's name says.
 pub fn run_case(
     alloc: Global,
     name: &str,
@@ -122,11 +146,13 @@ pub fn run_case(
     wanted: Wanted,
 ) -> Result<Vec<u8>, CaseFault> {
     match name.rsplit_once("-w") {
-        Some((_, "2")) => wanted_of::<2>(alloc, script, wanted),
-        Some((_, "4")) => wanted_of::<4>(alloc, script, wanted),
-        Some((_, "8")) => wanted_of::<8>(alloc, script, wanted),
-        Some((_, "16")) => wanted_of::<16>(alloc, script, wanted),
-        Some((_, "32")) => wanted_of::<32>(alloc, script, wanted),
+        Some((_, "2")) => wanted_of::<2, CHECKPOINT_STEPS>(alloc, script, wanted),
+        Some((_, "4")) => wanted_of::<4, CHECKPOINT_STEPS>(alloc, script, wanted),
+        Some((_, "8")) => wanted_of::<8, CHECKPOINT_STEPS>(alloc, script, wanted),
+        Some((_, "16")) => wanted_of::<16, CHECKPOINT_STEPS>(alloc, script, wanted),
+        Some((_, "32")) => wanted_of::<32, CHECKPOINT_STEPS>(alloc, script, wanted),
+        Some((_, "8-k1")) => wanted_of::<8, 1>(alloc, script, wanted),
+        Some((_, "8-k4")) => wanted_of::<8, 4>(alloc, script, wanted),
         _ => Err(CaseFault::NoWindows),
     }
 }

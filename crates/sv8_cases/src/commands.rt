@@ -2,19 +2,8 @@
 
 ghost use Rattle.std.specs.Prelude.{◌≤◌, length};
 
+use sv8_difference::line_end;
 use sv8_shell::{Command, parse_command};
-
-/// Where the first line of a text ends, with its LF.
-fn line_end(text: &[u8]) -> usize
-    ensures { result ≤ length text.now }
-{
-    for index in 0..text.len() {
-        if text[index] == b'\n' {
-            return index + 1;
-        }
-    }
-    text.len()
-}
 
 /// How many lines a command takes beside its own.
 fn lines_taken(line: &[u8]) -> u32 {

@@ -1,16 +1,18 @@
 //! The report: a line for each case that differs, and the counts.
 
 use crate::case::{CaseFault, Wanted, read_file, run_case};
-use crate::difference::first_difference;
 use anyhow::{Context, Result};
 use std::io::{BufWriter, Write};
 use std::{env, fs};
+use sv8_difference::first_difference;
 
-/// The folder of the cases: the word behind the program's name, or else the one that it is run in.
-fn folder_name(rt: &HostRuntime) -> Result<String> {
-    match env::args(rt)?.nth(1) {
-        Some(folder) => Ok(folder),
-        None => Ok(String::from_str(rt.alloc(), ".")?),
+/// The folder of the cases, which is the word behind the program's name, or else the one that it is run in; and the one case that is
+/// asked for by a word behind it.
+fn words(rt: &HostRuntime) -> Result<(String, Option<String>)> {
+    let mut words = env::args(rt)?.skip(1);
+    match words.next() {
+        Some(folder) => Ok((folder, words.next())),
+        None => Ok((String::from_str(rt.alloc(), ".")?, None)),
     }
 }
 
@@ -29,14 +31,33 @@ fn case_names(rt: &HostRuntime, folder: &str) -> Result<Vec<String>> {
     Ok(names)
 }
 
+/// Runs the case that is asked for, and writes what its commands answer, each with the counts after it, to standard output; or runs all
+/// cases. Counts the cases that differ.
+pub fn run_asked(rt: &HostRuntime) -> Result<u64> {
+    match words(rt)? {
+        (folder, Some(name)) => {
+            show(rt, &folder, &name)?;
+            Ok(0)
+        }
+        (folder, None) => run_cases(rt, &folder),
+    }
+}
+
+/// Writes what the commands of a case answer, each with the counts after it.
+fn show(rt: &HostRuntime, folder: &str, name: &str) -> Result<()> {
+    let script = read_file(rt, folder, name, "txt")?;
+    let shown = run_case(rt.alloc(), name, &script, Wanted::Both)?;
+    rt.stdout().write_all(&shown)?;
+    Ok(())
+}
+
 /// Runs all cases, writes the report to standard output, and counts the cases that differ.
-pub fn run_cases(rt: &HostRuntime) -> Result<u64> {
-    let folder = folder_name(rt)?;
-    let names = case_names(rt, &folder).context("the folder cannot be read")?;
+fn run_cases(rt: &HostRuntime, folder: &str) -> Result<u64> {
+    let names = case_names(rt, folder).context("the folder cannot be read")?;
     let mut out = BufWriter::new(rt.alloc(), rt.stdout())?;
     let mut differing: u64 = 0;
     for name in &names {
-        if !tell(rt, &folder, name, &mut out)? {
+        if !tell(rt, folder, name, &mut out)? {
             differing = differing.saturating_add(1);
         }
     }
@@ -60,7 +81,7 @@ fn tell<W: Write>(rt: &HostRuntime, folder: &str, name: &str, out: &mut W) -> Re
 fn ending_of(wanted: Wanted) -> &'static str {
     match wanted {
         Wanted::Answer => "answer",
-        Wanted::Counts => "counts",
+        Wanted::Counts | Wanted::Both => "counts",
     }
 }
 

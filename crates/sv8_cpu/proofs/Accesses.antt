@@ -1,27 +1,28 @@
 -- What an access does, from what physical memory did.
-use Rattle.std.proofs.Common.{◌≡◌, ◌∙◌, ◌<◌, ◌≤◌, ◌==◌, ◌&&◌, ℕ, Bool, true, false, cond, nat_lt, List, Result, refl, sym, ap, subst, arith}
+use Rattle.std.proofs.Common.{◌≡◌, ◌∙◌, ◌<◌, ◌≤◌, ◌==◌, ◌&&◌, ℕ, Bool, true, false, nat_lt, List, Result, refl, sym, ap, subst, arith}
 use Rattle.std.proofs.lemmas.Bool.Decides.{nat_tests}
 use Rattle.sv8_model.specs.Outside.{Outside}
 use Rattle.sv8_model.specs.declared.touch.Touch.{Touch}
 use Rattle.sv8_model.specs.Action.{Action, done, take_input, count_waiting, ◌>>=◌}
 use Rattle.sv8_model.specs.Does.{Does}
-use Rattle.sv8_model.proofs.Deeds.{does_then, does_map, does_done, does_if_true, does_if_false}
+use Rattle.sv8_model.proofs.Common.{does_then, does_map, does_if_true, does_if_false}
 use Rattle.sv8_phys.specs.declared.fault.BusError.{BusError}
 use Rattle.sv8_phys.specs.declared.size.Size.{Size}
 use Rattle.sv8_phys.specs.declared.size.Size.TheVariants.{Byte, Half, Word, Double}
-use Rattle.sv8_phys.specs.declared.timer.Timer.{Timer}
-use Rattle.sv8_phys.specs.Devices.{input_address, waiting_address, Stored, load, store, ram_load, ram_store, stored_with}
+use Rattle.sv8_phys.specs.Devices.{input_address, waiting_address, Stored, load, store, ram_load, ram_store}
+use Rattle.sv8_mmu.specs.declared.access_type.AccessType.{AccessType}
+use Rattle.sv8_mmu.specs.declared.fault_type.FaultType.{FaultType}
 use Rattle.sv8_mmu.specs.declared.translation.Reach.{Reach}
 use Rattle.sv8_mmu.specs.declared.translation.Translated.{Translated}
 use Rattle.sv8_mmu.specs.declared.translation.Translated.TheVariants as translated
 use Rattle.sv8_mmu.specs.declared.translation.Translated.TheVariants.{At}
+use Rattle.sv8_mmu.specs.Registers.{translates}
 use Rattle.sv8_mmu.specs.Translation.{translate}
 use Rattle.sv8_mmu.specs.Probe.{probe}
 use Rattle.sv8_mmu.specs.Kept.{Kept, AllStand}
 use Rattle.sv8_trap.specs.declared.table.Trap.{Trap}
-use Rattle.sv8_trap.specs.declared.table.Trap.TheVariants.{InstructionAccessException, DataAccessException}
 use Rattle.sv8_cpu.specs.Units.{Units, Served, served, failed}
-use Rattle.sv8_cpu.specs.Access.{load_type, store_type, bus_fault, fetched_from, load_answer, takes_byte, counts_bytes, plainly_loaded, loaded_from, store_answer, stored_at, exchanged_at, located, at_virtual, is_word, probed}
+use Rattle.sv8_cpu.specs.Access.{fetched_from, load_answer, takes_byte, counts_bytes, plainly_loaded, loaded_from, store_answer, stored_at, exchanged_at, located, at_virtual, is_word, probed}
 
 no_console : (size : Size) (pa console : ℕ) → pa < console → (is_word size && pa == console) ≡ false
 no_console Byte pa console h = refl
@@ -91,13 +92,18 @@ exchanged_word keeps limit u o o1 o2 ts ts1 ts2 size asi value va pa old x y s i
 
 -- ---- at a virtual address
 
-module _ (keeps : Bool) (limit : ℕ) (u : Units) (trap : Trap) (asi access_type : ℕ) (reach : Reach) (va : ℕ) (use_address : Units → ℕ → Action Served) (o o2 : Outside) (s : Served) (ts ts2 : List Touch) where
+module _ (keeps : Bool) (limit : ℕ) (u : Units) (trap : Trap) (asi : ℕ) (access_type : AccessType) (reach : Reach) (va : ℕ) (use_address : Units → ℕ → Action Served) (o o2 : Outside) (s : Served) (ts ts2 : List Touch) where
   -- it is made as the type and the reach are that the code has found
-  pub made_as : (given : ℕ) (given_reach : Reach) → given ≡ access_type → given_reach ≡ reach → Does keeps (at_virtual limit u trap asi given given_reach va (use_address u)) o o2 s ts ts2
+  pub made_as : (given : AccessType) (given_reach : Reach) → given ≡ access_type → given_reach ≡ reach → Does keeps (at_virtual limit u trap asi given given_reach va (use_address u)) o o2 s ts ts2
       → Does keeps (at_virtual limit u trap asi access_type reach va (use_address u)) o o2 s ts ts2
   made_as given given_reach type_is reach_is made =
       subst (λ k. Does keeps (at_virtual limit u trap asi k reach va (use_address u)) o o2 s ts ts2) type_is
       (subst (λ r. Does keeps (at_virtual limit u trap asi given r va (use_address u)) o o2 s ts ts2) reach_is made)
+
+  -- where addresses are not translated, it is made at the virtual address
+  pub made_untranslated : translates u.mmu ≡ false → Does keeps (use_address u va) o o2 s ts ts2 → Does keeps (at_virtual limit u trap asi access_type reach va (use_address u)) o o2 s ts ts2
+  unfolding at_virtual translate ◌>>=◌
+  made_untranslated off made = rw off made
 
   module _ (u1 : Units) (o1 : Outside) (t : Translated) (ts1 : List Touch) (same : u1 ≡ u) (d : Does keeps (translate limit u.mmu va access_type reach) o o1 t ts ts1) where
     -- it is translated, and the access is made at the physical address
@@ -108,7 +114,7 @@ module _ (keeps : Bool) (limit : ℕ) (u : Units) (trap : Trap) (asi access_type
         (rw e (subst (λ v. Does keeps (use_address v pa) o1 o2 s ts1 ts2) same made))
 
     -- its translation meets a fault, and nothing more is done
-    pub refused_at : (kind level : ℕ) (answer : Served) (o3 : Outside) → t ≡ translated.Refused kind level → o3 ≡ o1
+    pub refused_at : (kind : FaultType) (level : ℕ) (answer : Served) (o3 : Outside) → t ≡ translated.Refused kind level → o3 ≡ o1
         → answer ≡ failed u1 trap asi (record { level = level; access_type = access_type; fault_type = kind; address = va }) → Does keeps (done answer) o3 o2 s ts1 ts2
         → Does keeps (at_virtual limit u trap asi access_type reach va (use_address u)) o o2 s ts ts2
     unfolding at_virtual

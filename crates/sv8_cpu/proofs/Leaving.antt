@@ -1,5 +1,5 @@
 -- The state that an action leaves, from what the parts did.
-use Rattle.std.proofs.Common.{◌≡◌, ◌∙◌, ℕ, zero, suc, ◌+◌, ◌-◌, ◌≤◌, Bool, List, [], ◌∷◌, ◌++◌, length, drop, refl, sym, ap, subst, arith}
+use Rattle.std.proofs.Common.{◌≡◌, ◌∙◌, ℕ, zero, suc, ◌+◌, ◌-◌, ◌≤◌, Bool, List, [], ◌∷◌, length, drop, sym, ap, subst, arith}
 use Rattle.sv8_model.specs.Outside.{Outside, without_oldest}
 use Rattle.sv8_model.specs.declared.touch.Touch.{Touch}
 use Rattle.sv8_model.specs.Action.{Action, done, load_word, store_word, load_byte, store_byte, take_input, count_waiting, emit, ask_levels, clear_levels, expire, result_of, after}
@@ -7,7 +7,7 @@ use Rattle.sv8_model.specs.Does.{Does}
 use Rattle.sv8_phys.specs.Contents.{Contents, outside_of}
 use Rattle.sv8_phys.specs.declared.timer.Timer.{Timer}
 use Rattle.sv8_trap.specs.Processor.{Processor}
-use Rattle.sv8_mmu.specs.declared.registers.MmuRegisters.{MmuRegisters}
+use Rattle.sv8_mmu.specs.declared.registers.Mmu.{Mmu}
 use Rattle.sv8_cpu.specs.Step.{Inner}
 use Rattle.sv8_cpu.specs.State.{State, left_by}
 
@@ -42,10 +42,10 @@ length-dropped (suc n) [] = omega arith
 length-dropped (suc n) (b ∷ bs) = let rest = length-dropped n bs in omega (arith, rest)
 
 -- a state, from its parts
-state_is : (s : State) (p : Processor) (u : MmuRegisters) (m : Contents) → s.processor ≡ p → s.mmu ≡ u → s.memory ≡ m → s ≡ record { processor = p; mmu = u; memory = m }
+state_is : (s : State) (p : Processor) (u : Mmu) (m : Contents) → s.processor ≡ p → s.mmu ≡ u → s.memory ≡ m → s ≡ record { processor = p; mmu = u; memory = m }
 state_is s p u m e f g =
     ap {A = Processor} {B = State} (λ x. record { processor = x; mmu = s.mmu; memory = s.memory }) e
-    ∙ ap {A = MmuRegisters} {B = State} (λ x. record { processor = p; mmu = x; memory = s.memory }) f
+    ∙ ap {A = Mmu} {B = State} (λ x. record { processor = p; mmu = x; memory = s.memory }) f
     ∙ ap {A = Contents} {B = State} (λ x. record { processor = p; mmu = u; memory = x }) g
 
 contents_are : (m : Contents) (taken : ℕ) (timer : Timer) → m.taken ≡ taken → m.timer ≡ timer → m ≡ record { ram = m.ram; taken = taken; output = m.output; pending = m.pending; timer = timer }

@@ -1,17 +1,17 @@
 -- Lines that are placed in RAM over zeros make the image.
-use Rattle.std.proofs.Common.{◌≡◌, ◌∙◌, ◌≢◌, ◌⊎◌, inl, inr, ℕ, zero, suc, ◌+◌, ◌-◌, ◌<◌, ◌≤◌, Bool, true, false, cond, nat_lt, List, [], ◌∷◌, length, drop, map, Option, Some, None, refl, sym, ap, arith, get_or, set, get_or-set_other, get_or-set_same, length-set, add-one}
-use Rattle.std.specs.List.{slice_get, slice_index, range_with_len}
+use Rattle.std.proofs.Common.{◌≡◌, ◌∙◌, ◌≢◌, ◌⊎◌, inl, inr, ℕ, zero, suc, ◌+◌, ◌-◌, ◌<◌, ◌≤◌, Bool, true, false, cond, nat_lt, List, [], ◌∷◌, length, drop, map, Some, None, refl, sym, ap, arith, get_or, set, get_or-set_other, get_or-set_same, length-set, add-one}
+use Rattle.std.specs.List.{slice_get, range_with_len}
 use Rattle.std.specs.Prelude.{replicate}
 use Rattle.std.proofs.lemmas.Bool.{cases_lt}
 use Rattle.std.proofs.lemmas.Bool.Decides.{nat_tests}
-use Rattle.std.proofs.lemmas.List.{drop_more, get_or_past}
+use Rattle.std.proofs.lemmas.List.{drop_more}
 use Rattle.std.proofs.lemmas.List.FromFn.{fill_by_all}
 use Rattle.std.proofs.lemmas.Option.{slice_get_within, get_or_from_slice_get}
 use Rattle.sv8_source.specs.Listing.{ListedLine, numbered}
 use Rattle.sv8_source.specs.Listing.{listing}
 use Rattle.sv8_source.specs.Text.{Text}
 use Rattle.sv8_source.specs.Image.{covers, byte_at, image_byte, image_bytes, Rising}
-use Rattle.sv8_source.proofs.SourceLaws.{lines_rise}
+use Rattle.sv8_source.proofs.Common.{lines_rise}
 use Rattle.sv8_phys.specs.Contents.{Contents}
 use Rattle.sv8_cpu.specs.Loading.{byte_placed, bytes_placed, lines_placed}
 

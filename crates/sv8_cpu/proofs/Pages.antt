@@ -1,11 +1,11 @@
 -- A store changes one page of RAM at most.
-use Rattle.std.proofs.Common.{◌≡◌, ◌≢◌, ℕ, ◌+◌, ◌*◌, ◌/◌, ◌%◌, ◌^◌, ◌<◌, Bool, true, false, cond, nat_lt, ◌==◌, Ok, List, [], length, get_or, refl, sym, ◌∙◌, ap, subst, arith}
+use Rattle.std.proofs.Common.{◌≡◌, ℕ, ◌+◌, ◌*◌, ◌/◌, ◌%◌, ◌^◌, Bool, true, false, cond, nat_lt, ◌==◌, Ok, List, length, get_or, refl, sym, ◌∙◌, ap, subst, arith}
 use Rattle.std.proofs.lemmas.List.{length-set, get_or-set_other}
 use Rattle.sv8_model.specs.declared.touch.Touch.{Touch}
 use Rattle.sv8_model.specs.Outside.{Outside, with_byte, with_word}
 use Rattle.sv8_model.specs.Action.{Action, done, emit, clear_levels, expire, after}
 use Rattle.sv8_model.specs.Does.{Does}
-use Rattle.sv8_model.proofs.Lists.{length-with_word, word_other}
+use Rattle.sv8_model.proofs.Common.{length-with_word, word_other}
 use Rattle.sv8_phys.specs.declared.size.Size.{Size}
 use Rattle.sv8_phys.specs.declared.size.Size.TheVariants.{Byte, Half, Word, Double}
 use Rattle.sv8_phys.specs.declared.timer.Timer.{Timer}

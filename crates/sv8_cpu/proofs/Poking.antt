@@ -1,5 +1,5 @@
 -- Bytes that are poked one after another.
-use Rattle.std.proofs.Common.{◌≡◌, ◌∙◌, ℕ, ◌+◌, ◌*◌, ◌≤◌, ◌%◌, List, [], ◌∷◌, ◌++◌, length, Option, Some, None, refl, sym, ap, arith}
+use Rattle.std.proofs.Common.{◌≡◌, ◌∙◌, ℕ, ◌+◌, ◌%◌, List, [], ◌∷◌, ◌++◌, length, Option, Some, None, refl, sym, ap, arith}
 use Rattle.std.specs.List.{slice_index_or}
 use Rattle.sv8_time.specs.declared.words.WordPoke.{WordPoke}
 use Rattle.sv8_time.specs.Order.{Each}

@@ -9,14 +9,12 @@ use Rattle.sv8_model.specs.Cells as cells
 use Rattle.sv8_model.specs.Cells.{Cell, ram_byte, waiting_bytes, pending_level, Value, queue, same_cell, Fits, is_read, is_written}
 use Rattle.sv8_model.specs.Frame as frame
 use Rattle.sv8_model.specs.Frame.{Alike, Unread, remaining, Framed, only}
-use Rattle.sv8_model.proofs.CellLaws.{cells_hold}
-use Rattle.sv8_model.proofs.Frames as frames
-use Rattle.sv8_model.proofs.Staying as staying
+use Rattle.sv8_model.proofs.Common.{cells_hold, framed as action_framed, sound as action_sound, stays as action_stays}
 use Rattle.sv8_history.specs.Machine as history
 use Rattle.sv8_history.specs.Machine.{SameFootprint}
 use Rattle.sv8_history.specs.Framed.{AreCells, IsFramed}
 use Rattle.sv8_history.specs.Acting.{IsActing}
-use Rattle.sv8_history.proofs.Acting.{acting_frames}
+use Rattle.sv8_history.proofs.Common.{acting_frames}
 use Rattle.sv8_time.specs.Schedule.{Schedule}
 use Rattle.sv8_phys.specs.Contents.{Contents, outside_of}
 use Rattle.sv8_source.specs.Text.{Text}
@@ -35,7 +33,7 @@ unread_only : (c : Cell) (ts : List Touch) → is_read ts c ≡ false → Unread
 unread_only c ts unread d e = subst (λ x. is_read ts x ≡ false) (same_is c d e) unread
 
 framed_put : {R : Type 0} (c : Cell) (v : Value) (a : Action R) (o : Outside) → is_read (touches a o) c ≡ false → Framed (only c) a o (cells.put c v o)
-framed_put c v a o unread = frames.framed (only c) a o (cells.put c v o) (cells_hold.alike c v o) (unread_only c (touches a o) unread)
+framed_put c v a o unread = action_framed (only c) a o (cells.put c v o) (cells_hold.alike c v o) (unread_only c (touches a o) unread)
 
 result_put : {R : Type 0} (c : Cell) (v : Value) (a : Action R) (o : Outside) → is_read (touches a o) c ≡ false → result_of a (cells.put c v o) ≡ result_of a o
 result_put c v a o unread = sym (framed_put c v a o unread).result
@@ -57,7 +55,7 @@ unwritten_there : {R : Type 0} (c : Cell) (v : Value) (a : Action R) (o : Outsid
     → is_read (touches a o) c ≡ false → is_written (touches a o) c ≡ false → cells.get c (after a (cells.put c v o)) ≡ v
 unwritten_there c v a o sound has fits unread unwritten =
     let same = touches_put c v a o unread in
-    (staying.stays a (cells.put c v o) (cells_hold.sound c v o sound has fits)).same c (ap (λ ts. is_read ts c) same ∙ unread) (ap (λ ts. is_written ts c) same ∙ unwritten)
+    (action_stays a (cells.put c v o) (cells_hold.sound c v o sound has fits)).same c (ap (λ ts. is_read ts c) same ∙ unread) (ap (λ ts. is_written ts c) same ∙ unwritten)
     ∙ cells_hold.got c v o has fits
 
 after_put : {R : Type 0} (c : Cell) (v : Value) (a : Action R) (o : Outside) → frame.IsSound o → cells.Has c o → Fits c v → is_read (touches a o) c ≡ false
@@ -134,7 +132,7 @@ untaken windows pages bytes r sound none =
     let there = sound_outside pages r.state.memory r.arrived sound in
     ap (λ x. left_by x r.state.memory (cells.put waiting_bytes (queue left) o) (after a (cells.put waiting_bytes (queue left) o))) (result_put waiting_bytes (queue left) a o none)
     ∙ ap (λ q. left_by (result_of a o) r.state.memory (cells.put waiting_bytes (queue left) o) q) (after_put waiting_bytes (queue left) a o there tt tt none)
-    ∙ left_waiting r.state.memory (result_of a o) o (after a o) left (ap cells.queue_of ((staying.stays a o there).same waiting_bytes none refl))
+    ∙ left_waiting r.state.memory (result_of a o) o (after a o) left (ap cells.queue_of ((action_stays a o there).same waiting_bytes none refl))
 
 untaken_footprint : (windows pages : ℕ) (bytes : List ℕ) (r : Ready) → (footprint_of_act windows pages r).takes ≡ false
     → SameFootprint (footprint_of_act windows pages (record r { arrived = bytes })) (footprint_of_act windows pages r)
@@ -148,15 +146,15 @@ sound_act windows pages r h =
     let a = step_action windows pages r.state in
     let o = outside_of r.state.memory r.arrived in
     let there = sound_outside pages r.state.memory r.arrived h in
-    let left = staying.sound a o there in
-    record { size = (staying.stays a o there).size ∙ h.size; bytes = left.bytes; levels = record { count = left.count; none_at_zero = left.none_at_zero } }
+    let left = action_sound a o there in
+    record { size = (action_stays a o there).size ∙ h.size; bytes = left.bytes; levels = record { count = left.count; none_at_zero = left.none_at_zero } }
 
 holds_act : (windows pages : ℕ) (c : Cell) (r : Ready) → IsSound pages r.state → Holds c r.state → Holds c (act windows pages r)
 holds_act windows pages (ram_byte i) r h has =
-    omega (arith, has, (staying.stays (step_action windows pages r.state) (outside_of r.state.memory r.arrived) (sound_outside pages r.state.memory r.arrived h)).size)
+    omega (arith, has, (action_stays (step_action windows pages r.state) (outside_of r.state.memory r.arrived) (sound_outside pages r.state.memory r.arrived h)).size)
 holds_act windows pages waiting_bytes r h has = has
 holds_act windows pages (pending_level l) r h has =
-    (has.0, omega (arith, has.1, (staying.stays (step_action windows pages r.state) (outside_of r.state.memory r.arrived) (sound_outside pages r.state.memory r.arrived h)).levels))
+    (has.0, omega (arith, has.1, (action_stays (step_action windows pages r.state) (outside_of r.state.memory r.arrived) (sound_outside pages r.state.memory r.arrived h)).levels))
 
 has_act : (windows pages : ℕ) (c : Cell) (r : Ready) → Has pages c r.state → Has pages c (act windows pages r)
 has_act windows pages c r h = (sound_act windows pages r h.0, holds_act windows pages c r h.0 h.1)

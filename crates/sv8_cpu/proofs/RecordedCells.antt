@@ -5,7 +5,7 @@ use Rattle.std.proofs.lemmas.Bool.Decides.{nat_tests}
 use Rattle.sv8_model.specs.Cells as cells
 use Rattle.sv8_model.specs.Cells.{Cell, ram_byte, waiting_bytes, pending_level, Value, same_cell, Fits}
 use Rattle.sv8_model.specs.Frame as frame
-use Rattle.sv8_model.proofs.CellLaws.{cells_hold}
+use Rattle.sv8_model.proofs.Common.{cells_hold}
 use Rattle.sv8_phys.specs.Contents.{Contents, AreContents, outside_of}
 use Rattle.sv8_cpu.specs.State.{State}
 use Rattle.sv8_cpu.specs.Recorded.{cells_of, with_cells, get, put, IsSound, Holds, Has}

@@ -9,13 +9,12 @@ use Rattle.sv8_model.specs.Outside.{Outside}
 use Rattle.sv8_model.specs.Cells as cells
 use Rattle.sv8_model.specs.Cells.{Cell, ram_byte, waiting_bytes, pending_level, Value, byte, held, same_cell, Fits}
 use Rattle.sv8_model.specs.Frame.{Alike, only}
-use Rattle.sv8_model.proofs.Lists.{IsByte, set_each}
-use Rattle.sv8_model.proofs.CellLaws.{cells_hold}
+use Rattle.sv8_model.proofs.Common.{IsByte, set_each, cells_hold}
 use Rattle.sv8_history.specs.Framed as framed
 use Rattle.sv8_time.specs.Order.{Each}
 use Rattle.sv8_time.specs.Schedule.{Schedule, BytePoke, IsTimeline, IsPokePlace, IsRequestPlace}
 use Rattle.sv8_time.specs.declared.requests.Request.{Request}
-use Rattle.sv8_time.proofs.Parts.{each_filter, each_map}
+use Rattle.sv8_time.proofs.Common.{each_filter, each_map}
 use Rattle.sv8_phys.specs.Memory.{ram_size}
 use Rattle.sv8_cpu.specs.Events.{poked, marked}
 use Rattle.sv8_cpu.specs.State.{State}
@@ -24,7 +23,7 @@ use Rattle.sv8_cpu.proofs.RecordedCells.{has_outside}
 
 -- ---- pokes
 
-length-poked : (ps : List BytePoke) (ram : List ℕ) → length (poked ps ram) ≡ length ram
+pub length-poked : (ps : List BytePoke) (ram : List ℕ) → length (poked ps ram) ≡ length ram
 length-poked [] ram = refl
 length-poked (p ∷ ps) ram = length-poked ps _ ∙ length-set ram p.address p.value
 
@@ -55,7 +54,7 @@ poked_bytes pages (p ∷ ps) ram valid all = poked_bytes pages ps _ valid.1 (set
 
 -- ---- requests
 
-length-marked : (rs : List Request) (pending : List Bool) → length (marked rs pending) ≡ length pending
+pub length-marked : (rs : List Request) (pending : List Bool) → length (marked rs pending) ≡ length pending
 length-marked [] pending = refl
 length-marked (r ∷ rs) pending = length-marked rs _ ∙ length-set pending r.level true
 
@@ -101,10 +100,10 @@ held_of_test true b = refl
 held_of_test false b = refl
 
 -- a cell holds what it was set to, or else what it had
-byte_comes : (i : ℕ) (e : Event) (o : Outside) → i < length o.ram → cells.get (ram_byte i) (after_event e o) ≡ unwrap_or (poke_of (ram_byte i) e) (cells.get (ram_byte i) o)
+pub byte_comes : (i : ℕ) (e : Event) (o : Outside) → i < length o.ram → cells.get (ram_byte i) (after_event e o) ≡ unwrap_or (poke_of (ram_byte i) e) (cells.get (ram_byte i) o)
 byte_comes i e o within = ap byte (sym (get_poked e.pokes o.ram i (get_or o.ram i 0) None within refl)) ∙ byte_of_option (value_poked i e.pokes None) (get_or o.ram i 0)
 
-level_comes : (l : ℕ) (e : Event) (o : Outside) → l < length o.pending → cells.get (pending_level l) (after_event e o) ≡ unwrap_or (poke_of (pending_level l) e) (cells.get (pending_level l) o)
+pub level_comes : (l : ℕ) (e : Event) (o : Outside) → l < length o.pending → cells.get (pending_level l) (after_event e o) ≡ unwrap_or (poke_of (pending_level l) e) (cells.get (pending_level l) o)
 level_comes l e o within = ap held (get_marked e.requests o.pending l within) ∙ held_of_test (list_any (λ r. r.level == l) e.requests) (get_or o.pending l false)
 
 cell_comes : (c : Cell) (e : Event) (o : Outside) → cells.Has c o → cells.get c (after_event e o) ≡ unwrap_or (poke_of c e) (cells.get c o)
@@ -113,7 +112,7 @@ cell_comes waiting_bytes e o has = refl
 cell_comes (pending_level l) e o has = level_comes l e o has.1
 
 -- a cell that held the same, and is set alike
-comes_alike : (c : Cell) (e f : Event) (o o' : Outside) → length o.ram ≡ length o'.ram → length o.pending ≡ length o'.pending
+pub comes_alike : (c : Cell) (e f : Event) (o o' : Outside) → length o.ram ≡ length o'.ram → length o.pending ≡ length o'.pending
     → poke_of c f ≡ poke_of c e → cells.get c o ≡ cells.get c o' → cells.get c (after_event e o) ≡ cells.get c (after_event f o')
 comes_alike (ram_byte i) e f o o' size levels poke same = elim (cases_lt i (length o.ram)) [
   | inl within ↦ byte_comes i e o within ∙ ap (unwrap_or (poke_of (ram_byte i) e)) same ∙ ap (λ p. unwrap_or p (cells.get (ram_byte i) o')) (sym poke)
@@ -221,12 +220,12 @@ delivers e f s h =
 
 -- ---- the events of a timeline
 
-pokes_in : (pages limit : ℕ) (ps : List BytePoke) → limit ≡ ram_size pages → Each (IsPokePlace limit) ps → Each (λ p. p.value < 256) ps → Each (IsPoke pages) ps
-pokes_in pages limit [] same places below = tt
-pokes_in pages limit (p ∷ ps) same places below = ((omega (arith, same, places.0.1), below.0), pokes_in pages limit ps same places.1 below.1)
+pokes_in : (pages limit : ℕ) (ps : List BytePoke) → limit ≡ ram_size pages → Each (IsPokePlace limit) ps → Each (IsPoke pages) ps
+pokes_in pages limit [] same places = tt
+pokes_in pages limit (p ∷ ps) same places = ((omega (arith, same, places.0.1), places.0.2), pokes_in pages limit ps same places.1)
 
-pub serves : (pages : ℕ) (schedule : Schedule) → IsTimeline schedule → schedule.limit ≡ ram_size pages → Each (λ p. p.value < 256) schedule.pokes → AreEvents pages schedule
-serves pages schedule timeline same below n = record {
-  pokes = each_filter (IsPoke pages) (λ p. p.step == n) schedule.pokes (pokes_in pages schedule.limit schedule.pokes same timeline.poke_places below);
+pub serves : (pages : ℕ) (schedule : Schedule) → IsTimeline schedule → schedule.limit ≡ ram_size pages → AreEvents pages schedule
+serves pages schedule timeline same n = record {
+  pokes = each_filter (IsPoke pages) (λ p. p.step == n) schedule.pokes (pokes_in pages schedule.limit schedule.pokes same timeline.poke_places);
   requests = each_filter IsRequest (λ r. r.step == n) schedule.requests (each_map IsRequestPlace IsRequest (λ r h. (h.1, h.2)) schedule.requests timeline.request_places);
 }

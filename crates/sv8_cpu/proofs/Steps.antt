@@ -1,23 +1,34 @@
 -- The parts of a step, one after another.
-use Rattle.std.proofs.Common.{◌≡◌, ℕ, Bool, true, false, cond, Option, Some, None, List, refl, sym, ap}
+use Rattle.std.proofs.Common.{◌≡◌, ℕ, Bool, true, false, MatchBool, MatchOption, Option, Some, None, List, refl, sym, subst}
 use Rattle.sv8_isa.specs.declared.instr.Instr.{Instr}
+use Rattle.sv8_isa.specs.declared.instr.Instr.TheVariants.{Memory}
+use Rattle.sv8_isa.specs.declared.instr.MemoryOp.{MemoryOp}
+use Rattle.sv8_isa.specs.declared.instr.Operand.{Operand}
+use Rattle.sv8_isa.specs.Table.{meaning}
 use Rattle.sv8_model.specs.Outside.{Outside}
 use Rattle.sv8_model.specs.declared.touch.Touch.{Touch}
-use Rattle.sv8_model.specs.Action.{Action, done, ask_levels}
+use Rattle.sv8_model.specs.Action.{done, ask_levels}
 use Rattle.sv8_model.specs.Does.{Does}
-use Rattle.sv8_model.proofs.Deeds.{does_then, does_map, does_done, does_if_true}
+use Rattle.sv8_model.proofs.Common.{does_then, does_map, does_done, does_if_true}
 use Rattle.sv8_phys.specs.declared.timer.Timer.{Timer}
+use Rattle.sv8_phys.specs.Contents.{outside_of}
 use Rattle.sv8_phys.specs.Devices.{tick}
+use Rattle.sv8_phys.specs.Memory.{ram_size}
 use Rattle.sv8_trap.specs.declared.table.Trap.{Trap}
+use Rattle.sv8_trap.specs.Table.{taken}
 use Rattle.sv8_trap.specs.Processor.{Processor}
 use Rattle.sv8_trap.specs.Interrupt.{unmasked}
-use Rattle.sv8_cpu.specs.declared.access.AccessRequest.{AccessRequest}
-use Rattle.sv8_cpu.specs.declared.access.AccessRequest.TheVariants.{Fetch}
-use Rattle.sv8_cpu.specs.declared.access.Response.{Response}
-use Rattle.sv8_cpu.specs.Units.{Units, Served}
+use Rattle.sv8_iu.specs.declared.request.AccessRequest.{AccessRequest}
+use Rattle.sv8_iu.specs.declared.request.AccessRequest.TheVariants.{Nothing, Fetch}
+use Rattle.sv8_iu.specs.declared.request.Response.{Response}
+use Rattle.sv8_cpu.specs.declared.machine.Parts.{Parts}
+use Rattle.sv8_cpu.specs.Units.{Units, Served, served}
 use Rattle.sv8_cpu.specs.Access.{access}
-use Rattle.sv8_cpu.specs.Instruction.{asked, trapped}
-use Rattle.sv8_cpu.specs.Step.{Inner, answered, finished_access, executed, fetched, instruction, requested, interruptible, with_timer, awake}
+use Rattle.sv8_iu.specs.Operands.{sum_of_sources}
+use Rattle.sv8_iu.specs.Memory.{memory_traps, access_of}
+use Rattle.sv8_iu.specs.Instruction.{raised, asked, trapped, data_space, IsPlain}
+use Rattle.sv8_cpu.specs.Step.{Inner, answered, finished_access, executed, carried_out, fetched, instruction, requested, interruptible, with_timer, awake}
+use Rattle.sv8_cpu.specs.Whole.{inner_of_parts, MayCarryOut}
 
 module _ (keeps : Bool) (windows limit : ℕ) (m : Inner) where
   -- an instruction raises a trap
@@ -32,6 +43,31 @@ module _ (keeps : Bool) (windows limit : ℕ) (m : Inner) where
   unfolding executed
   access_answered o o1 ts ts1 i q s y e h f =
       does_map keeps (access limit m.units (asked windows m.processor i)) (finished_access windows m.processor i) o o1 s y ts ts1 (rw (← e) h) f
+
+  -- a word is carried out by the access of its instruction
+  pub carried_out_by : (o o1 : Outside) (ts ts1 : List Touch) (word : ℕ) (i : Instr) (q : AccessRequest) (s : Served) (y : Inner) → i ≡ meaning word
+      → taken (raised windows m.processor i) ≡ None → q ≡ asked windows m.processor i → Does keeps (access limit m.units q) o o1 s ts ts1
+      → y ≡ finished_access windows m.processor i s → Does keeps (carried_out windows limit m word) o o1 y ts ts1
+  carried_out_by o o1 ts ts1 word i q s y is none e h f =
+      subst (λ j. Does keeps (executed windows limit m j (taken (raised windows m.processor j))) o o1 y ts ts1) is
+      (subst (λ t. Does keeps (executed windows limit m i t) o o1 y ts ts1) (sym none) (access_answered o o1 ts ts1 i q s y e h f))
+
+  -- a word is carried out by what its instruction makes of the processor alone
+  pub carried_out_plainly : (o : Outside) (ts : List Touch) (word : ℕ) (q : Processor) (y : Inner) → IsPlain windows m.processor (meaning word) q
+      → y ≡ record m { processor = q } → Does keeps (carried_out windows limit m word) o o y ts ts
+  unfolding access
+  carried_out_plainly o ts word q y (none, unasked, is) e =
+      carried_out_by o o ts ts word (meaning word) Nothing (served m.units 0) y refl none (sym unasked) (does_done keeps (served m.units 0) (served m.units 0) o ts refl) (rw e (rw is refl))
+
+  -- a word is carried out by the access of a load or a store, if it was made at all
+  pub transferred : (unmade : Type 0) (o o1 : Outside) (ts ts1 : List Touch) (op : MemoryOp) (rd rs1 : ℕ) (operand : Operand) (at : ℕ) (u : Units) (found : Option Response) (r : Response) (y : Inner)
+      → at ≡ sum_of_sources windows m.processor rs1 operand → taken (memory_traps op rd at) ≡ None → found ≡ Some r
+      → MatchOption found unmade (λ z. Does keeps (access limit m.units (access_of windows m.processor op (data_space m.processor) rd at)) o o1 (record { response = z; units = u }) ts ts1)
+      → y ≡ record { processor = answered windows m.processor (Memory op rd rs1 operand) r; units = u }
+      → (word : ℕ) → Memory op rd rs1 operand ≡ meaning word → Does keeps (carried_out windows limit m word) o o1 y ts ts1
+  transferred unmade o o1 ts ts1 op rd rs1 operand at u found r y e none made h f word is =
+      carried_out_by o o1 ts ts1 word (Memory op rd rs1 operand) (access_of windows m.processor op (data_space m.processor) rd at) (record { response = r; units = u }) y is (rw (← e) none) (rw e refl)
+      (subst (λ a. MatchOption a unmade (λ z. Does keeps (access limit m.units (access_of windows m.processor op (data_space m.processor) rd at)) o o1 (record { response = z; units = u }) ts ts1)) made h) f
 
   module _ (o o1 o2 : Outside) (ts ts1 ts2 : List Touch) (y : Inner) where
     -- a fetch is answered, and what follows
@@ -56,3 +92,10 @@ module _ (keeps : Bool) (windows limit : ℕ) (m : Inner) where
         → Does keeps (awake windows limit m) o o2 y ts ts2
     unfolding awake
     awake_by timer next e h k = does_then keeps (tick m.units.timer) (λ t. interruptible windows limit (with_timer m t)) o o1 o2 timer y ts ts1 ts2 h (rw (← e) k)
+
+-- a shorter way has carried a word out by the processor alone, or it has left all as it was
+pub plainly_or_not : {windows pages : ℕ} (keeps : Bool) (bytes : List ℕ) (word : ℕ) (p p' : Parts windows pages) (q : Processor) (ts : List Touch) (found : Bool)
+    → MatchBool found (IsPlain windows p.processor (meaning word) q) (q ≡ p.processor) → p' ≡ record p { processor = q } → MayCarryOut keeps bytes word p p' ts ts found
+plainly_or_not {windows} {pages} keeps bytes word p p' q ts true plain is =
+    rw is (carried_out_plainly keeps windows (ram_size pages) (inner_of_parts p) (outside_of p.memory.phys bytes) ts word q _ plain refl)
+plainly_or_not keeps bytes word p p' q ts false left is = (rw is (rw left refl), refl)

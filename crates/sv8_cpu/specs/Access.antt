@@ -1,12 +1,14 @@
 -- One access to memory, as an action: by the address space, the translation of the address and then RAM, the console, another device, or a fault; the
 -- registers of the memory management unit; or a probe of its tables (Appendix H, Appendix I for the address spaces).
-use Rattle.std.specs.Prelude.{◌≡◌, ℕ, ◌+◌, ◌*◌, ◌/◌, ◌%◌, ◌^◌, ◌==◌, ◌&&◌, Bool, true, false, nat_lt, nat_le, Result, Ok, Err, Option, Some, None, if◌then◌else◌}
+use Rattle.std.specs.Prelude.{ℕ, ◌+◌, ◌*◌, ◌%◌, ◌^◌, ◌==◌, ◌&&◌, Bool, true, false, nat_lt, Result, Ok, Err, Option, Some, None, if◌then◌else◌}
 use Rattle.sv8_model.specs.Action.{Action, done, take_input, count_waiting, ◌>>=◌}
 use Rattle.sv8_phys.specs.declared.fault.BusError.{BusError}
 use Rattle.sv8_phys.specs.declared.size.Size.{Size}
 use Rattle.sv8_phys.specs.declared.size.Size.TheVariants.{Byte, Half, Word, Double}
-use Rattle.sv8_phys.specs.Memory.{bytes_in}
 use Rattle.sv8_phys.specs.Devices.{Stored, load, store, ram_load, ram_store, input_address, waiting_address}
+use Rattle.sv8_mmu.specs.declared.access_type.AccessType.{AccessType}
+use Rattle.sv8_mmu.specs.declared.access_type.AccessType.TheVariants.{UserLoad, SupervisorLoad, UserFetch, SupervisorFetch, UserStore, SupervisorStore, UserInstructionStore, SupervisorInstructionStore}
+use Rattle.sv8_mmu.specs.declared.fault_type.FaultType.TheVariants.{AccessBus}
 use Rattle.sv8_mmu.specs.declared.registers.Fault.{Fault}
 use Rattle.sv8_mmu.specs.declared.translation.Reach.{Reach}
 use Rattle.sv8_mmu.specs.declared.translation.Reach.TheVariants.{Ram, RamOrDevices}
@@ -18,22 +20,14 @@ use Rattle.sv8_mmu.specs.Probe.{probe}
 use Rattle.sv8_trap.specs.declared.table.Trap.{Trap}
 use Rattle.sv8_trap.specs.declared.table.Trap.TheVariants.{InstructionAccessException, DataAccessException}
 use Rattle.sv8_cpu.specs.Units.{Units, Served, served, failed}
-use Rattle.sv8_cpu.specs.declared.access.AccessRequest.{AccessRequest}
-use Rattle.sv8_cpu.specs.declared.access.AccessRequest.TheVariants as request
-use Rattle.sv8_cpu.specs.declared.access.Response.TheVariants.{Refused}
-use Rattle.sv8_cpu.specs.declared.access.Space.{Space}
-use Rattle.sv8_cpu.specs.declared.access.Space.TheVariants as space
+use Rattle.sv8_iu.specs.declared.request.AccessRequest.{AccessRequest}
+use Rattle.sv8_iu.specs.declared.request.AccessRequest.TheVariants as request
+use Rattle.sv8_iu.specs.declared.request.Response.TheVariants.{Refused}
+use Rattle.sv8_iu.specs.declared.request.Space.{Space}
+use Rattle.sv8_iu.specs.declared.request.Space.TheVariants as space
+use Rattle.sv8_iu.specs.Requests.{space_of}
 
 -- ---- address spaces
-
--- 3 probes the tables, 4 has the registers of the unit; 8 to B are user and supervisor instructions and data, and 20 to 2F physical addresses, of which
--- they are bits 35:32
-unfoldable pub space_of : ℕ → Space
-space_of asi =
-    if asi == 0x03 then space.Probing else
-    (if asi == 0x04 then space.Registers else
-    (if nat_le 0x08 asi && nat_le asi 0x0b then space.Virtual else
-    (if asi / 16 == 2 then space.Physical (asi % 16) else space.Unassigned)))
 
 -- the space that instructions are fetched from
 abbrev pub instruction_space : Bool → ℕ
@@ -45,17 +39,18 @@ physical_place high at = high * 2 ^ 32 + at
 
 -- ---- access types and faults
 
--- of loads, by the address space: 0 user data, 1 supervisor data, 2 user instructions, 3 supervisor instructions
-unfoldable pub load_type : ℕ → ℕ
-load_type asi = if asi == 0x08 then 2 else (if asi == 0x09 then 3 else (if asi == 0x0a then 0 else 1))
+-- of loads, by the address space: user data, supervisor data, user instructions, supervisor instructions
+unfoldable pub load_type : ℕ → AccessType
+load_type asi = if asi == 0x08 then UserFetch else (if asi == 0x09 then SupervisorFetch else (if asi == 0x0a then UserLoad else SupervisorLoad))
 
--- of stores, and of what loads and stores: 4 user data, 5 supervisor data, 6 user instructions, 7 supervisor instructions
-unfoldable pub store_type : ℕ → ℕ
-store_type asi = if asi == 0x08 then 6 else (if asi == 0x09 then 7 else (if asi == 0x0a then 4 else 5))
+-- of stores, and of what loads and stores
+unfoldable pub store_type : ℕ → AccessType
+store_type asi =
+    if asi == 0x08 then UserInstructionStore else (if asi == 0x09 then SupervisorInstructionStore else (if asi == 0x0a then UserStore else SupervisorStore))
 
--- nothing serves the physical address: fault type 5, which has no level
-abbrev pub bus_fault : ℕ → ℕ → Fault
-bus_fault access_type va = record { level = 0; access_type = access_type; fault_type = 5; address = va }
+-- nothing serves the physical address, a fault that has no level
+abbrev pub bus_fault : AccessType → ℕ → Fault
+bus_fault access_type va = record { level = 0; access_type = access_type; fault_type = AccessBus; address = va }
 
 -- a space that is not assigned, or an access or a register that it does not have, is no fault of the unit: nothing is recorded, and NF hides nothing
 abbrev pub no_such_access : Units → Served
@@ -115,12 +110,12 @@ exchanged_at limit u size asi value va pa =
 -- ---- accesses at a virtual address
 
 -- a fault of the translation fails the access; else it is made at the physical address
-abbrev pub located : Units → Trap → ℕ → ℕ → ℕ → (ℕ → Action Served) → Translated → Action Served
+abbrev pub located : Units → Trap → ℕ → AccessType → ℕ → (ℕ → Action Served) → Translated → Action Served
 located u trap asi access_type va use_address (translated.At pa) = use_address pa
 located u trap asi access_type va use_address (translated.Refused kind level) =
     done (failed u trap asi (record { level = level; access_type = access_type; fault_type = kind; address = va }))
 
-unfoldable pub at_virtual : ℕ → Units → Trap → ℕ → ℕ → Reach → ℕ → (ℕ → Action Served) → Action Served
+unfoldable pub at_virtual : ℕ → Units → Trap → ℕ → AccessType → Reach → ℕ → (ℕ → Action Served) → Action Served
 at_virtual limit u trap asi access_type reach va use_address = translate limit u.mmu va access_type reach >>= located u trap asi access_type va use_address
 
 -- devices serve loads and stores of words
@@ -182,11 +177,3 @@ access limit u (request.Fetch supervisor at) = fetched_in limit u (instruction_s
 access limit u (request.Load size asi at) = loaded_in limit u size asi at (space_of asi)
 access limit u (request.Store size asi at value) = stored_in limit u size asi at value (space_of asi)
 access limit u (request.Exchange size asi at value) = exchanged_in limit u size asi at value (space_of asi)
-
--- the address is a multiple of the size
-abbrev pub IsAligned : AccessRequest → Type 0
-IsAligned request.Nothing = Unit {0}
-IsAligned (request.Fetch supervisor at) = at % 4 ≡ 0
-IsAligned (request.Load size asi at) = at % bytes_in size ≡ 0
-IsAligned (request.Store size asi at value) = at % bytes_in size ≡ 0
-IsAligned (request.Exchange size asi at value) = at % bytes_in size ≡ 0

@@ -1,10 +1,9 @@
 -- Small machines whose steps can be computed.
-use Rattle.std.specs.Prelude.{ℕ, zero, suc, true, false, Bool, List, [], ◌∷◌, replicate}
+use Rattle.std.specs.Prelude.{ℕ, zero, suc, false, List, [], ◌∷◌, replicate}
 use Rattle.sv8_model.specs.Outside.{Outside}
 use Rattle.sv8_model.specs.Action.{result_of, after}
 use Rattle.sv8_mmu.specs.Registers.{registers_at_reset}
-use Rattle.sv8_regs.specs.Ring.{reset}
-use Rattle.sv8_trap.specs.Processor.{Processor, reset_processor}
+use Rattle.sv8_trap.specs.Processor.{reset_processor}
 use Rattle.sv8_cpu.specs.Step.{Inner, action}
 
 -- 16 bytes of RAM: mov 5, %g1; add %g1, 1, %g2; ba 0; nop

@@ -1,10 +1,3 @@
-pub mod Operands
-pub mod Arithmetic
-pub mod Control
-pub mod Windows
-pub mod StateRegisters
-pub mod Memory
-pub mod Instruction
 pub mod Units
 pub mod Access
 pub mod Step
@@ -13,6 +6,8 @@ pub mod State
 pub mod Run
 pub mod Recorded
 pub mod RecordedLaws
+pub mod Frames
+pub mod DeviceLaws
 pub mod Loading
 pub mod Work
 pub mod WordPokes

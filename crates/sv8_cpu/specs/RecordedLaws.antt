@@ -1,17 +1,16 @@
 -- Laws of the machine as the theory of recorded runs sees it.
-use Rattle.std.specs.Prelude.{◌≡◌, ℕ, ◌<◌}
+use Rattle.std.specs.Prelude.{◌≡◌, ℕ}
 use Rattle.sv8_model.specs.Frame.{Cells, Alike, Unread, Framed}
 use Rattle.sv8_model.specs.Outside.{Outside}
 use Rattle.sv8_model.specs.Action.{touches}
 use Rattle.sv8_history.specs.Machine as history
 use Rattle.sv8_history.specs.Framed.{IsFramed}
-use Rattle.sv8_time.specs.Order.{Each}
 use Rattle.sv8_time.specs.Schedule.{Schedule, IsTimeline}
 use Rattle.sv8_phys.specs.Memory.{ram_size}
 use Rattle.sv8_source.specs.Text.{Text}
 use Rattle.sv8_cpu.specs.Units.{Units}
 use Rattle.sv8_cpu.specs.Access.{access}
-use Rattle.sv8_cpu.specs.declared.access.AccessRequest.{AccessRequest}
+use Rattle.sv8_iu.specs.declared.request.AccessRequest.{AccessRequest}
 use Rattle.sv8_cpu.specs.Run.{state_at, footprint}
 use Rattle.sv8_cpu.specs.Recorded.{machine, footprint_of, AreEvents, run_of}
 
@@ -32,4 +31,4 @@ RunsAgree = (windows pages : ℕ) (source : Text) (schedule : Schedule) (valid :
 
 -- every timeline of that size of RAM has such events
 abbrev pub TimelinesServe : Type 0
-TimelinesServe = (pages : ℕ) (schedule : Schedule) → IsTimeline schedule → schedule.limit ≡ ram_size pages → Each (λ p. p.value < 256) schedule.pokes → AreEvents pages schedule
+TimelinesServe = (pages : ℕ) (schedule : Schedule) → IsTimeline schedule → schedule.limit ≡ ram_size pages → AreEvents pages schedule

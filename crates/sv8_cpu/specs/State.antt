@@ -7,14 +7,14 @@ use Rattle.sv8_phys.specs.Contents.{Contents, empty_contents, arrived}
 use Rattle.sv8_source.specs.Text.{Text}
 use Rattle.sv8_source.specs.Image.{image_bytes}
 use Rattle.sv8_trap.specs.Processor.{Processor, reset_processor}
-use Rattle.sv8_mmu.specs.declared.registers.MmuRegisters.{MmuRegisters}
+use Rattle.sv8_mmu.specs.declared.registers.Mmu.{Mmu}
 use Rattle.sv8_mmu.specs.Registers.{registers_at_reset}
 use Rattle.sv8_cpu.specs.Step.{Inner}
 
 -- of the console's input it has the number of bytes taken: which bytes wait follows from the timeline
 pub record State : Type 0 where
   pub processor : Processor
-  pub mmu : MmuRegisters
+  pub mmu : Mmu
   -- RAM, the console, the timer and the pending levels
   pub memory : Contents
 

@@ -10,11 +10,11 @@ use Rattle.sv8_trap.specs.Table.{taken}
 use Rattle.sv8_trap.specs.Processor.{Processor, slot_skipped}
 use Rattle.sv8_trap.specs.Entry.{with_trap, interrupted}
 use Rattle.sv8_trap.specs.Interrupt.{unmasked, highest}
-use Rattle.sv8_cpu.specs.declared.access.AccessRequest.TheVariants.{Fetch}
-use Rattle.sv8_cpu.specs.declared.access.Response.{Response}
-use Rattle.sv8_cpu.specs.declared.access.Response.TheVariants.{Value, Refused}
-use Rattle.sv8_cpu.specs.Memory.{low_word}
-use Rattle.sv8_cpu.specs.Instruction.{raised, trapped, asked, complete}
+use Rattle.sv8_iu.specs.declared.request.AccessRequest.TheVariants.{Fetch}
+use Rattle.sv8_iu.specs.declared.request.Response.{Response}
+use Rattle.sv8_iu.specs.declared.request.Response.TheVariants.{Value, Refused}
+use Rattle.sv8_iu.specs.Memory.{low_word}
+use Rattle.sv8_iu.specs.Instruction.{raised, trapped, asked, complete}
 use Rattle.sv8_cpu.specs.Units.{Units, Served}
 use Rattle.sv8_cpu.specs.Access.{access}
 

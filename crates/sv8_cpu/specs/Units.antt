@@ -1,15 +1,15 @@
 -- What an access may change beside the outside: the registers of the memory management unit and the timer. And what it leads to.
 use Rattle.std.specs.Prelude.{ℕ, ◌==◌, Bool, not, ◌&&◌, if◌then◌else◌}
 use Rattle.sv8_phys.specs.declared.timer.Timer.{Timer}
-use Rattle.sv8_mmu.specs.declared.registers.MmuRegisters.{MmuRegisters}
+use Rattle.sv8_mmu.specs.declared.registers.Mmu.{Mmu}
 use Rattle.sv8_mmu.specs.declared.registers.Fault.{Fault}
 use Rattle.sv8_mmu.specs.Registers.{has_no_fault, recorded}
 use Rattle.sv8_trap.specs.declared.table.Trap.{Trap}
-use Rattle.sv8_cpu.specs.declared.access.Response.{Response}
-use Rattle.sv8_cpu.specs.declared.access.Response.TheVariants.{Value, Refused}
+use Rattle.sv8_iu.specs.declared.request.Response.{Response}
+use Rattle.sv8_iu.specs.declared.request.Response.TheVariants.{Value, Refused}
 
 pub record Units : Type 0 where
-  pub mmu : MmuRegisters
+  pub mmu : Mmu
   pub timer : Timer
 
 -- an access is answered, and leaves the units so
@@ -23,7 +23,7 @@ served u value = record { response = Value value; units = u }
 -- ---- faults (Appendix H)
 
 -- with NF set a fault outside the supervisor's instruction space raises no trap
-unfoldable pub is_hidden : MmuRegisters → ℕ → Bool
+unfoldable pub is_hidden : Mmu → ℕ → Bool
 is_hidden m asi = has_no_fault m && not (asi == 9)
 
 -- a fault is recorded; it raises the trap, or gives 0 where it is hidden

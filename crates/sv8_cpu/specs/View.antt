@@ -6,7 +6,7 @@ use Rattle.sv8_model.specs.Does.{Does}
 use Rattle.sv8_phys.specs.Memory.{ram_size}
 use Rattle.sv8_phys.specs.Contents.{outside_of}
 use Rattle.sv8_mmu.specs.Kept.{Kept, AllStand}
-use Rattle.sv8_cpu.specs.declared.access.Response.{Response}
+use Rattle.sv8_iu.specs.declared.request.Response.{Response}
 use Rattle.sv8_cpu.specs.declared.physical.Physical.{Physical}
 use Rattle.sv8_cpu.specs.Units.{Units, Served}
 

@@ -1,11 +1,12 @@
 -- What the parts of a machine stand for, and what it means that they did an action.
-use Rattle.std.specs.Prelude.{ℕ, Bool, List}
+use Rattle.std.specs.Prelude.{◌≡◌, ℕ, Bool, true, false, List}
 use Rattle.sv8_model.specs.declared.touch.Touch.{Touch}
 use Rattle.sv8_model.specs.Action.{Action}
 use Rattle.sv8_model.specs.Does.{Does}
+use Rattle.sv8_phys.specs.Memory.{ram_size}
 use Rattle.sv8_phys.specs.Contents.{outside_of}
 use Rattle.sv8_cpu.specs.declared.machine.Parts.{Parts}
-use Rattle.sv8_cpu.specs.Step.{Inner}
+use Rattle.sv8_cpu.specs.Step.{Inner, carried_out}
 use Rattle.sv8_cpu.specs.State.{State}
 use Rattle.sv8_cpu.specs.View.{units_of}
 
@@ -20,3 +21,8 @@ state_of p = record { processor = p.processor; mmu = p.memory.mmu; memory = p.me
 -- once some bytes have come in, a machine p became p' as the action does, and its touches were noted behind the notes ts, if notes are kept at all
 abbrev pub MachineDoes : {windows pages : ℕ} → Bool → List ℕ → Action Inner → Parts windows pages → Parts windows pages → List Touch → List Touch → Type 0
 MachineDoes keeps bytes a p p' ts ts' = Does keeps a (outside_of p.memory.phys bytes) (outside_of p'.memory.phys bytes) (inner_of_parts p') ts ts'
+
+-- a shorter way has carried a word out, or it has left all as it was
+abbrev pub MayCarryOut : {windows pages : ℕ} → Bool → List ℕ → ℕ → Parts windows pages → Parts windows pages → List Touch → List Touch → Bool → Type 0
+MayCarryOut {windows} {pages} keeps bytes word p p' ts ts' true = MachineDoes keeps bytes (carried_out windows (ram_size pages) (inner_of_parts p) word) p p' ts ts'
+MayCarryOut keeps bytes word p p' ts ts' false = (p' ≡ p) × (ts' ≡ ts)

@@ -6,6 +6,8 @@ ghost use Rattle.sv8_regs.specs.Ring.{read};
 ghost use Rattle.sv8_model.specs.Outside.{word_of};
 ghost use Rattle.sv8_cpu.specs.Examples.{counting, spinning, moving, saving, setting, calling, tagging, returning, run};
 ghost use Rattle.sv8_cpu.specs.RecordedLaws.{AccessFrames, StepFrames, RunsAgree, TimelinesServe};
+ghost use Rattle.sv8_cpu.specs.DeviceLaws.{DevicesAreServed};
+ghost use Rattle.sv8_cpu.specs.Frames.{EventsCome, StepsAreWhole, RunsAreWhole, SetsFrame, RunsFrame, CellsStay, BytesFrame, WaitingFrames, LevelsFrame, RequestedLevelsAgree};
 
 /// The steps of small programs, computed from the definition of a step.
 ///
@@ -112,7 +114,77 @@ pub fn runs_agree()
     ensures { RunsAgree }
 {}
 
-/// A timeline of the size of RAM, whose pokes are bytes, gives each step an event that the theory of recorded runs takes.
+/// A timeline of the size of RAM gives each step an event that the theory of recorded runs takes.
 pub fn timelines_serve()
     ensures { TimelinesServe }
+{}
+
+/// The events of a step come before the machine acts: each poked byte is written to RAM, each requested level becomes pending, and the
+/// bytes that come in wait at the console behind those that waited.
+///
+/// It holds under a timeline, in a state that took no more bytes than have come in.
+pub fn events_come()
+    ensures { EventsCome }
+{}
+
+/// A step of the machine is a step of the whole state, in which the bytes that wait at the console stand in the place of the number of
+/// those taken: it leads to the same state and touches the same, and it takes no more bytes than have come in.
+pub fn steps_are_whole()
+    ensures { StepsAreWhole }
+{}
+
+/// The state before each step of a run from reset is the one that so many steps of the whole state lead to, and each step touches the
+/// same there.
+pub fn runs_are_whole()
+    ensures { RunsAreWhole }
+{}
+
+/// THE FRAME LAW of one step. Two states differ at most in a set of cells (bytes of RAM, the waiting bytes, pending levels), and so do
+/// their events. A step that reads none of these cells, but for those that both events set alike, touches the same in both. The states
+/// behind it differ at most in those of the cells that the step did not write and that the events did not set alike.
+pub fn sets_frame()
+    ensures { SetsFrame }
+{}
+
+/// THE FRAME LAW of any number of steps up to the first that reads a cell of its set: with a set for each step, as `sets_frame` leads
+/// from one to the next.
+pub fn runs_frame()
+    ensures { RunsFrame }
+{}
+
+/// A cell that a step neither reads nor writes holds behind it what its events left there.
+pub fn cells_stay()
+    ensures { CellsStay }
+{}
+
+/// The frame law for bytes of RAM: two runs that differ in these bytes alone, and in pokes of them, go on so for any number of steps
+/// that read none of them, but for bytes that both events poke alike.
+pub fn bytes_frame()
+    ensures { BytesFrame }
+{}
+
+/// The frame law for the console's input: two runs that differ in the waiting bytes alone, and in the bytes that come in, go on so for
+/// any number of steps that neither take nor count them.
+pub fn waiting_frames()
+    ensures { WaitingFrames }
+{}
+
+/// The frame law for an interrupt level: two runs that differ in the condition of a level alone, and in requests of it, go on so for
+/// any number of steps that do not read it.
+pub fn levels_frame()
+    ensures { LevelsFrame }
+{}
+
+/// A level that both events request is pending in both states behind them. So two states that differ in that level alone are the same
+/// behind the step, whatever it reads.
+pub fn requested_levels_agree()
+    ensures { RequestedLevelsAgree }
+{}
+
+/// A load or a store at a physical address is answered exactly where the address is served, which is what a translation asks: RAM
+/// serves every size, the devices loads and stores of words alone. An exchange and a fetch are answered in RAM alone.
+///
+/// It holds where NF hides no fault; one that is hidden is answered with 0.
+pub fn devices_are_served()
+    ensures { DevicesAreServed }
 {}

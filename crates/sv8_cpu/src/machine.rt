@@ -9,22 +9,21 @@ ghost use Rattle.sv8_time.specs.Schedule.{bytes_below};
 ghost use Rattle.sv8_trap.specs.Table.{taken};
 ghost use Rattle.sv8_phys.specs.Memory.{ram_size};
 ghost use Rattle.sv8_phys.specs.Contents.{arrived};
-ghost use Rattle.sv8_cpu.specs.Instruction.{raised};
+ghost use Rattle.sv8_iu.specs.Instruction.{raised};
 ghost use Rattle.sv8_cpu.specs.Step.{answered, executed, carried_out, fetched, instruction, continued, requested, interruptible, awake, action};
 ghost use Rattle.sv8_cpu.specs.State.{reset_state};
 ghost use Rattle.sv8_cpu.specs.Work.{counted};
 ghost use Rattle.sv8_cpu.specs.View.{units_of};
 ghost use Rattle.sv8_cpu.specs.Whole.{inner_of_parts, state_of, MachineDoes};
 
-use crate::access::{AccessRequest, Response};
 use crate::events::end_of;
-use crate::instruction::{asked, complete, low_word, raised_by, take};
 use crate::loading::load;
 use crate::memory::Memory;
 use crate::work::Work;
 use std::alloc::{AllocError, Global};
 use std::marker::Model;
 use sv8_isa::{Instr, decode};
+use sv8_iu::{AccessRequest, Response, asked, complete, low_word, raised_by, take_trap};
 use sv8_phys::{NoTouches, Phys, StepTouches, Touches};
 use sv8_source::Source;
 use sv8_time::Timeline;
@@ -90,7 +89,7 @@ impl<const NW: usize, const PAGES: usize> Parts<NW, PAGES> {
     {
         match raised_by(&self.processor, instr) {
             Some(trap) => {
-                take(&mut self.processor, instr, trap);
+                take_trap(&mut self.processor, instr, trap);
                 Ok(())
             }
             None => {
@@ -138,7 +137,11 @@ impl<const NW: usize, const PAGES: usize> Parts<NW, PAGES> {
                 Ok(())
             }
             Response::Value(value) => {
-                self.carry_out_word(low_word(value), before, timeline, notes)?;
+                let word = low_word(value);
+                if self.carry_out_frequent(word, before, timeline, notes)? {
+                    return Ok(());
+                }
+                self.carry_out_word(word, before, timeline, notes)?;
                 Ok(())
             }
         }

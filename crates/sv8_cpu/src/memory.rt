@@ -1,25 +1,28 @@
 //! Memory as the processor reaches it.
 
-ghost use Rattle.std.specs.Prelude.{◌≡◌, ℕ, ◌+◌, ◌*◌, ◌%◌, ◌/◌, ◌≤◌, ◌<◌, List, [], true, IfOk, OnOk, OnErr, slice_set, length};
+ghost use Rattle.std.specs.Prelude.{◌≡◌, ℕ, ◌+◌, ◌*◌, ◌%◌, ◌/◌, ◌≤◌, ◌<◌, List, [], true, false, IfOk, OnOk, OnErr, slice_set, length};
 ghost use Rattle.sv8_model.specs.Action as model;
 ghost use Rattle.sv8_model.specs.Does.{Does};
 ghost use Rattle.sv8_time.specs.Schedule.{bytes_below};
-ghost use Rattle.sv8_phys.specs.Memory.{ram_size, with_page};
+ghost use Rattle.sv8_phys.specs.Memory.{bytes_in, ram_size, with_page};
 ghost use Rattle.sv8_phys.specs.Contents.{arrived, outside_of};
 ghost use Rattle.sv8_phys.specs.Devices.{tick};
-ghost use Rattle.sv8_mmu.specs.Registers.{registers_at_reset};
+ghost use Rattle.sv8_mmu.specs.Registers.{registers_at_reset, translates};
 ghost use Rattle.sv8_cpu.specs.Events.{with_events};
-ghost use Rattle.sv8_cpu.specs.Access.{access, IsAligned};
+ghost use Rattle.sv8_iu.specs.Requests.{space_of, IsAligned};
+ghost use Rattle.sv8_cpu.specs.Access.{access};
 ghost use Rattle.sv8_cpu.specs.View.{MemoryDoes, units_of};
 
-use crate::access::{AccessRequest, Response};
 use crate::events::happen;
 use crate::physical::Physical;
-use crate::spaces::access;
+use crate::spaces::{
+    access, load_translated, load_untranslated, store_translated, store_untranslated,
+};
 use std::alloc::{AllocError, Global};
 use std::marker::Model;
-use sv8_mmu::{Buffer, MmuRegisters};
-use sv8_phys::{Page, Phys, Touches};
+use sv8_iu::{AccessRequest, Response, Space};
+use sv8_mmu::{Buffer, Mmu};
+use sv8_phys::{Page, Phys, Size, Touches};
 use sv8_time::Timeline;
 
 /// Physical memory and the memory management unit with its lookaside buffer, of which nothing shows.
@@ -48,7 +51,7 @@ impl<const PAGES: usize> Memory<PAGES> {
         Memory {
             physical: Physical {
                 phys,
-                mmu: MmuRegisters::new(),
+                mmu: Mmu::new(),
             },
             buffer: Buffer::new(alloc),
         }
@@ -63,7 +66,7 @@ impl<const PAGES: usize> Memory<PAGES> {
     }
 
     /// The registers of the memory management unit.
-    pub fn mmu(&self) -> MmuRegisters
+    pub fn mmu(&self) -> Mmu
         ensures { result ≡ self.now.mmu }
     {
         self.physical.mmu
@@ -95,7 +98,7 @@ impl<const PAGES: usize> Memory<PAGES> {
         ensures taken { self.new.phys.taken ≡ self.old.phys.taken }
         ensures mmu { self.new.mmu ≡ self.old.mmu }
     {
-        self.physical.phys.tick(notes)?;
+        self.physical.phys.tick_noted(notes)?;
         Ok(())
     }
 
@@ -140,6 +143,83 @@ impl<const PAGES: usize> Memory<PAGES> {
             timeline,
             notes,
         )?;
+        Ok(response)
+    }
+
+    /// Whether virtual addresses are translated.
+    #[inline(always)]
+    pub fn translates(&self) -> bool
+        ensures { result ≡ translates self.now.mmu }
+    {
+        self.physical.mmu.translates()
+    }
+
+    /// Loads from user or supervisor data, as `access` does. It is built for addresses that are translated, or for others: what is
+    /// built for others has no translation in its way.
+    ///
+    /// # Errors
+    ///
+    /// As `access`.
+    #[inline(always)]
+    #[tactic(auto, unfolding(crate::specs::Access::access))]
+    pub fn load_data<const TRANSLATED: bool, T: Touches>(
+        &mut self,
+        size: Size,
+        asi: u8,
+        at: u32,
+        before: u32,
+        timeline: &Timeline,
+        notes: &mut T,
+    ) -> Result<Response, AllocError>
+        requires translated { translates self.old.mmu ≡ TRANSLATED }
+        requires space { space_of asi ≡ Space.Virtual }
+        requires aligned { at % bytes_in size ≡ 0 }
+        requires delivered { self.old.phys.taken ≤ bytes_below before timeline.now.inputs }
+        ensures ok { IfOk result (λ r. MemoryDoes T.KEEPS (arrived before timeline.now) (access (ram_size PAGES) (units_of self.old) (AccessRequest.Load size asi at))
+            self.old self.new r (T.noted notes.old) (T.noted notes.new)) }
+        ensures taken { OnOk result (self.new.phys.taken ≤ bytes_below before timeline.now.inputs) }
+    {
+        let physical = &mut self.physical;
+        let buffer = &mut self.buffer;
+        if TRANSLATED {
+            let response = load_translated(
+                physical, buffer, size, asi, at, before, timeline, notes,
+            )?;
+            return Ok(response);
+        }
+        let response = load_untranslated(physical, buffer, size, asi, at, before, timeline, notes)?;
+        Ok(response)
+    }
+
+    /// Stores to user or supervisor data, as `access` does. It is built as `load_data` is.
+    ///
+    /// # Errors
+    ///
+    /// As `access`.
+    #[inline(always)]
+    #[tactic(auto, unfolding(crate::specs::Access::access))]
+    pub fn store_data<const TRANSLATED: bool, T: Touches>(
+        &mut self,
+        size: Size,
+        asi: u8,
+        at: u32,
+        value: u64,
+        notes: &mut T,
+    ) -> Result<Response, AllocError>
+        requires translated { translates self.old.mmu ≡ TRANSLATED }
+        requires space { space_of asi ≡ Space.Virtual }
+        requires aligned { at % bytes_in size ≡ 0 }
+        ensures ok { IfOk result (λ r. (bytes : List ℕ) → MemoryDoes T.KEEPS bytes (access (ram_size PAGES) (units_of self.old) (AccessRequest.Store size asi at value))
+            self.old self.new r (T.noted notes.old) (T.noted notes.new)) }
+        ensures taken { OnOk result (self.new.phys.taken ≡ self.old.phys.taken) }
+    {
+        let physical = &mut self.physical;
+        let buffer = &mut self.buffer;
+        if TRANSLATED {
+            let response = store_translated(physical, buffer, size, asi, at, value, notes)?;
+            return Ok(response);
+        }
+        let response = store_untranslated(physical, buffer, size, asi, at, value, notes)?;
         Ok(response)
     }
 

@@ -10,9 +10,9 @@ ghost use Rattle.sv8_cpu.specs.Units.{served, failed, is_hidden};
 ghost use Rattle.sv8_cpu.specs.Access.{load_type, store_type, bus_fault, fetched_from, load_answer, is_word, takes_byte, counts_bytes, plainly_loaded, loaded_from, answer_to_store, stored_at, exchanged_at};
 ghost use Rattle.sv8_cpu.specs.View.{MemoryDoes, units_of};
 
-use crate::access::Response;
 use std::alloc::AllocError;
-use sv8_mmu::{Fault, MmuRegisters};
+use sv8_iu::Response;
+use sv8_mmu::{AccessType, Fault, FaultType, Mmu};
 use sv8_phys::{BusError, INPUT, Phys, Size, Touches, WAITING};
 use sv8_time::Timeline;
 use sv8_trap::Trap;
@@ -21,36 +21,34 @@ use sv8_trap::Trap;
 #[derive(Drop)]
 pub struct Physical<const PAGES: usize> {
     pub phys: Phys<PAGES>,
-    pub mmu: MmuRegisters,
+    pub mmu: Mmu,
 }
 
 /// The access type of a load from an address space.
 #[inline(always)]
 #[tactic(auto, unfolding(crate::specs::Access::load_type))]
-pub fn load_type(asi: u8) -> u8
-    ensures value { result ≡ load_type asi }
-    ensures small { result ≤ 7 }
+pub fn load_type(asi: u8) -> AccessType
+    ensures { result ≡ load_type asi }
 {
     match asi {
-        0x08 => 2,
-        0x09 => 3,
-        0x0a => 0,
-        _ => 1,
+        0x08 => AccessType::UserFetch,
+        0x09 => AccessType::SupervisorFetch,
+        0x0a => AccessType::UserLoad,
+        _ => AccessType::SupervisorLoad,
     }
 }
 
 /// The access type of a store to an address space.
 #[inline(always)]
 #[tactic(auto, unfolding(crate::specs::Access::store_type))]
-pub fn store_type(asi: u8) -> u8
-    ensures value { result ≡ store_type asi }
-    ensures small { result ≤ 7 }
+pub fn store_type(asi: u8) -> AccessType
+    ensures { result ≡ store_type asi }
 {
     match asi {
-        0x08 => 6,
-        0x09 => 7,
-        0x0a => 4,
-        _ => 5,
+        0x08 => AccessType::UserInstructionStore,
+        0x09 => AccessType::SupervisorInstructionStore,
+        0x0a => AccessType::UserStore,
+        _ => AccessType::SupervisorStore,
     }
 }
 
@@ -79,7 +77,7 @@ fn counts_bytes(size: Size, pa: u64) -> bool
 
 /// Whether NF keeps a fault in an address space from raising a trap.
 #[tactic(auto, unfolding(crate::specs::Units::is_hidden))]
-fn is_hidden(mmu: &MmuRegisters, asi: u8) -> bool
+fn is_hidden(mmu: &Mmu, asi: u8) -> bool
     ensures { result ≡ is_hidden mmu.now asi }
 {
     mmu.has_no_fault() && asi != 9
@@ -91,8 +89,6 @@ impl<const PAGES: usize> Physical<PAGES> {
     #[tactic(auto, unfolding(crate::specs::Units::failed, sv8_mmu::specs::Registers::recorded))]
     pub fn fail(&mut self, trap: Trap, asi: u8, fault: Fault) -> Response
         requires level { fault.level ≤ 3 }
-        requires access_type { fault.access_type ≤ 7 }
-        requires fault_type { fault.fault_type ≤ 7 }
         ensures served { record { response = result; units = units_of self.new } ≡ failed (units_of self.old) trap asi fault }
         ensures memory { self.new.phys ≡ self.old.phys }
         ensures pointer { self.new.mmu.table_pointer ≡ self.old.mmu.table_pointer }
@@ -108,8 +104,7 @@ impl<const PAGES: usize> Physical<PAGES> {
 
     /// Records that nothing serves a physical address.
     #[cold]
-    fn fail_bus(&mut self, trap: Trap, asi: u8, access_type: u8, va: u32) -> Response
-        requires { access_type ≤ 7 }
+    fn fail_bus(&mut self, trap: Trap, asi: u8, access_type: AccessType, va: u32) -> Response
         ensures served { record { response = result; units = units_of self.new } ≡ failed (units_of self.old) trap asi (bus_fault access_type va) }
         ensures memory { self.new.phys ≡ self.old.phys }
         ensures pointer { self.new.mmu.table_pointer ≡ self.old.mmu.table_pointer }
@@ -117,7 +112,7 @@ impl<const PAGES: usize> Physical<PAGES> {
         let fault = Fault {
             level: 0,
             access_type,
-            fault_type: 5,
+            fault_type: FaultType::AccessBus,
             address: va,
         };
         self.fail(trap, asi, fault)
@@ -193,7 +188,7 @@ impl<const PAGES: usize> Physical<PAGES> {
         ensures pointer { self.new.mmu.table_pointer ≡ self.old.mmu.table_pointer }
         ensures taken { OnOk result (self.new.phys.taken ≡ self.old.phys.taken) }
     {
-        let answer = self.phys.read(pa, size, notes)?;
+        let answer = self.phys.read_noted(pa, size, notes)?;
         Ok(self.load_answer(asi, va, answer))
     }
 
@@ -219,10 +214,10 @@ impl<const PAGES: usize> Physical<PAGES> {
         ensures taken { OnOk result (self.new.phys.taken ≤ bytes_below before timeline.now.inputs) }
     {
         if takes_byte(size, pa) {
-            let byte = self.phys.take_input(before, timeline, notes)?;
+            let byte = self.phys.take_input_noted(before, timeline, notes)?;
             Ok(Response::Value(byte as u64))
         } else if counts_bytes(size, pa) {
-            let count = self.phys.waiting(before, timeline, notes)?;
+            let count = self.phys.waiting_noted(before, timeline, notes)?;
             Ok(Response::Value(count as u64))
         } else {
             let response = self.load_plain(size, asi, va, pa, notes)?;
@@ -278,7 +273,7 @@ impl<const PAGES: usize> Physical<PAGES> {
         ensures pointer { self.new.mmu.table_pointer ≡ self.old.mmu.table_pointer }
         ensures taken { OnOk result (self.new.phys.taken ≡ self.old.phys.taken) }
     {
-        let answer = self.phys.write(pa, size, value, notes)?;
+        let answer = self.phys.write_noted(pa, size, value, notes)?;
         Ok(self.store_answer(asi, va, answer))
     }
 

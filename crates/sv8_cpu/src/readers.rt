@@ -10,7 +10,7 @@ ghost use Rattle.sv8_cpu.specs.State.{waiting};
 
 use crate::machine::{Machine, Parts};
 use std::alloc::{AllocError, Global};
-use sv8_mmu::MmuRegisters;
+use sv8_mmu::Mmu;
 use sv8_phys::{Page, StepTouches, Timer};
 use sv8_regs::Regs;
 use sv8_time::Timeline;
@@ -54,7 +54,7 @@ impl<const NW: usize, const PAGES: usize> Machine<NW, PAGES> {
     }
 
     /// The registers of the memory management unit (Appendix H).
-    pub fn mmu(&self) -> MmuRegisters
+    pub fn mmu(&self) -> Mmu
         ensures { result ≡ self.now.mmu }
     {
         self.parts.memory.mmu()

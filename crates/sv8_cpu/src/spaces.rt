@@ -1,19 +1,23 @@
 //! Accesses by address space (Appendices H and I).
 
-ghost use Rattle.std.specs.Prelude.{◌≡◌, ℕ, ◌+◌, ◌*◌, ◌%◌, ◌/◌, ◌^◌, ◌≤◌, ◌<◌, List, true, IfOk, OnOk, OnErr};
+ghost use Rattle.std.specs.Prelude.{◌≡◌, ℕ, ◌+◌, ◌*◌, ◌%◌, ◌/◌, ◌^◌, ◌≤◌, ◌<◌, List, true, false, IfOk, OnOk, OnErr};
 ghost use Rattle.sv8_time.specs.Schedule.{bytes_below};
 ghost use Rattle.sv8_phys.specs.declared.size.Size.{Size};
+ghost use Rattle.sv8_mmu.specs.Registers.{translates};
 ghost use Rattle.sv8_phys.specs.Memory.{bytes_in, ram_size};
 ghost use Rattle.sv8_phys.specs.Contents.{arrived};
 ghost use Rattle.sv8_cpu.specs.Units.{served, failed};
-ghost use Rattle.sv8_cpu.specs.Access.{load_type, store_type, physical_place, fetched_in, loaded_in, stored_in, exchanged_in, stored_at, exchanged_at, reach_of, space_of, instruction_space, is_word, no_such_access, answer_of_register, register_loaded, register_stored, probed, access, IsAligned};
+ghost use Rattle.sv8_iu.specs.Requests.{space_of, IsAligned};
+ghost use Rattle.sv8_cpu.specs.Access.{load_type, store_type, physical_place, fetched_in, loaded_in, stored_in, exchanged_in, stored_at, exchanged_at, reach_of, instruction_space, is_word, no_such_access, answer_of_register, register_loaded, register_stored, probed, access};
 ghost use Rattle.sv8_cpu.specs.View.{MemoryDoes, units_of, Serves};
 ghost use Rattle.sv8_cpu.specs.Locating.{Locates, IsPlace};
 
-use crate::access::{AccessRequest, Response, Space, space_of};
 use crate::physical::{Physical, is_word, load_type, store_type};
 use std::alloc::AllocError;
-use sv8_mmu::{Buffer, Fault, Reach, Translated, VirtualAccess, probe, translate, write_register};
+use sv8_iu::{AccessRequest, Response, Space, space_of};
+use sv8_mmu::{
+    Buffer, Fault, FaultType, Reach, Translated, VirtualAccess, probe_by_address, resolve,
+};
 use sv8_phys::{Size, Touches};
 use sv8_time::Timeline;
 use sv8_trap::Trap;
@@ -64,11 +68,9 @@ fn refuse<const PAGES: usize>(
     trap: Trap,
     asi: u8,
     access: VirtualAccess,
-    kind: u8,
+    kind: FaultType,
     level: u8,
 ) -> Response
-    requires access_type { access.access_type ≤ 7 }
-    requires kind { kind ≤ 7 }
     requires level { level ≤ 3 }
     ensures served { record { response = result; units = units_of physical.new }
         ≡ failed (units_of physical.old) trap asi (record { level = level; access_type = access.access_type; fault_type = kind; address = access.address }) }
@@ -94,7 +96,6 @@ fn locate<const PAGES: usize, T: Touches>(
     access: VirtualAccess,
     notes: &mut T,
 ) -> Result<Place, AllocError>
-    requires access_type { access.access_type ≤ 7 }
     requires serves { Serves physical.old buffer.old }
     ensures ok { IfOk result (λ place. (bytes : List ℕ) → Locates T.KEEPS bytes (ram_size PAGES) trap asi access
         physical.old physical.new place (T.noted notes.old) (T.noted notes.new)) }
@@ -102,7 +103,7 @@ fn locate<const PAGES: usize, T: Touches>(
     ensures taken { OnOk result (physical.new.phys.taken ≡ physical.old.phys.taken) }
     ensures serves { Serves physical.new buffer.new }
 {
-    match translate(&physical.mmu, buffer, &mut physical.phys, access, notes)? {
+    match resolve(&physical.mmu, buffer, &mut physical.phys, access, notes)? {
         Translated::At(pa) => Ok(Place::At(pa)),
         Translated::Refused { kind, level } => {
             let response = refuse(physical, trap, asi, access, kind, level);
@@ -216,7 +217,7 @@ fn load_probe<const PAGES: usize, T: Touches>(
     if !is_word(size) {
         return Ok(Response::Refused(Trap::DataAccessException));
     }
-    let entry = probe(&physical.mmu, &physical.phys, at, notes)?;
+    let entry = probe_by_address(&physical.mmu, &physical.phys, at, notes)?;
     Ok(Response::Value(entry as u64))
 }
 
@@ -342,7 +343,7 @@ fn store_register<const PAGES: usize>(
     ensures memory { physical.new.phys ≡ physical.old.phys }
     ensures serves { Serves physical.new buffer.new }
 {
-    if write_register(&mut physical.mmu, buffer, at, word) {
+    if physical.mmu.write_register(buffer, at, word) {
         Response::Value(0)
     } else {
         Response::Refused(Trap::DataAccessException)
@@ -500,6 +501,102 @@ fn exchange<const PAGES: usize, T: Touches>(
             Trap::DataAccessException,
         )),
     }
+}
+
+/// Loads from RAM or a device at an address that is not translated.
+#[inline(always)]
+pub fn load_untranslated<const PAGES: usize, T: Touches>(
+    physical: &mut Physical<PAGES>,
+    buffer: &Buffer,
+    size: Size,
+    asi: u8,
+    at: u32,
+    before: u32,
+    timeline: &Timeline,
+    notes: &mut T,
+) -> Result<Response, AllocError>
+    requires untranslated { translates physical.old.mmu ≡ false }
+    requires space { space_of asi ≡ Space.Virtual }
+    requires aligned { at % bytes_in size ≡ 0 }
+    requires delivered { physical.old.phys.taken ≤ bytes_below before timeline.now.inputs }
+    requires serves { Serves physical.old buffer.now }
+    ensures ok { IfOk result (λ r. MemoryDoes T.KEEPS (arrived before timeline.now) (access (ram_size PAGES) (units_of physical.old) (AccessRequest.Load size asi at))
+        physical.old physical.new r (T.noted notes.old) (T.noted notes.new)) }
+    ensures taken { OnOk result (physical.new.phys.taken ≤ bytes_below before timeline.now.inputs) }
+    ensures serves { Serves physical.new buffer.now }
+{
+    let response = physical.load(size, asi, at, at as u64, before, timeline, notes)?;
+    Ok(response)
+}
+
+/// Stores to RAM or a device at an address that is not translated.
+#[inline(always)]
+pub fn store_untranslated<const PAGES: usize, T: Touches>(
+    physical: &mut Physical<PAGES>,
+    buffer: &mut Buffer,
+    size: Size,
+    asi: u8,
+    at: u32,
+    value: u64,
+    notes: &mut T,
+) -> Result<Response, AllocError>
+    requires untranslated { translates physical.old.mmu ≡ false }
+    requires space { space_of asi ≡ Space.Virtual }
+    requires aligned { at % bytes_in size ≡ 0 }
+    requires serves { Serves physical.old buffer.old }
+    ensures ok { IfOk result (λ r. (bytes : List ℕ) → MemoryDoes T.KEEPS bytes (access (ram_size PAGES) (units_of physical.old) (AccessRequest.Store size asi at value))
+        physical.old physical.new r (T.noted notes.old) (T.noted notes.new)) }
+    ensures taken { OnOk result (physical.new.phys.taken ≡ physical.old.phys.taken) }
+    ensures serves { Serves physical.new buffer.new }
+{
+    let response = store_physical(physical, buffer, size, asi, at, at as u64, value, notes)?;
+    Ok(response)
+}
+
+/// `load_virtual` as a function of its own, so that a caller in whose way it seldom is has no part of it.
+#[inline(never)]
+pub fn load_translated<const PAGES: usize, T: Touches>(
+    physical: &mut Physical<PAGES>,
+    buffer: &mut Buffer,
+    size: Size,
+    asi: u8,
+    at: u32,
+    before: u32,
+    timeline: &Timeline,
+    notes: &mut T,
+) -> Result<Response, AllocError>
+    requires aligned { at % bytes_in size ≡ 0 }
+    requires delivered { physical.old.phys.taken ≤ bytes_below before timeline.now.inputs }
+    requires serves { Serves physical.old buffer.old }
+    ensures ok { IfOk result (λ r. MemoryDoes T.KEEPS (arrived before timeline.now) (loaded_in (ram_size PAGES) (units_of physical.old) size asi at Space.Virtual)
+        physical.old physical.new r (T.noted notes.old) (T.noted notes.new)) }
+    ensures taken { OnOk result (physical.new.phys.taken ≤ bytes_below before timeline.now.inputs) }
+    ensures serves { Serves physical.new buffer.new }
+{
+    let response = load_virtual(physical, buffer, size, asi, at, before, timeline, notes)?;
+    Ok(response)
+}
+
+/// `store_virtual` as a function of its own, as `load_translated` is.
+#[inline(never)]
+pub fn store_translated<const PAGES: usize, T: Touches>(
+    physical: &mut Physical<PAGES>,
+    buffer: &mut Buffer,
+    size: Size,
+    asi: u8,
+    at: u32,
+    value: u64,
+    notes: &mut T,
+) -> Result<Response, AllocError>
+    requires aligned { at % bytes_in size ≡ 0 }
+    requires serves { Serves physical.old buffer.old }
+    ensures ok { IfOk result (λ r. (bytes : List ℕ) → MemoryDoes T.KEEPS bytes (stored_in (ram_size PAGES) (units_of physical.old) size asi at value Space.Virtual)
+        physical.old physical.new r (T.noted notes.old) (T.noted notes.new)) }
+    ensures taken { OnOk result (physical.new.phys.taken ≡ physical.old.phys.taken) }
+    ensures serves { Serves physical.new buffer.new }
+{
+    let response = store_virtual(physical, buffer, size, asi, at, value, notes)?;
+    Ok(response)
 }
 
 /// Makes an access. The bytes that came in at the console at the steps below `before` have arrived.

@@ -10,7 +10,7 @@ use Rattle.sv8_model.specs.Cells.{ram_byte, byte}
 use Rattle.sv8_history.specs.Machine.{Run}
 use Rattle.sv8_history.specs.Changes.{Image, Change, IsEdited, IsApart, IsNextEvent, ArePlanned}
 use Rattle.sv8_time.specs.Schedule.{Schedule, IsNextPoke, has_poke, poke_after}
-use Rattle.sv8_time.proofs.Nexts.{next_poke_is}
+use Rattle.sv8_time.proofs.Common.{next_poke_is}
 use Rattle.sv8_phys.specs.Memory.{ram_size}
 use Rattle.sv8_source.specs.Text.{Text}
 use Rattle.sv8_source.specs.Image.{image_byte, image_bytes}

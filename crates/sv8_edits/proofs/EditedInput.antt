@@ -6,7 +6,7 @@ use Rattle.std.proofs.lemmas.Bool.Decides.{nat_tests}
 use Rattle.std.proofs.lemmas.List.{append-nil}
 use Rattle.std.proofs.lemmas.List.Elements.{filter-append}
 use Rattle.sv8_time.specs.Schedule.{Schedule, Input, input_of, input_before, is_input_at, put_input, cut_input, input_bytes}
-use Rattle.sv8_time.proofs.Parts.{filter_none, each_map, each_passes}
+use Rattle.sv8_time.proofs.Common.{filter_none, each_map, each_passes}
 use Rattle.sv8_phys.specs.Contents.{arrived}
 use Rattle.sv8_cpu.specs.Recorded.{Event, event_at}
 use Rattle.sv8_edits.specs.EditLaws.{InputEdits, ClearInputEdits}

@@ -4,11 +4,7 @@ use Rattle.std.specs.List.{filter, find, list_any}
 use Rattle.std.proofs.lemmas.Bool.{both_ways, false_from_ne_true, or_parts}
 use Rattle.std.proofs.lemmas.Bool.Decides.{nat_tests}
 use Rattle.sv8_time.specs.Order.{Rising, placed, comes_before, is_at, cleared_at, of_major}
-use Rattle.sv8_time.proofs.Parts.{filter_none, behind}
-use Rattle.sv8_time.proofs.Places.{IsSame, others}
-use Rattle.sv8_time.proofs.Orders.{key_order}
-use Rattle.sv8_time.proofs.KeyPlaces.{same_place}
-use Rattle.sv8_time.proofs.Splits.{split, placed_there, placed_elsewhere, dropped_there, dropped_elsewhere}
+use Rattle.sv8_time.proofs.Common.{filter_none, behind, IsSame, others, key_order, same_place, split, placed_there, placed_elsewhere, dropped_there, dropped_elsewhere}
 
 -- ---- parts of lists
 

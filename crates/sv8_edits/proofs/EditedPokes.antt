@@ -8,9 +8,7 @@ use Rattle.sv8_history.specs.Machine.{Run}
 use Rattle.sv8_history.specs.Changes.{Poke, Clear, IsRepoked, IsNextEvent, IsEdited, ArePlanned}
 use Rattle.sv8_time.specs.Order.{Each, Rising}
 use Rattle.sv8_time.specs.Schedule.{Schedule, BytePoke, IsPokePlace, IsNextPoke, poke_of, poke_before, is_poke_at, has_poke, put_poke, cut_poke, pokes_of_step, poke_after, with_poke_byte, without_poke_byte}
-use Rattle.sv8_time.proofs.Parts.{each_filter, each_placed}
-use Rattle.sv8_time.proofs.Nexts.{next_poke_is}
-use Rattle.sv8_time.proofs.SoundEvents.{poke_bound}
+use Rattle.sv8_time.proofs.Common.{each_filter, each_placed, next_poke_is, poke_bound}
 use Rattle.sv8_phys.specs.Memory.{ram_size}
 use Rattle.sv8_source.specs.Text.{Text}
 use Rattle.sv8_cpu.specs.State.{reset_state}

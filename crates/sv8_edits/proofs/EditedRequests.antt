@@ -8,9 +8,7 @@ use Rattle.sv8_history.specs.Changes.{Poke, Clear, IsRepoked, IsNextEvent, IsEdi
 use Rattle.sv8_time.specs.Order.{Each}
 use Rattle.sv8_time.specs.declared.requests.Request.{Request}
 use Rattle.sv8_time.specs.Schedule.{Schedule, IsRequestPlace, IsNextRequest, request_of, request_before, is_request_at, has_request, put_request, cut_request, requests_of_step, request_after, with_request, without_request}
-use Rattle.sv8_time.proofs.Parts.{each_map, each_filter, each_placed}
-use Rattle.sv8_time.proofs.Nexts.{next_request_is}
-use Rattle.sv8_time.proofs.SoundEvents.{request_bound}
+use Rattle.sv8_time.proofs.Common.{each_map, each_filter, each_placed, next_request_is, request_bound}
 use Rattle.sv8_source.specs.Text.{Text}
 use Rattle.sv8_cpu.specs.Recorded as recorded
 use Rattle.sv8_cpu.specs.Recorded.{Event, event_at, IsRequest, AlikeBut, AreEvents, machine, run_of}

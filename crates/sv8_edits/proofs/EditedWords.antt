@@ -6,8 +6,7 @@ use Rattle.sv8_model.specs.Cells.{ram_byte, byte}
 use Rattle.sv8_history.specs.Changes.{Poke, Clear, Change, IsEdited, IsApart, ArePlanned}
 use Rattle.sv8_time.specs.Order.{Rising}
 use Rattle.sv8_time.specs.Schedule.{Schedule, poke_of, poke_before, is_poke_at, has_poke, with_poke_byte, without_poke_byte}
-use Rattle.sv8_time.proofs.Parts.{rising_placed}
-use Rattle.sv8_time.proofs.Orders.{key_order}
+use Rattle.sv8_time.proofs.Common.{rising_placed, key_order}
 use Rattle.sv8_phys.specs.Memory.{ram_size}
 use Rattle.sv8_source.specs.Text.{Text}
 use Rattle.sv8_cpu.specs.Recorded.{AreEvents, machine, run_of}

@@ -6,3 +6,5 @@ pub mod EditedRequests
 pub mod EditedPokes
 pub mod EditedWords
 pub mod EditedImage
+pub mod Standing
+pub mod Common

@@ -1,10 +1,10 @@
 -- What an edit changes of the recorded run: the cells that it sets otherwise, each from the step of the edit up to the next event that sets the cell
 -- anyway. An edit that sets what stands already changes nothing.
-use Rattle.std.specs.Prelude.{ℕ, ◌+◌, ◌-◌, ◌/◌, ◌%◌, ◌^◌, ◌==◌, Bool, true, false, List, [], ◌∷◌, ◌++◌, Option, Some, None, unwrap_or, slice_index_or, flat_map, if◌then◌else◌}
+use Rattle.std.specs.Prelude.{ℕ, ◌+◌, ◌-◌, ◌/◌, ◌%◌, ◌^◌, ◌==◌, Bool, true, false, List, [], ◌∷◌, ◌++◌, Option, Some, None, unwrap_or, slice_index_or, flat_map, bytes_eq, if◌then◌else◌}
 use Rattle.std.specs.List.{range_with_len}
 use Rattle.sv8_model.specs.Cells.{ram_byte, pending_level, byte, held}
 use Rattle.sv8_history.specs.Changes.{Change, Image, Poke, Clear}
-use Rattle.sv8_time.specs.Schedule.{Schedule, poked_at, has_poke, has_request, poke_after, request_after}
+use Rattle.sv8_time.specs.Schedule.{Schedule, poked_at, has_poke, has_request, bytes_of_step, poke_after, request_after}
 use Rattle.sv8_phys.specs.Memory.{ram_size}
 use Rattle.sv8_source.specs.Text.{Text}
 use Rattle.sv8_source.specs.Image.{image_bytes}
@@ -32,6 +32,10 @@ poked_with step address s = poked_at step address s.pokes
 abbrev pub stands : Option ℕ → ℕ → Bool
 stands None value = false
 stands (Some other) value = other == value
+
+-- Bytes come in at a step: the step from which on the input is another, or none where these bytes come in there already.
+abbrev pub input_change : ℕ → List ℕ → Schedule → Option ℕ
+input_change step bytes s = if bytes_eq (bytes_of_step step s.inputs) bytes then None else Some step
 
 module _ (windows pages : ℕ) where
   -- a byte is poked with a value

@@ -1,9 +1,9 @@
 -- WHY AN EDIT OF THE WORKBENCH IS AN EDIT OF THE RUN: the new source and timeline give the run that its changes make of the old one, and the changes are
 -- planned as the theory of recorded runs asks.
-use Rattle.std.specs.Prelude.{◌≡◌, ℕ, ◌+◌, ◌%◌, ◌<◌, ◌≤◌, List, slice_index_or}
+use Rattle.std.specs.Prelude.{◌≡◌, ◌≢◌, true, ℕ, ◌+◌, ◌/◌, ◌%◌, ◌^◌, ◌<◌, ◌≤◌, List, [], length, Some, None, slice_index_or}
 use Rattle.sv8_history.specs.Changes.{Change, IsEdited, ArePlanned}
 use Rattle.sv8_history.specs.Input.{IsRefed}
-use Rattle.sv8_time.specs.Schedule.{Schedule, IsTimeline, with_poke_byte, without_poke_byte, with_poke, without_poke, with_request, without_request, with_input, without_input}
+use Rattle.sv8_time.specs.Schedule.{Schedule, IsTimeline, has_request, bytes_of_step, with_poke_byte, without_poke_byte, with_poke, without_poke, with_request, without_request, with_input, without_input}
 use Rattle.sv8_phys.specs.Memory.{ram_size}
 use Rattle.sv8_source.specs.Text.{Text}
 use Rattle.sv8_source.specs.Image.{image_bytes}
@@ -11,7 +11,7 @@ use Rattle.sv8_time.specs.Schedule.{bytes_below}
 use Rattle.sv8_cpu.specs.State.{reset_state}
 use Rattle.sv8_cpu.specs.Run.{state_at}
 use Rattle.sv8_cpu.specs.Recorded.{machine, run_of, AreEvents, IsSound}
-use Rattle.sv8_edits.specs.Changes.{poke_byte_changes, clear_byte_changes, poke_changes, clear_changes, request_changes, clear_request_changes, image_changes}
+use Rattle.sv8_edits.specs.Changes.{poked_with, input_change, poke_byte_changes, clear_byte_changes, poke_changes, clear_changes, request_changes, clear_request_changes, image_changes}
 
 -- a source and a timeline that a machine can run under
 pub record CanRun (windows pages : ℕ) (source : Text) (s : Schedule) : Type 0 where
@@ -72,6 +72,35 @@ InputEdits = (windows pages : ℕ) (source : Text) (s : Schedule) (can : CanRun 
 abbrev pub ClearInputEdits : Type 0
 ClearInputEdits = (windows pages : ℕ) (source : Text) (s : Schedule) (can : CanRun windows pages source s) (step : ℕ)
     → Refeeds windows pages step source s (without_input step s) can
+
+-- SETTING WHAT STANDS changes nothing: the timeline stays as it is, and no cell and no input is changed. So with a byte, a word, a level and the bytes
+-- that come in.
+abbrev pub StandingBytes : Type 0
+StandingBytes = (windows pages : ℕ) (s : Schedule) → IsTimeline s → (step address value : ℕ) → poked_with step address s ≡ Some value
+    → (with_poke_byte step address value s ≡ s) × (poke_byte_changes windows pages step address value s ≡ [])
+
+abbrev pub StandingWords : Type 0
+StandingWords = (windows pages : ℕ) (s : Schedule) → IsTimeline s → (step address value : ℕ)
+    → poked_with step address s ≡ Some (value / 2 ^ 24 % 2 ^ 8) → poked_with step (address + 1) s ≡ Some (value / 2 ^ 16 % 2 ^ 8)
+    → poked_with step (address + 2) s ≡ Some (value / 2 ^ 8 % 2 ^ 8) → poked_with step (address + 3) s ≡ Some (value % 2 ^ 8)
+    → (with_poke step address value s ≡ s) × (poke_changes windows pages step address value s ≡ [])
+
+abbrev pub StandingRequests : Type 0
+StandingRequests = (windows pages : ℕ) (s : Schedule) → IsTimeline s → (step level : ℕ) → has_request step level s.requests ≡ true
+    → (with_request step level s ≡ s) × (request_changes windows pages step level s ≡ [])
+
+abbrev pub StandingInputs : Type 0
+StandingInputs = (s : Schedule) → IsTimeline s → (step : ℕ) (bytes : List ℕ) → 0 < length bytes → bytes_of_step step s.inputs ≡ bytes
+    → (with_input step bytes s ≡ s) × (input_change step bytes s ≡ None)
+
+-- .. and the source, where its image stays
+abbrev pub StandingSources : Type 0
+StandingSources = (windows pages : ℕ) (source source' : Text) (s : Schedule) → image_bytes source (ram_size pages) ≡ image_bytes source' (ram_size pages)
+    → image_changes windows pages source source' s ≡ []
+
+-- Bytes that do not stand at a step are a change from that step on.
+abbrev pub OtherInputs : Type 0
+OtherInputs = (s : Schedule) (step : ℕ) (bytes : List ℕ) → bytes_of_step step s.inputs ≢ bytes → input_change step bytes s ≡ Some step
 
 -- No state of a run has taken more of the console's bytes than have come in by then.
 abbrev pub StatesAreFed : Type 0

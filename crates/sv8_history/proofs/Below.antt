@@ -152,10 +152,13 @@ set_touched m x old new k trace pos right turns lo h s =
     (trace.kept x.last x.cell)
     (m.get x.cell (trace.point (next_checkpoint k x.from)))
     (leb (next_checkpoint k x.from) (k * trace.count) && is_live (writes_of m trace.notes x.cell) x.from (suc x.from) x.last (next_checkpoint k x.from))
-    (ltb x.last (next_checkpoint k x.from) && not (some_from x.from x.last (writes_of m trace.notes x.cell)))
+    (leb x.from x.last && (ltb x.last (next_checkpoint k x.from) && not (some_from x.from x.last (writes_of m trace.notes x.cell))))
     (right.kept x.from x.cell ∙ kept_touched m k (k * trace.count) old x.from x.cell s)
     (second (cases_lt x.last (next_checkpoint k x.from)))
-    (λ c. third (and_parts (ltb x.last (next_checkpoint k x.from)) (not (some_from x.from x.last (writes_of m trace.notes x.cell))) c))
+    (λ c.
+    third
+    (and_parts (ltb x.last (next_checkpoint k x.from)) (not (some_from x.from x.last (writes_of m trace.notes x.cell)))
+    (and_parts (leb x.from x.last) (ltb x.last (next_checkpoint k x.from) && not (some_from x.from x.last (writes_of m trace.notes x.cell))) c).1))
   where
     within : next_checkpoint k x.from ≤ k * trace.count
     within = next_of_recorded k x.from trace.count pos h
@@ -211,7 +214,7 @@ set_untouched m law x old new k trace pos right turns lo h s = go (cases_Bool (i
         (m.get x.cell (trace.point (next_checkpoint k x.from)))
         (m.get x.cell (state_at m old x.from))
         (leb (next_checkpoint k x.from) (k * trace.count) && is_live (writes_of m trace.notes x.cell) x.from (suc x.from) x.last (next_checkpoint k x.from))
-        (ltb x.last (next_checkpoint k x.from) && not (some_from x.from x.last (writes_of m trace.notes x.cell)))
+        (leb x.from x.last && (ltb x.last (next_checkpoint k x.from) && not (some_from x.from x.last (writes_of m trace.notes x.cell))))
         (right.kept x.from x.cell ∙ kept_some m k (k * trace.count) old x.from x.cell h p s)
     go (inr p) (inl l) =
         let t-u : x.from ≤ x.last = (let b = turns.first-last in omega arith) in
@@ -223,10 +226,10 @@ set_untouched m law x old new k trace pos right turns lo h s = go (cases_Bool (i
         (m.get x.cell (trace.point (next_checkpoint k x.from)))
         (m.get x.cell (state_at m old x.from))
         (leb (next_checkpoint k x.from) (k * trace.count) && is_live (writes_of m trace.notes x.cell) x.from (suc x.from) x.last (next_checkpoint k x.from))
-        (ltb x.last (next_checkpoint k x.from) && not (some_from x.from x.last (writes_of m trace.notes x.cell)))
+        (leb x.from x.last && (ltb x.last (next_checkpoint k x.from) && not (some_from x.from x.last (writes_of m trace.notes x.cell))))
         (right.kept x.from x.cell ∙ kept_unpoked m k (k * trace.count) old x.from x.cell p)
         (not_patched m trace x.cell k x.from x.last (k * trace.count) l)
-        (rw (lt-ltb x.last (next_checkpoint k x.from) l, w))
+        (rw (le-leb x.from x.last t-u, lt-ltb x.last (next_checkpoint k x.from) l, w))
         (right.kept x.last x.cell ∙ kept_some m k (k * trace.count) old x.last x.cell (let b = within in omega arith) (turns.poked (let b = within in omega arith)) (span_later k x.from x.last pos t-u l (touches_of m (footprint_at m old) x.cell) s) ∙ ap Some v)
     go (inr p) (inr l) =
         let w : some_from x.from (next_checkpoint k x.from) (writes_of m trace.notes x.cell) ≡ false = wrote_same m k old trace right x.cell x.from (next_checkpoint k x.from) within ∙ none_from x.from (next_checkpoint k x.from) (writes_of m (footprint_at m old) x.cell) (λ n b d. writes_from-touches m old x.cell n (quiet n b d)) in
@@ -237,7 +240,7 @@ set_untouched m law x old new k trace pos right turns lo h s = go (cases_Bool (i
         (m.get x.cell (trace.point (next_checkpoint k x.from)))
         (m.get x.cell (state_at m old x.from))
         (leb (next_checkpoint k x.from) (k * trace.count) && is_live (writes_of m trace.notes x.cell) x.from (suc x.from) x.last (next_checkpoint k x.from))
-        (ltb x.last (next_checkpoint k x.from) && not (some_from x.from x.last (writes_of m trace.notes x.cell)))
+        (leb x.from x.last && (ltb x.last (next_checkpoint k x.from) && not (some_from x.from x.last (writes_of m trace.notes x.cell))))
         (right.kept x.from x.cell ∙ kept_unpoked m k (k * trace.count) old x.from x.cell p)
         (rw (w, le-leb (next_checkpoint k x.from) (k * trace.count) within, le-leb (next_checkpoint k x.from) x.last l, le-leb (suc x.from) (next_checkpoint k x.from) above))
         (ap (m.get x.cell) (point_next m k old trace pos right x.from h) ∙ value p (next_checkpoint k x.from) (omega arith) (omega arith) l)
@@ -255,7 +258,7 @@ kept_set m law x old new k trace pos right turns lo poked = go (cases_lt x.from 
         (trace.kept x.last x.cell)
         (m.get x.cell (trace.point (next_checkpoint k x.from)))
         (leb (next_checkpoint k x.from) (k * trace.count) && is_live (writes_of m trace.notes x.cell) x.from (suc x.from) x.last (next_checkpoint k x.from))
-        (ltb x.last (next_checkpoint k x.from) && not (some_from x.from x.last (writes_of m trace.notes x.cell)))
+        (leb x.from x.last && (ltb x.last (next_checkpoint k x.from) && not (some_from x.from x.last (writes_of m trace.notes x.cell))))
         (right.kept x.from x.cell ∙ kept_late m k (k * trace.count) old x.from x.cell h)
         (rw (lt-leb (next_checkpoint k x.from) (k * trace.count) (let b = next_above k x.from pos in omega arith)))
         (λ w. z) ∙ sym (kept_late m k (k * trace.count) new x.from x.cell h)

@@ -21,3 +21,4 @@ pub mod Toy
 pub mod Events
 pub mod Numbers
 pub mod TraceNumbers
+pub mod Common

@@ -45,7 +45,7 @@ keeping m trace a t p = record trace {
 }
 
 -- The value to be kept below an event that is set at `t`: that of the event in whose place it comes, or of the first checkpoint that it patches, or
--- that below the event that ends it.
+-- that below the event that ends it, which is not before it.
 abbrev pub kept_by_poke : (m : Machine) → ℕ → Trace m → m.Cell → ℕ → ℕ → Option m.Value
 kept_by_poke m k trace a t last =
     cond
@@ -54,7 +54,7 @@ kept_by_poke m k trace a t last =
     (cond
     (leb (next_checkpoint k t) (k * trace.count) && is_live (writes_of m trace.notes a) t (suc t) last (next_checkpoint k t))
     (Some (m.get a (trace.point (next_checkpoint k t))))
-    (cond (ltb last (next_checkpoint k t) && not (some_from t last (writes_of m trace.notes a))) (trace.kept last a) None))
+    (cond (leb t last && (ltb last (next_checkpoint k t) && not (some_from t last (writes_of m trace.notes a)))) (trace.kept last a) None))
 
 -- An event sets the cell to `v` at `t`.
 abbrev pub set_poke : (m : Machine) → ℕ → Trace m → m.Cell → m.Value → ℕ → ℕ → Trace m

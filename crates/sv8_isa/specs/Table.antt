@@ -3,6 +3,8 @@ use Rattle.std.specs.Prelude.{ℕ, Bool, ◌+◌, ◌*◌, ◌^◌, ◌==◌, �
 use Rattle.std.specs.List.{list_all}
 use Rattle.sv8_model.specs.Words.{field, signed}
 use Rattle.sv8_isa.specs.Operands.{operand_of, count_of, trap_number_of, condition_of}
+use Rattle.sv8_isa.specs.declared.instr.Group.{Group}
+use Rattle.sv8_isa.specs.declared.instr.Group.TheVariants as group
 use Rattle.sv8_isa.specs.declared.instr.Operand.{Operand}
 use Rattle.sv8_isa.specs.declared.instr.ArithOp.TheVariants.{Add, And, Or, Xor, Sub, Andn, Orn, Xnor, Addx, Umul, Smul, Subx, Udiv, Sdiv}
 use Rattle.sv8_isa.specs.declared.instr.TaggedOp.TheVariants.{TaddCc, TsubCc, TaddCcTv, TsubCcTv}
@@ -218,6 +220,14 @@ table =
 -- a word is one of the stores of a queue
 abbrev pub is_queue_store : ℕ → Bool
 is_queue_store w = fits w store_fp_queue || fits w store_cp_queue
+
+-- where a word stands in the table: by op, and for op 2 by the halves of op3
+unfoldable pub group_of : ℕ → Group
+group_of w =
+    if field w 31 30 == 0 then group.Format2 else
+    (if field w 31 30 == 1 then group.Call else
+    (if field w 31 30 == 3 then group.Memory else
+    (if field w 24 24 == 0 then group.Arithmetic else group.Control)))
 
 -- the first row that a word fits, and no word fits two
 abbrev pub row_of : ℕ → Option Row

@@ -1,11 +1,14 @@
 //! From words to instructions, and back.
 
-ghost use Rattle.std.specs.Prelude.{◌≡◌, IfSome};
+ghost use Rattle.std.specs.Prelude.{◌≡◌, ◌==◌, IfSome};
+ghost use Rattle.sv8_model.specs.Words.{field, signed};
+ghost use Rattle.sv8_isa.specs.declared.instr.Instr.TheVariants.{Bicc, Call};
+ghost use Rattle.sv8_isa.specs.Operands.{condition_of};
 ghost use Rattle.sv8_isa.specs.Encoding.{encoding};
 ghost use Rattle.sv8_isa.specs.Registers.{HasRegisters};
-ghost use Rattle.sv8_isa.specs.Table.{meaning, is_queue_store};
+ghost use Rattle.sv8_isa.specs.Table.{meaning, is_queue_store, group_of};
 
-use crate::instr::{ArithOp, Instr, MemoryOp, ShiftOp, StateRegister, TaggedOp};
+use crate::instr::{ArithOp, Group, Instr, MemoryOp, ShiftOp, StateRegister, TaggedOp};
 use crate::word::{
     alternate_source, bits, branch_field, condition, condition_code, count, format_2, format_3,
     format_call, natural_source, operand, register, sign_extend, signed_bits, source_bits,
@@ -77,6 +80,28 @@ macro_rules! opcodes {
     };
 }
 
+/// Bicc with the fields of a word.
+#[inline(always)]
+fn branch(word: u32) -> Instr
+    ensures { result ≡ Bicc (condition_of (field word 28 25)) (field word 29 29 == 1) (signed (field word 21 0) 22) }
+{
+    Instr::Bicc {
+        cond: condition(word),
+        annul: bits(word, 29, 29) == 1,
+        disp22: sign_extend(bits(word, 21, 0), 22),
+    }
+}
+
+/// CALL with the displacement of a word.
+#[inline(always)]
+fn call(word: u32) -> Instr
+    ensures { result ≡ Call (signed (field word 29 0) 30) }
+{
+    Instr::Call {
+        disp30: sign_extend(bits(word, 29, 0), 30),
+    }
+}
+
 /// A `match` on a word, from the list.
 macro_rules! decode_rows {
     (
@@ -106,16 +131,12 @@ macro_rules! decode_rows {
         match bits($word, 31, 30) {
             0 => match bits($word, 24, 22) {
                 $unimp => Instr::Unimp(bits($word, 21, 0)),
-                $bicc => Instr::Bicc {
-                    cond: condition($word),
-                    annul: bits($word, 29, 29) == 1,
-                    disp22: sign_extend(bits($word, 21, 0), 22),
-                },
+                $bicc => branch($word),
                 $sethi => Instr::Sethi { imm22: bits($word, 21, 0), rd },
                 $($near_code => Instr::$near($word),)*
                 _ => Instr::Illegal,
             },
-            $call => Instr::Call { disp30: sign_extend(bits($word, 29, 0), 30) },
+            $call => call($word),
             2 => match bits($word, 24, 19) {
                 $(
                     $plain => Instr::Arith { op: ArithOp::$arith, cc: false, rd, rs1, operand },
@@ -175,6 +196,173 @@ pub fn decode(word: u32) -> Instr
     ensures registers { HasRegisters result }
 {
     opcodes!(decode_rows!(word))
+}
+
+/// Where a word stands in the opcode table.
+#[tactic(auto, unfolding(crate::specs::Table::group_of))]
+#[inline(always)]
+pub fn group(word: u32) -> Group
+    ensures { result ≡ group_of word }
+{
+    match bits(word, 31, 30) {
+        0 => Group::Format2,
+        1 => Group::Call,
+        3 => Group::Memory,
+        _ if bits(word, 24, 24) == 0 => Group::Arithmetic,
+        _ => Group::Control,
+    }
+}
+
+/// A `match` on op3, from the group of arithmetic and logic.
+macro_rules! arithmetic_rows {
+    ([$word:ident] arith { $($arith:ident $plain:literal $cc:literal),* } $($later:tt)*) => {{
+        let rd = register($word, 25);
+        let rs1 = register($word, 14);
+        let operand = operand($word);
+        match bits($word, 24, 19) {
+            $(
+                $plain => Some(Instr::Arith { op: ArithOp::$arith, cc: false, rd, rs1, operand }),
+                $cc => Some(Instr::Arith { op: ArithOp::$arith, cc: true, rd, rs1, operand }),
+            )*
+            _ => None,
+        }
+    }};
+    ([$word:ident] $group:ident $rows:tt $($later:tt)*) => {
+        arithmetic_rows!([$word] $($later)*)
+    };
+}
+
+/// A `match` on op3, from the group of three fields.
+macro_rules! three_fields_rows {
+    ([$word:ident] three_fields { $($three:ident $three_code:literal),* } $($later:tt)*) => {{
+        let rd = register($word, 25);
+        let rs1 = register($word, 14);
+        let operand = operand($word);
+        match bits($word, 24, 19) {
+            $($three_code => Some(Instr::$three { rd, rs1, operand }),)*
+            _ => None,
+        }
+    }};
+    ([$word:ident] $group:ident $rows:tt $($later:tt)*) => {
+        three_fields_rows!([$word] $($later)*)
+    };
+}
+
+/// A `match` on op3, from the group of loads and stores.
+macro_rules! memory_rows {
+    ([$word:ident] memory { $($memory:ident $normal:literal $alternate:literal),* } $($later:tt)*) => {{
+        let rd = register($word, 25);
+        let rs1 = register($word, 14);
+        let operand = operand($word);
+        match bits($word, 24, 19) {
+            $($normal => Some(Instr::Memory { op: MemoryOp::$memory, rd, rs1, operand }),)*
+            _ => None,
+        }
+    }};
+    ([$word:ident] $group:ident $rows:tt $($later:tt)*) => {
+        memory_rows!([$word] $($later)*)
+    };
+}
+
+/// The instruction of a word, if it is one of arithmetic and logic that has a form which sets the condition codes.
+///
+/// It is `decode` for these alone, for a caller that has a way of its own for them. `None` says nothing of the word.
+#[tactic(auto, unfolding(crate::specs::Table::meaning))]
+#[inline(always)]
+pub fn decode_arithmetic(word: u32) -> Option<Instr>
+    ensures value { IfSome result (λ i. i ≡ meaning word) }
+    ensures registers { IfSome result (λ i. HasRegisters i) }
+{
+    if bits(word, 31, 30) != 2 {
+        return None;
+    }
+    opcodes!(arithmetic_rows!(word))
+}
+
+/// The instruction of a word, if it is a load or a store of an integer register with no address space of its own.
+///
+/// It is `decode` for these alone, for a caller that has a way of its own for them. `None` says nothing of the word.
+#[tactic(auto, unfolding(crate::specs::Table::meaning))]
+#[inline(always)]
+pub fn decode_memory(word: u32) -> Option<Instr>
+    ensures value { IfSome result (λ i. i ≡ meaning word) }
+    ensures registers { IfSome result (λ i. HasRegisters i) }
+{
+    if bits(word, 31, 30) != 3 {
+        return None;
+    }
+    opcodes!(memory_rows!(word))
+}
+
+/// The instruction of a word, if it is MULScc, JMPL, SAVE or RESTORE.
+///
+/// It is `decode` for these alone, for a caller that has a way of its own for them. `None` says nothing of the word.
+#[tactic(auto, unfolding(crate::specs::Table::meaning))]
+#[inline(always)]
+pub fn decode_three_fields(word: u32) -> Option<Instr>
+    ensures value { IfSome result (λ i. i ≡ meaning word) }
+    ensures registers { IfSome result (λ i. HasRegisters i) }
+{
+    if bits(word, 31, 30) != 2 {
+        return None;
+    }
+    opcodes!(three_fields_rows!(word))
+}
+
+/// A test of op, from the entry of CALL, which is the first of the list.
+macro_rules! call_rows {
+    ([$word:ident] call $call:literal $($later:tt)*) => {
+        if bits($word, 31, 30) == $call {
+            Some(call($word))
+        } else {
+            None
+        }
+    };
+}
+
+/// The instruction of a word, if it is CALL.
+///
+/// It is `decode` for CALL alone, for a caller that has a way of its own for it. `None` says nothing of the word.
+#[tactic(auto, unfolding(crate::specs::Table::meaning))]
+#[inline(always)]
+pub fn decode_call(word: u32) -> Option<Instr>
+    ensures value { IfSome result (λ i. i ≡ meaning word) }
+    ensures registers { IfSome result (λ i. HasRegisters i) }
+{
+    opcodes!(call_rows!(word))
+}
+
+/// A `match` on op2, from the group of op 0.
+macro_rules! format_2_rows {
+    (
+        [$word:ident]
+        format_2 { Unimp $unimp:literal, Bicc $bicc:literal, Sethi $sethi:literal }
+        $($later:tt)*
+    ) => {
+        match bits($word, 24, 22) {
+            $bicc => Some(branch($word)),
+            $sethi => Some(Instr::Sethi { imm22: bits($word, 21, 0), rd: register($word, 25) }),
+            _ => None,
+        }
+    };
+    ([$word:ident] $group:ident $rows:tt $($later:tt)*) => {
+        format_2_rows!([$word] $($later)*)
+    };
+}
+
+/// The instruction of a word, if it is Bicc or SETHI.
+///
+/// It is `decode` for these alone, for a caller that has a way of its own for them. `None` says nothing of the word.
+#[tactic(auto, unfolding(crate::specs::Table::meaning))]
+#[inline(always)]
+pub fn decode_format_2(word: u32) -> Option<Instr>
+    ensures value { IfSome result (λ i. i ≡ meaning word) }
+    ensures registers { IfSome result (λ i. HasRegisters i) }
+{
+    if bits(word, 31, 30) != 0 {
+        return None;
+    }
+    opcodes!(format_2_rows!(word))
 }
 
 /// A `match` on an instruction, from the list.

@@ -21,6 +21,21 @@ pub enum Cond {
     OverflowClear,
 }
 
+/// Where a word stands in the opcode table: by op, and for op 2 by the halves of op3 (Appendix F).
+#[derive(Clone, Copy, PartialEq, Eq, Debug)]
+pub enum Group {
+    /// Op 0: branches and SETHI.
+    Format2,
+    /// Op 1: CALL.
+    Call,
+    /// Op 2, lower half: arithmetic and logic.
+    Arithmetic,
+    /// Op 2, higher half: all other operations on registers, and control transfer.
+    Control,
+    /// Op 3: loads and stores.
+    Memory,
+}
+
 /// The second source of an instruction: a register, or a number that stands in the word.
 #[derive(Clone, Copy, PartialEq, Eq, Debug)]
 pub enum Operand {

@@ -9,5 +9,8 @@ pub mod laws;
 mod tests;
 mod word;
 
-pub use codec::{decode, encode, is_queue_store};
-pub use instr::{ArithOp, Cond, Instr, MemoryOp, Operand, ShiftOp, StateRegister, TaggedOp};
+pub use codec::{
+    decode, decode_arithmetic, decode_call, decode_format_2, decode_memory, decode_three_fields,
+    encode, group, is_queue_store,
+};
+pub use instr::{ArithOp, Cond, Group, Instr, MemoryOp, Operand, ShiftOp, StateRegister, TaggedOp};

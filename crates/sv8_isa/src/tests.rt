@@ -12,7 +12,10 @@ use crate::Operand::{Immediate, Register};
 use crate::ShiftOp::{Sll, Sra, Srl};
 use crate::StateRegister::{Psr, Tbr, Wim, Y};
 use crate::TaggedOp::{TaddCc, TaddCcTv, TsubCc, TsubCcTv};
-use crate::{Instr, decode, encode};
+use crate::{
+    Instr, decode, decode_arithmetic, decode_call, decode_format_2, decode_memory,
+    decode_three_fields, encode,
+};
 use std::test::Fail;
 
 /// An instruction, from its fields in the order of `Instr`.
@@ -321,11 +324,26 @@ const OUT_OF_RANGE: [Instr; 88] = instructions! {
     read(Wim, 255);
 };
 
-/// Each word decodes to its instruction, which encodes to the word.
+/// What the decoder of an instruction's own group gives, if there is one.
+fn decode_of_its_group(word: u32, instr: Instr) -> Option<Instr> {
+    match instr {
+        Instr::Arith { .. } => decode_arithmetic(word),
+        Instr::Memory { .. } => decode_memory(word),
+        Instr::Call { .. } => decode_call(word),
+        Instr::Mulscc { .. } | Instr::Jmpl { .. } | Instr::Save { .. } | Instr::Restore { .. } => {
+            decode_three_fields(word)
+        }
+        Instr::Bicc { .. } | Instr::Sethi { .. } => decode_format_2(word),
+        _ => Some(instr),
+    }
+}
+
+/// Each word decodes to its instruction, by the decoder of its group too, and the instruction encodes to the word.
 #[test]
 fn words_of_an_assembler(rt: HostRuntime) -> Result<(), Fail> {
     for &(word, text, instr) in ASSEMBLED {
         assert_eq!(rt; decode(word), instr, "{text}");
+        assert_eq!(rt; decode_of_its_group(word, instr), Some(instr), "{text}");
         assert_eq!(rt; encode(&instr), Some(word), "{text}");
     }
     Ok(())

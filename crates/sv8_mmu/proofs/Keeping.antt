@@ -89,45 +89,61 @@ stored c new at w (Err x) h g k m = inl (subst (λ z. Contains z.entries k) g m)
 -- ---- the buffer's list: the memos, and then the cache
 
 -- what holds of each part holds of the whole
-pub each_part : (P : Kept → Type 0) (a b c : List Kept) → ((k : Kept) → Contains a k → P k) → ((k : Kept) → Contains b k → P k) → ((k : Kept) → Contains c k → P k) → (k : Kept) → Contains (a ++ b ++ c) k → P k
-each_part P a b c f g h k m = elim (Contains-append_cases (a ++ b) c k m) [
-  | inl ab ↦ elim (Contains-append_cases a b k ab) [ inl x ↦ f k x | inr y ↦ g k y ]
+pub each_part : (P : Kept → Type 0) (a b c d : List Kept) → ((k : Kept) → Contains a k → P k) → ((k : Kept) → Contains b k → P k) → ((k : Kept) → Contains c k → P k) → ((k : Kept) → Contains d k → P k)
+    → (k : Kept) → Contains (a ++ b ++ c ++ d) k → P k
+each_part P a b c d e f g h k m = elim (Contains-append_cases (a ++ b ++ c) d k m) [
+  | inl abc ↦ elim (Contains-append_cases (a ++ b) c k abc) [
+    | inl ab ↦ elim (Contains-append_cases a b k ab) [ inl x ↦ e k x | inr y ↦ f k y ]
+    | inr z ↦ g k z
+  ]
   | inr z ↦ h k z
 ]
 
 pub sole : (P : Kept → Type 0) (f : Kept) → P f → (k : Kept) → Contains (f ∷ []) k → P k
 sole P f p k m = elim (Contains-cons f [] k m) [ inl e ↦ subst P e p | inr n ↦ absurd (Contains-nil k n) ]
 
-module _ (fetch load : Option Kept) (cache : Option (LruCache Key Walk)) (all : List Kept) (view : if_kept fetch ++ if_kept load ++ entries_of cache ≡ all) where
+module _ (fetch load store : Option Kept) (cache : Option (LruCache Key Walk)) (all : List Kept) (view : if_kept fetch ++ if_kept load ++ if_kept store ++ entries_of cache ≡ all) where
+  in_memos : (k : Kept) → Contains (if_kept fetch ++ if_kept load ++ if_kept store) k → Contains all k
+  in_memos k m = subst (λ z. Contains z k) view (Contains-append_left (if_kept fetch ++ if_kept load ++ if_kept store) (entries_of cache) k m)
+
   in_fetch : (k : Kept) → Contains (if_kept fetch) k → Contains all k
-  in_fetch k m = subst (λ z. Contains z k) view (Contains-append_left (if_kept fetch ++ if_kept load) (entries_of cache) k (Contains-append_left (if_kept fetch) (if_kept load) k m))
+  in_fetch k m = in_memos k (Contains-append_left (if_kept fetch ++ if_kept load) (if_kept store) k (Contains-append_left (if_kept fetch) (if_kept load) k m))
 
   in_load : (k : Kept) → Contains (if_kept load) k → Contains all k
-  in_load k m = subst (λ z. Contains z k) view (Contains-append_left (if_kept fetch ++ if_kept load) (entries_of cache) k (Contains-append_right (if_kept fetch) (if_kept load) k m))
+  in_load k m = in_memos k (Contains-append_left (if_kept fetch ++ if_kept load) (if_kept store) k (Contains-append_right (if_kept fetch) (if_kept load) k m))
+
+  in_store : (k : Kept) → Contains (if_kept store) k → Contains all k
+  in_store k m = in_memos k (Contains-append_right (if_kept fetch ++ if_kept load) (if_kept store) k m)
 
   pub in_cache : (k : Kept) → Contains (entries_of cache) k → Contains all k
-  in_cache k m = subst (λ z. Contains z k) view (Contains-append_right (if_kept fetch ++ if_kept load) (entries_of cache) k m)
+  in_cache k m = subst (λ z. Contains z k) view (Contains-append_right (if_kept fetch ++ if_kept load ++ if_kept store) (entries_of cache) k m)
 
   -- the cache after a look-up
   module _ (new : Option (LruCache Key Walk)) (among : AreAmong (entries_of new) (entries_of cache)) where
-    pub found_nothing : AreAmong (if_kept fetch ++ if_kept load ++ entries_of new) all
-    found_nothing = each_part (Contains all) (if_kept fetch) (if_kept load) (entries_of new) in_fetch in_load (λ k m. in_cache k (among k m))
+    cached : (k : Kept) → Contains (entries_of new) k → Contains all k
+    cached k m = in_cache k (among k m)
 
-    pub found_fetch : (f : Kept) → Contains (entries_of cache) f → AreAmong (f ∷ [] ++ if_kept load ++ entries_of new) all
-    found_fetch f c = each_part (Contains all) (f ∷ []) (if_kept load) (entries_of new) (sole (Contains all) f (in_cache f c)) in_load (λ k m. in_cache k (among k m))
+    pub found_nothing : AreAmong (if_kept fetch ++ if_kept load ++ if_kept store ++ entries_of new) all
+    found_nothing = each_part (Contains all) (if_kept fetch) (if_kept load) (if_kept store) (entries_of new) in_fetch in_load in_store cached
 
-    pub found_load : (f : Kept) → Contains (entries_of cache) f → AreAmong (if_kept fetch ++ f ∷ [] ++ entries_of new) all
-    found_load f c = each_part (Contains all) (if_kept fetch) (f ∷ []) (entries_of new) in_fetch (sole (Contains all) f (in_cache f c)) (λ k m. in_cache k (among k m))
+    pub found_fetch : (f : Kept) → Contains (entries_of cache) f → AreAmong (f ∷ [] ++ if_kept load ++ if_kept store ++ entries_of new) all
+    found_fetch f c = each_part (Contains all) (f ∷ []) (if_kept load) (if_kept store) (entries_of new) (sole (Contains all) f (in_cache f c)) in_load in_store cached
+
+    pub found_load : (f : Kept) → Contains (entries_of cache) f → AreAmong (if_kept fetch ++ f ∷ [] ++ if_kept store ++ entries_of new) all
+    found_load f c = each_part (Contains all) (if_kept fetch) (f ∷ []) (if_kept store) (entries_of new) in_fetch (sole (Contains all) f (in_cache f c)) in_store cached
+
+    pub found_store : (f : Kept) → Contains (entries_of cache) f → AreAmong (if_kept fetch ++ if_kept load ++ f ∷ [] ++ entries_of new) all
+    found_store f c = each_part (Contains all) (if_kept fetch) (if_kept load) (f ∷ []) (entries_of new) in_fetch in_load (sole (Contains all) f (in_cache f c)) cached
 
   pub one_more : (new : Option (LruCache Key Walk)) (last : Kept) → ((k : Kept) → Contains (entries_of new) k → Contains (entries_of cache) k ⊎ (k ≡ last))
-      → (k : Kept) → Contains (if_kept fetch ++ if_kept load ++ entries_of new) k → Contains all k ⊎ (k ≡ last)
+      → (k : Kept) → Contains (if_kept fetch ++ if_kept load ++ if_kept store ++ entries_of new) k → Contains all k ⊎ (k ≡ last)
   one_more new last h =
-      each_part (λ k. Contains all k ⊎ (k ≡ last)) (if_kept fetch) (if_kept load) (entries_of new) (λ k m. inl (in_fetch k m)) (λ k m. inl (in_load k m))
+      each_part (λ k. Contains all k ⊎ (k ≡ last)) (if_kept fetch) (if_kept load) (if_kept store) (entries_of new) (λ k m. inl (in_fetch k m)) (λ k m. inl (in_load k m)) (λ k m. inl (in_store k m))
       (λ k m. elim (h k m) [ inl was ↦ inl (in_cache k was) | inr p ↦ inr p ])
 
-  pub none_reads_page : (page : ℕ) → NoneReadsPage page (if_kept fetch) → NoneReadsPage page (if_kept load) → NoneReadsPage page (entries_of cache) → NoneReadsPage page all
-  none_reads_page page f l c =
-      subst (NoneReadsPage page) view (each_part (λ k. (place : ℕ) → Contains (places_of k.1.trail) place → place / 4096 ≢ page) (if_kept fetch) (if_kept load) (entries_of cache) f l c)
+  pub none_reads_page : (page : ℕ) → NoneReadsPage page (if_kept fetch) → NoneReadsPage page (if_kept load) → NoneReadsPage page (if_kept store) → NoneReadsPage page (entries_of cache) → NoneReadsPage page all
+  none_reads_page page f l s c =
+      subst (NoneReadsPage page) view (each_part (λ k. (place : ℕ) → Contains (places_of k.1.trail) place → place / 4096 ≢ page) (if_kept fetch) (if_kept load) (if_kept store) (entries_of cache) f l s c)
 
 -- what is left needs no other flags
 pub marked_among : (pages : List Bool) (was all new : List Kept) → was ≡ all → AreMarked pages was → AreAmong new all → AreMarked pages new

@@ -5,7 +5,7 @@ use Rattle.sv8_model.specs.declared.touch.Touch.TheVariants.{Read}
 use Rattle.sv8_model.specs.Outside.{Outside, word_of}
 use Rattle.sv8_model.specs.Action.{Action, done, load_word, result_of, after, touches}
 use Rattle.sv8_model.specs.Does.{Does}
-use Rattle.sv8_model.proofs.Deeds.{does_if_true}
+use Rattle.sv8_model.proofs.Common.{does_if_true}
 use Rattle.sv8_mmu.specs.Kept.{reads_of}
 use Rattle.sv8_mmu.specs.Walk.{is_pointer, table_of, entry_at, looked_up, below_pointer}
 use Rattle.sv8_mmu.specs.Probe.{sought}

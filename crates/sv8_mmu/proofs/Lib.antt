@@ -4,5 +4,5 @@ pub mod Walks
 pub mod Marks
 pub mod Storing
 pub mod Translating
-pub mod FaultTypes
+pub mod Growing
 pub mod Keeping

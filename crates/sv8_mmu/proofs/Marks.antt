@@ -7,6 +7,8 @@ use Rattle.sv8_model.specs.Outside.{Outside, word_of, with_word}
 use Rattle.sv8_model.specs.Action.{Action, done, load_word, result_of, touches}
 use Rattle.sv8_mmu.specs.declared.buffer.Key.{Key}
 use Rattle.sv8_mmu.specs.declared.walk.Trail.{Trail}
+use Rattle.sv8_mmu.specs.declared.fault_type.FaultType.{FaultType}
+use Rattle.sv8_mmu.specs.declared.fault_type.FaultType.TheVariants as of
 use Rattle.sv8_mmu.specs.declared.walk.Walked.{Walked}
 use Rattle.sv8_mmu.specs.declared.walk.Walked.TheVariants.{Page, Fault}
 use Rattle.sv8_mmu.specs.Walk.{met, looked_up, below_pointer, indices_of, walk}
@@ -23,7 +25,7 @@ pub record Differs (ram now : List ℕ) (k e v : ℕ) : Type 0 where
 abbrev pub Marks : Action Walked → Outside → Outside → ℕ → ℕ → ℕ → ℕ → Type 0
 Marks a o o' e v l at = result_of a o ≡ Page e l at → (word_of o.ram (at / 4) ≡ e) × (e % 4 ≡ 2) × (result_of a o' ≡ Page v l at) × (touches a o' ≡ touches a o)
 
-fault_page : (kind level e l at : ℕ) → Fault kind level ≡ Page e l at → ⊥
+fault_page : (kind : FaultType) (level e l at : ℕ) → Fault kind level ≡ Page e l at → ⊥
 fault_page kind level e l at q = cc
 
 four : (x : ℕ) → x < 4 → (x ≡ 0) ⊎ ((x ≡ 1) ⊎ ((x ≡ 2) ⊎ (x ≡ 3)))
@@ -36,10 +38,10 @@ marks_if : (b : Bool) (x y : Action Walked) (o o' : Outside) (e v l at : ℕ) �
 marks_if true x y o o' e v l at p q = p
 marks_if false x y o o' e v l at p q = q
 
-marks_fault : (kind level : ℕ) (o o' : Outside) (e v l at : ℕ) → Marks (done (Fault kind level)) o o' e v l at
+marks_fault : (kind : FaultType) (level : ℕ) (o o' : Outside) (e v l at : ℕ) → Marks (done (Fault kind level)) o o' e v l at
 marks_fault kind level o o' e v l at h = absurd (fault_page kind level e l at h)
 
-met_invalid : (level at : ℕ) (g : ℕ → Action Walked) (w : ℕ) → w % 4 ≡ 0 → met level at g w ≡ done (Fault 1 level)
+met_invalid : (level at : ℕ) (g : ℕ → Action Walked) (w : ℕ) → w % 4 ≡ 0 → met level at g w ≡ done (Fault of.InvalidAddress level)
 met_invalid level at g w h = rw h refl
 
 met_pointer : (level at : ℕ) (g : ℕ → Action Walked) (w : ℕ) → w % 4 ≡ 1 → met level at g w ≡ g w
@@ -48,7 +50,7 @@ met_pointer level at g w h = rw h refl
 met_page : (level at : ℕ) (g : ℕ → Action Walked) (w : ℕ) → w % 4 ≡ 2 → met level at g w ≡ done (Page w level at)
 met_page level at g w h = rw h refl
 
-met_reserved : (level at : ℕ) (g : ℕ → Action Walked) (w : ℕ) → w % 4 ≡ 3 → met level at g w ≡ done (Fault 4 level)
+met_reserved : (level at : ℕ) (g : ℕ → Action Walked) (w : ℕ) → w % 4 ≡ 3 → met level at g w ≡ done (Fault of.Translation level)
 met_reserved level at g w h = rw h refl
 
 page_parts : (w m j e l k : ℕ) → Page w m j ≡ Page e l k → (w ≡ e) × (m ≡ l) × (j ≡ k)
@@ -61,7 +63,7 @@ marks_load level here g o o' e v l at d deeper h =
     let w = word_of o.ram (here / 4) in
     let read = Read (4 * (here / 4)) in
     elim (four (w % 4) (omega arith)) [
-      | inl p ↦ absurd (fault_page 1 level e l at (ap (λ a. result_of a o) (sym (met_invalid level here g w p)) ∙ h))
+      | inl p ↦ absurd (fault_page of.InvalidAddress level e l at (ap (λ a. result_of a o) (sym (met_invalid level here g w p)) ∙ h))
       | inr r ↦ elim r [
         | inl p ↦
             let s = deeper w (ap (λ a. result_of a o) (sym (met_pointer level here g w p)) ∙ h) in
@@ -83,7 +85,7 @@ marks_load level here g o o' e v l at d deeper h =
                 ap (λ x. result_of (met level here g x) o') now ∙ ap (λ a. result_of a o') (met_page level here g v kind) ∙ ap (λ x. Page v x here) s.1 ∙ ap (λ x. Page v l x) s.2,
                 ap (λ x. read ∷ touches (met level here g x) o') now ∙ ap (λ a. read ∷ touches a o') (met_page level here g v kind) ∙ ap (λ a. read ∷ touches a o) (sym (met_page level here g w p)),
               )
-          | inr p ↦ absurd (fault_page 4 level e l at (ap (λ a. result_of a o) (sym (met_reserved level here g w p)) ∙ h))
+          | inr p ↦ absurd (fault_page of.Translation level e l at (ap (λ a. result_of a o) (sym (met_reserved level here g w p)) ∙ h))
         ]
       ]
     ]
@@ -91,11 +93,11 @@ marks_load level here g o o' e v l at d deeper h =
 module _ (limit : ℕ) (o o' : Outside) (e v l at : ℕ) (d : Differs o.ram o'.ram (at / 4) e v) where
   marks_looked_up : (level here : ℕ) (g : ℕ → Action Walked) → ((w : ℕ) → Marks (g w) o o' e v l at) → Marks (looked_up limit level here g) o o' e v l at
   marks_looked_up level here g deeper =
-      marks_if (ltb here limit) (load_word (here / 4) (met level here g)) (done (Fault 4 level)) o o' e v l at (marks_load level here g o o' e v l at d deeper) (marks_fault 4 level o o' e v l at)
+      marks_if (ltb here limit) (load_word (here / 4) (met level here g)) (done (Fault of.Translation level)) o o' e v l at (marks_load level here g o o' e v l at d deeper) (marks_fault of.Translation level o o' e v l at)
 
   marks_below : (level : ℕ) (below : List ℕ) (w : ℕ) → Marks (below_pointer limit level below w) o o' e v l at
   unfolding below_pointer
-  marks_below level [] w = marks_fault 4 level o o' e v l at
+  marks_below level [] w = marks_fault of.Translation level o o' e v l at
   marks_below level (index ∷ below) w = marks_looked_up (level + 1) _ _ (marks_below (level + 1) below)
 
   pub walk_marks : (table_pointer context va : ℕ) → Marks (walk limit table_pointer context va) o o' e v l at

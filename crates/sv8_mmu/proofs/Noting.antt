@@ -5,7 +5,7 @@ use Rattle.sv8_model.specs.declared.touch.Touch.TheVariants.{Read}
 use Rattle.sv8_model.specs.Outside.{Outside}
 use Rattle.sv8_model.specs.Action.{Action}
 use Rattle.sv8_model.specs.Does.{Does, kept}
-use Rattle.sv8_model.proofs.Deeds.{kept_append}
+use Rattle.sv8_model.proofs.Common.{kept_append}
 use Rattle.sv8_mmu.specs.Kept.{reads_of}
 
 pub note_next : (keeps : Bool) (ts now all : List Touch) (rest after : List ℕ) (at m n : ℕ) → (rest ≡ at ∷ after) × (m + 1 ≡ n) → now ≡ ts ++ kept keeps (Read at ∷ [])

@@ -1,13 +1,14 @@
 -- A translation: the walk, and what its end leads to.
-use Rattle.std.proofs.Common.{◌≡◌, ◌≢◌, ℕ, ◌*◌, ◌/◌, ◌%◌, ◌^◌, Bool, true, false, ◌==◌, List, ◌++◌, refl, ◌∙◌, ap, subst, arith}
+use Rattle.std.proofs.Common.{◌≡◌, ◌≢◌, ℕ, ◌*◌, ◌/◌, ◌%◌, ◌^◌, Bool, true, false, ◌==◌, List, [], ◌++◌, None, refl, sym, ◌∙◌, ap, subst, arith}
 use Rattle.std.proofs.lemmas.Bool.Decides.{nat_tests}
 use Rattle.sv8_model.specs.declared.touch.Touch.{Touch}
 use Rattle.sv8_model.specs.Words.{field}
 use Rattle.sv8_model.specs.Outside.{Outside}
 use Rattle.sv8_model.specs.Action.{done, store_word, ◌>>=◌}
 use Rattle.sv8_model.specs.Does.{Does, kept}
-use Rattle.sv8_model.proofs.Deeds.{does_then, does_if_true, does_if_false}
-use Rattle.sv8_mmu.specs.declared.registers.MmuRegisters.{MmuRegisters}
+use Rattle.sv8_model.proofs.Common.{does_done, does_then, does_if_true, does_if_false}
+use Rattle.sv8_mmu.specs.declared.access_type.AccessType.{AccessType}
+use Rattle.sv8_mmu.specs.declared.registers.Mmu.{Mmu}
 use Rattle.sv8_mmu.specs.declared.walk.Walk.{Walk}
 use Rattle.sv8_mmu.specs.declared.walk.Walked.{Walked}
 use Rattle.sv8_mmu.specs.declared.walk.Walked.TheVariants.{Page}
@@ -18,7 +19,7 @@ use Rattle.sv8_mmu.specs.Registers.{translates}
 use Rattle.sv8_mmu.specs.Walk.{indices_of, walk}
 use Rattle.sv8_mmu.specs.Kept.{places_of, reads_of, IsWalk}
 use Rattle.sv8_mmu.proofs.Noting.{noted_behind}
-use Rattle.sv8_mmu.specs.Translation.{fault_type, marked, physical_address, is_served, with_marks, reached, settled, translate}
+use Rattle.sv8_mmu.specs.Translation.{fault_type, marked, physical_address, is_served, with_marks, reached, unless_refused, settled, translate}
 
 -- ---- the page of an address
 
@@ -44,13 +45,13 @@ walk_noted keeps limit ram table_pointer context va w o ts ts1 s e = noted_behin
 -- ---- what the end of a walk leads to
 
 -- the entry gets marks
-pub marks_stored : (keeps : Bool) (limit va access_type : ℕ) (reach : Reach) (w : Walked) (e level at now pa : ℕ) (o o1 : Outside) (ts ts1 : List Touch) (y : Translated) → w ≡ Page e level at
-    → fault_type access_type e ≡ 0 → pa ≡ physical_address e level va → is_served limit reach pa ≡ true → now ≡ marked access_type e → now ≢ e → y ≡ At pa
+pub marks_stored : (keeps : Bool) (limit va : ℕ) (access_type : AccessType) (reach : Reach) (w : Walked) (e level at now pa : ℕ) (o o1 : Outside) (ts ts1 : List Touch) (y : Translated) → w ≡ Page e level at
+    → fault_type access_type e ≡ None → pa ≡ physical_address e level va → is_served limit reach pa ≡ true → now ≡ marked access_type e → now ≢ e → y ≡ At pa
     → ((z : Translated) → Does keeps (store_word (at / 4) now (done z)) o o1 z ts ts1) → Does keeps (settled limit va access_type reach w) o o1 y ts ts1
 unfolding settled
 marks_stored keeps limit va access_type reach w e level at now pa o o1 ts ts1 y is allowed place served marks changed answer d =
     rw is
-    (does_if_true keeps (fault_type access_type e == 0) (reached limit access_type reach (physical_address e level va) e at) _ o o1 y ts ts1 (rw allowed refl)
+    (subst (λ c. Does keeps (unless_refused c level (reached limit access_type reach (physical_address e level va) e at)) o o1 y ts ts1) (sym allowed)
     (does_if_true keeps (is_served limit reach (physical_address e level va)) (with_marks access_type e at (At (physical_address e level va))) _ o o1 y ts ts1 (subst (λ p. is_served limit reach p ≡ true) place served)
     (does_if_false keeps (marked access_type e == e) _ (store_word (at / 4) (marked access_type e) (done (At (physical_address e level va)))) o o1 y ts ts1
     (apart (marked access_type e) e (subst (λ m. m ≢ e) marks changed)) (rw (answer ∙ ap At place) (subst (λ m. Does keeps (store_word (at / 4) m (done (At (physical_address e level va)))) o o1 (At (physical_address e level va)) ts ts1) marks (d (At (physical_address e level va))))))))
@@ -59,7 +60,7 @@ marks_stored keeps limit va access_type reach w e level at now pa o o1 ts ts1 y 
     apart x y h = grind (arith, nat_tests)
 
 -- a walk for the page of an address, and what its end leads to
-pub walked_and_settled : (keeps : Bool) (limit : ℕ) (ram : List ℕ) (r : MmuRegisters) (va access_type : ℕ) (reach : Reach) (o o1 : Outside) (w : Walk) (y : Translated) (ts ts1 ts2 : List Touch)
+pub walked_and_settled : (keeps : Bool) (limit : ℕ) (ram : List ℕ) (r : Mmu) (va : ℕ) (access_type : AccessType) (reach : Reach) (o o1 : Outside) (w : Walk) (y : Translated) (ts ts1 ts2 : List Touch)
     → translates r ≡ true → IsWalk limit ram r.table_pointer r.context (va / 4096 * 4096) w → ts1 ≡ ts ++ kept keeps (reads_of (places_of w.trail))
     → Does keeps (settled limit va access_type reach w.end) (record o { ram = ram }) o1 y ts1 ts2 → Does keeps (translate limit r va access_type reach) (record o { ram = ram }) o1 y ts ts2
 unfolding translate
@@ -68,3 +69,12 @@ walked_and_settled keeps limit ram r va access_type reach o o1 w y ts ts1 ts2 on
     (does_then keeps (walk limit r.table_pointer r.context va) (settled limit va access_type reach) _ _ o1 w.end y ts ts1 ts2
     (subst (λ a. Does keeps a (record o { ram = ram }) (record o { ram = ram }) w.end ts ts1) (walk_of_page limit r.table_pointer r.context va)
     (walk_noted keeps limit ram r.table_pointer r.context (va / 4096 * 4096) w o ts ts1 s e)) d)
+
+-- a walk for the page of an address, whose end leads to an address at once
+pub walked_plainly : (limit : ℕ) (ram : List ℕ) (r : Mmu) (va : ℕ) (access_type : AccessType) (reach : Reach) (w : Walk) (pa : ℕ) → translates r ≡ true
+    → IsWalk limit ram r.table_pointer r.context (va / 4096 * 4096) w → settled limit va access_type reach w.end ≡ done (At pa)
+    → (o : Outside) → Does true (translate limit r va access_type reach) (record o { ram = ram }) (record o { ram = ram }) (At pa) [] (reads_of (places_of w.trail))
+walked_plainly limit ram r va access_type reach w pa on s e o =
+    walked_and_settled true limit ram r va access_type reach o (record o { ram = ram }) w (At pa) [] (reads_of (places_of w.trail)) (reads_of (places_of w.trail)) on s refl
+    (subst (λ a. Does true a (record o { ram = ram }) (record o { ram = ram }) (At pa) (reads_of (places_of w.trail)) (reads_of (places_of w.trail))) (sym e)
+    (does_done true (At pa) (At pa) _ _ refl))

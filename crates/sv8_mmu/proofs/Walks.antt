@@ -5,7 +5,8 @@ use Rattle.lru.proofs.Splits.{Contains-head, Contains-tail, Contains-cons, Conta
 use Rattle.sv8_model.specs.declared.touch.Touch.TheVariants.{Read}
 use Rattle.sv8_model.specs.Outside.{Outside, word_of, with_word}
 use Rattle.sv8_model.specs.Action.{Action, done, load_word, store_word, load_byte, store_byte, take_input, count_waiting, emit, ask_levels, clear_levels, expire, result_of, after, touches}
-use Rattle.sv8_model.proofs.Lists.{length-with_word, word_other}
+use Rattle.sv8_model.proofs.Common.{length-with_word, word_other}
+use Rattle.sv8_mmu.specs.declared.fault_type.FaultType.TheVariants as of
 use Rattle.sv8_mmu.specs.declared.walk.Walk.{Walk}
 use Rattle.sv8_mmu.specs.declared.walk.Walked.{Walked}
 use Rattle.sv8_mmu.specs.declared.walk.Walked.TheVariants.{Fault}
@@ -65,10 +66,10 @@ loads_if false x y p q = q
 
 met_loads : (level at : ℕ) (deeper : ℕ → Action Walked) → ((e : ℕ) → OnlyLoads (deeper e)) → (e : ℕ) → OnlyLoads (met level at deeper e)
 met_loads level at deeper h e =
-    loads_if (is_pointer e) _ _ (h e) (loads_if (is_page_entry e) _ _ tt (loads_if (is_invalid e) (done (Fault 1 level)) (done (Fault 4 level)) tt tt))
+    loads_if (is_pointer e) _ _ (h e) (loads_if (is_page_entry e) _ _ tt (loads_if (is_invalid e) (done (Fault of.InvalidAddress level)) (done (Fault of.Translation level)) tt tt))
 
 looked_up_loads : (limit level at : ℕ) (deeper : ℕ → Action Walked) → ((e : ℕ) → OnlyLoads (deeper e)) → OnlyLoads (looked_up limit level at deeper)
-looked_up_loads limit level at deeper h = loads_if (ltb at limit) (load_word (at / 4) (met level at deeper)) (done (Fault 4 level)) (met_loads level at deeper h) tt
+looked_up_loads limit level at deeper h = loads_if (ltb at limit) (load_word (at / 4) (met level at deeper)) (done (Fault of.Translation level)) (met_loads level at deeper h) tt
 
 below_loads : (limit level : ℕ) (below : List ℕ) (e : ℕ) → OnlyLoads (below_pointer limit level below e)
 unfolding below_pointer

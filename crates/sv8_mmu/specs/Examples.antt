@@ -3,7 +3,9 @@ use Rattle.std.specs.Prelude.{ℕ, ◌/◌, ◌%◌, ◌^◌, false, List, [], �
 use Rattle.sv8_model.specs.declared.touch.Touch.{Touch}
 use Rattle.sv8_model.specs.Outside.{Outside, word_of}
 use Rattle.sv8_model.specs.Action.{Action, result_of, after, touches}
-use Rattle.sv8_mmu.specs.declared.registers.MmuRegisters.{MmuRegisters}
+use Rattle.sv8_mmu.specs.declared.access_type.AccessType.TheVariants.{SupervisorFetch}
+use Rattle.sv8_mmu.specs.declared.fault_type.FaultType.{FaultType}
+use Rattle.sv8_mmu.specs.declared.registers.Mmu.{Mmu}
 use Rattle.sv8_mmu.specs.declared.registers.Fault.{Fault}
 
 -- the bytes of words, the most significant first
@@ -36,7 +38,7 @@ abbrev pub tables : Outside
 tables = record { ram = bytes_of (contexts ++ regions ++ segments ++ pages); waiting = []; output = []; pending = replicate 16 false }
 
 -- translation is on, with the context table at 0
-abbrev pub in_context : ℕ → MmuRegisters
+abbrev pub in_context : ℕ → Mmu
 in_context context = record { control = 1; table_pointer = 0; context = context; fault_status = 0; fault_address = 0 }
 
 -- what an action leads to, what it touches, and the word of a number that it leaves
@@ -50,5 +52,5 @@ abbrev pub leaves : {R : Type 0} → Action R → ℕ → ℕ
 leaves a k = word_of (after a tables).ram k
 
 -- a fault of a type at a level, of an access of type 3, a supervisor's fetch, to address 0x10
-abbrev pub fetch_fault : ℕ → ℕ → Fault
-fetch_fault fault_type level = record { level = level; access_type = 3; fault_type = fault_type; address = 0x10 }
+abbrev pub fetch_fault : FaultType → ℕ → Fault
+fetch_fault fault_type level = record { level = level; access_type = SupervisorFetch; fault_type = fault_type; address = 0x10 }

@@ -1,5 +1,5 @@
 -- What a lookaside buffer keeps: walks, each with the context and the page that it is for. None of this shows in the definitions of an access.
-use Rattle.std.specs.Prelude.{◌≡◌, ◌≢◌, ◌<◌, ◌≤◌, ℕ, ◌+◌, ◌*◌, ◌/◌, ◌%◌, ◌^◌, Bool, true, false, List, [], ◌∷◌, map, take, length, slice_index_or, Contains, Option, Some, None}
+use Rattle.std.specs.Prelude.{◌≡◌, ◌≢◌, ◌<◌, ◌≤◌, ℕ, ◌+◌, ◌*◌, ◌/◌, ◌%◌, ◌^◌, Bool, true, false, List, [], ◌∷◌, map, take, length, slice_index_or, Contains, Option, Some, None, Result, Ok, Err}
 use Rattle.lru.specs.LruCache.{LruCache}
 use Rattle.sv8_model.specs.declared.touch.Touch.{Touch}
 use Rattle.sv8_model.specs.declared.touch.Touch.TheVariants.{Read}
@@ -10,7 +10,9 @@ use Rattle.sv8_mmu.specs.declared.walk.Walked.{Walked}
 use Rattle.sv8_mmu.specs.declared.walk.Walked.TheVariants.{Page, Fault}
 use Rattle.sv8_mmu.specs.declared.walk.Trail.{Trail}
 use Rattle.sv8_mmu.specs.declared.walk.Walk.{Walk}
+use Rattle.sv8_mmu.specs.declared.access_type.AccessType.{AccessType}
 use Rattle.sv8_mmu.specs.declared.buffer.Key.{Key}
+use Rattle.sv8_mmu.specs.declared.registers.Fault as registers
 use Rattle.sv8_mmu.specs.declared.translation.Translated.{Translated}
 use Rattle.sv8_mmu.specs.declared.translation.Translated.TheVariants.{At, Refused}
 
@@ -27,12 +29,17 @@ reads_of places = map (λ at. Read at) places
 -- what a walk in RAM of a size can end with
 abbrev pub IsEnd : ℕ → Walked → Type 0
 IsEnd limit (Page e level at) = (at + 4 ≤ limit) × (at / 4 * 4 ≡ at) × (level < 4)
-IsEnd limit (Fault kind level) = (kind < 8) × (level < 4)
+IsEnd limit (Fault kind level) = level < 4
 
 -- what a translation can lead to: an address of 36 bits that keeps its place in its page of 4,096 bytes, or a fault
 abbrev pub IsTranslation : ℕ → Translated → Type 0
 IsTranslation va (At pa) = (pa % 4096 ≡ va % 4096) × (pa < 2 ^ 36)
-IsTranslation va (Refused kind level) = (kind ≤ 7) × (level ≤ 3)
+IsTranslation va (Refused kind level) = level ≤ 3
+
+-- the same with the whole fault, which the registers can record
+abbrev pub IsAnswer : ℕ → AccessType → Result ℕ registers.Fault → Type 0
+IsAnswer va access_type (Ok pa) = (pa % 4096 ≡ va % 4096) × (pa < 2 ^ 36)
+IsAnswer va access_type (Err f) = (f.level ≤ 3) × (f.access_type ≡ access_type) × (f.address ≡ va)
 
 -- w is the walk for a context and an address in that RAM, with the entries that it reads
 pub record IsWalk (limit : ℕ) (ram : List ℕ) (table_pointer context va : ℕ) (w : Walk) : Type 0 where

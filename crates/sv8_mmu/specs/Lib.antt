@@ -1,6 +1,9 @@
+pub mod AccessTypes
+pub mod FaultTypes
 pub mod Registers
 pub mod Walk
 pub mod Translation
+pub mod Answers
 pub mod Probe
 pub mod Kept
 pub mod Examples

@@ -3,6 +3,7 @@
 use Rattle.std.specs.Prelude.{ℕ, ◌+◌, ◌*◌, ◌/◌, ◌%◌, ◌^◌, ◌==◌, Bool, nat_lt, List, [], ◌∷◌, if◌then◌else◌}
 use Rattle.sv8_model.specs.Words.{field}
 use Rattle.sv8_model.specs.Action.{Action, done, load_word}
+use Rattle.sv8_mmu.specs.declared.fault_type.FaultType.TheVariants as of
 use Rattle.sv8_mmu.specs.declared.walk.Walked.{Walked}
 use Rattle.sv8_mmu.specs.declared.walk.Walked.TheVariants.{Page, Fault}
 
@@ -40,15 +41,15 @@ abbrev pub met : ℕ → ℕ → (ℕ → Action Walked) → ℕ → Action Walk
 met level at deeper e =
     if is_pointer e then deeper e else
     (if is_page_entry e then done (Page e level at) else
-    (if is_invalid e then done (Fault 1 level) else done (Fault 4 level)))
+    (if is_invalid e then done (Fault of.InvalidAddress level) else done (Fault of.Translation level)))
 
 -- the entry of a level at an address, and what it leads to
 abbrev pub looked_up : ℕ → ℕ → ℕ → (ℕ → Action Walked) → Action Walked
-looked_up limit level at deeper = entry_at limit at (Fault 4 level) (met level at deeper)
+looked_up limit level at deeper = entry_at limit at (Fault of.Translation level) (met level at deeper)
 
 -- what a pointer at a level leads to, with the indices into the tables below: the entry of the next level; at level 3 a fault of type 4
 unfoldable pub below_pointer : ℕ → ℕ → List ℕ → ℕ → Action Walked
-below_pointer limit level [] e = done (Fault 4 level)
+below_pointer limit level [] e = done (Fault of.Translation level)
 below_pointer limit level (index ∷ below) e = looked_up limit (level + 1) (table_of e + 4 * index) (λ next. below_pointer limit (level + 1) below next)
 
 -- the walk for a virtual address, from level 0, the context table, on

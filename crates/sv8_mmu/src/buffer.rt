@@ -5,7 +5,7 @@ ghost use Rattle.lru.specs.LruCache.{LruCache};
 ghost use Rattle.sv8_mmu.specs.Registers.{control_address, table_pointer_address, is_register, after_write};
 ghost use Rattle.sv8_mmu.specs.Kept.{Kept, if_kept, entries_of, places_of, is_marked, AllStand, AreAmong, NoneReads, NoneReadsPage, DiffersInPage};
 
-use crate::registers::{CONTROL, MmuRegisters, TABLE_POINTER};
+use crate::registers::{CONTROL, Mmu, TABLE_POINTER};
 use crate::walk::{Trail, Walk};
 use lru::LruCache;
 use std::alloc::Global;
@@ -19,11 +19,12 @@ pub struct Key {
     pub page: u32,
 }
 
-/// What a walk is for: fetches and accesses to data have a memo each.
+/// What a walk is for: fetches, loads and stores have a memo each, so that a copy from one page to another keeps both.
 #[derive(Clone, Copy)]
 pub enum Purpose {
     Fetch,
-    Data,
+    Load,
+    Store,
 }
 
 /// Walks that are kept: the last of each purpose, and the 64 that were used last.
@@ -33,7 +34,8 @@ pub enum Purpose {
 pub struct Buffer {
     alloc: Global,
     fetch_memo: Option<(Key, Walk)>,
-    data_memo: Option<(Key, Walk)>,
+    load_memo: Option<(Key, Walk)>,
+    store_memo: Option<(Key, Walk)>,
     cache: Option<LruCache<Key, Walk>>,
     /// A flag for each number of a page of RAM modulo 256: unset, no walk that is kept has read a word of such a page.
     pages: [bool; 256],
@@ -45,9 +47,9 @@ impl Model for Buffer {
 
     ghost Value = { List Kept };
 
-    ghost view = { λ b. if_kept b.fetch_memo ++ if_kept b.data_memo ++ entries_of b.cache };
+    ghost view = { λ b. if_kept b.fetch_memo ++ if_kept b.load_memo ++ if_kept b.store_memo ++ entries_of b.cache };
 
-    ghost invariant = { λ b. AreMarked b.pages (if_kept b.fetch_memo ++ if_kept b.data_memo ++ entries_of b.cache) };
+    ghost invariant = { λ b. AreMarked b.pages (if_kept b.fetch_memo ++ if_kept b.load_memo ++ if_kept b.store_memo ++ entries_of b.cache) };
 }
 
 impl Trail {
@@ -84,11 +86,11 @@ fn mark(pages: &mut [bool; 256], trail: &Trail)
 
 /// The walk of a memo, where it is for a key.
 #[inline(always)]
-fn recall_last(memo: &Option<(Key, Walk)>, key: Key) -> Option<Walk>
-    ensures { IfSome result (λ w. Contains (if_kept memo.now) (key, w)) }
+fn recall_last(memo: &Option<(Key, Walk)>, key: Key) -> Option<&Walk>
+    ensures { IfSome result (λ w. Contains (if_kept memo.now) (key, w.now)) }
 {
     match memo {
-        Some((last, walk)) if *last == key => Some(*walk),
+        Some((last, walk)) if *last == key => Some(walk),
         _ => None,
     }
 }
@@ -211,39 +213,59 @@ impl Buffer {
         Buffer {
             alloc,
             fetch_memo: None,
-            data_memo: None,
+            load_memo: None,
+            store_memo: None,
             cache: None,
             pages: [false; 256],
         }
+    }
+
+    /// Whether no walk was kept since it was empty.
+    fn is_unused(&self) -> bool
+        ensures { result ≡ true → self.now ≡ [] }
+    {
+        self.cache.is_none()
+            && self.fetch_memo.is_none()
+            && self.load_memo.is_none()
+            && self.store_memo.is_none()
     }
 
     /// Forgets all walks.
     pub fn clear(&mut self)
         ensures { self.new ≡ [] }
     {
+        if self.is_unused() {
+            return;
+        }
         self.fetch_memo = None;
-        self.data_memo = None;
+        self.load_memo = None;
+        self.store_memo = None;
         if let Some(walks) = &mut self.cache {
             walks.clear();
         }
         self.pages = [false; 256];
     }
 
+    /// The walk that was used last for a purpose, where it is for a context and a page.
+    #[inline(always)]
+    pub(crate) fn last(&self, purpose: Purpose, key: Key) -> Option<&Walk>
+        ensures { IfSome result (λ w. Contains self.now (key, w.now)) }
+    {
+        match purpose {
+            Purpose::Fetch => recall_last(&self.fetch_memo, key),
+            Purpose::Load => recall_last(&self.load_memo, key),
+            Purpose::Store => recall_last(&self.store_memo, key),
+        }
+    }
+
     /// The walk that is kept for a context and a page.
-    #[inline]
     pub(crate) fn find(&mut self, purpose: Purpose, key: Key) -> Option<Walk>
         ensures found { IfSome result (λ w. Contains self.old (key, w)) }
         ensures among { AreAmong self.new self.old }
     {
-        match purpose {
-            Purpose::Fetch => match recall_last(&self.fetch_memo, key) {
-                None => self.find_in_cache(purpose, key),
-                found => found,
-            },
-            Purpose::Data => match recall_last(&self.data_memo, key) {
-                None => self.find_in_cache(purpose, key),
-                found => found,
-            },
+        match self.last(purpose, key) {
+            Some(walk) => Some(*walk),
+            None => self.find_in_cache(purpose, key),
         }
     }
 
@@ -256,7 +278,8 @@ impl Buffer {
         let walk = recall(&mut self.cache, key)?;
         match purpose {
             Purpose::Fetch => self.fetch_memo = Some((key, walk)),
-            Purpose::Data => self.data_memo = Some((key, walk)),
+            Purpose::Load => self.load_memo = Some((key, walk)),
+            Purpose::Store => self.store_memo = Some((key, walk)),
         }
         Some(walk)
     }
@@ -275,7 +298,8 @@ impl Buffer {
         ensures none { NoneReads at self.new }
     {
         self.fetch_memo = None;
-        self.data_memo = None;
+        self.load_memo = None;
+        self.store_memo = None;
         drop_readers(&mut self.cache, at);
     }
 
@@ -284,7 +308,8 @@ impl Buffer {
         ensures { result ≡ false → NoneReadsPage page self.now }
     {
         is_reader(&self.fetch_memo, page)
-            || is_reader(&self.data_memo, page)
+            || is_reader(&self.load_memo, page)
+            || is_reader(&self.store_memo, page)
             || has_reader(&self.cache, page)
     }
 
@@ -314,19 +339,21 @@ impl Buffer {
     }
 }
 
-/// Writes the register at an address of the registers' space, and tells whether there is one. A write to the fault status or
-/// the fault address is ignored; one to the control or the table pointer empties the buffer.
-pub fn write_register(registers: &mut MmuRegisters, buffer: &mut Buffer, at: u32, word: u32) -> bool
-    ensures there { result ≡ is_register at }
-    ensures registers { registers.new ≡ after_write registers.old at word }
-    ensures refused { result ≡ false → registers.new ≡ registers.old }
-    ensures emptied { (at ≡ control_address) ⊎ (at ≡ table_pointer_address) → buffer.new ≡ [] }
-    ensures among { AreAmong buffer.new buffer.old }
-    ensures stand { (limit : ℕ) (ram : List ℕ) → AllStand limit ram registers.old.table_pointer buffer.old → AllStand limit ram registers.new.table_pointer buffer.new }
-{
-    if at == CONTROL || at == TABLE_POINTER {
-        buffer.clear();
-        return registers.write(at, word);
+impl Mmu {
+    /// Writes the register at an address of the registers' space, and tells whether there is one. A write to the fault status or
+    /// the fault address is ignored; one to the control or the table pointer empties the buffer.
+    pub fn write_register(&mut self, buffer: &mut Buffer, at: u32, word: u32) -> bool
+        ensures there { result ≡ is_register at }
+        ensures registers { self.new ≡ after_write self.old at word }
+        ensures refused { result ≡ false → self.new ≡ self.old }
+        ensures emptied { (at ≡ control_address) ⊎ (at ≡ table_pointer_address) → buffer.new ≡ [] }
+        ensures among { AreAmong buffer.new buffer.old }
+        ensures stand { (limit : ℕ) (ram : List ℕ) → AllStand limit ram self.old.table_pointer buffer.old → AllStand limit ram self.new.table_pointer buffer.new }
+    {
+        if at == CONTROL || at == TABLE_POINTER {
+            buffer.clear();
+            return self.write(at, word);
+        }
+        self.write(at, word)
     }
-    registers.write(at, word)
 }

@@ -8,6 +8,8 @@ ghost use Rattle.sv8_mmu.specs.Probe.{probe};
 ghost use Rattle.sv8_mmu.specs.Registers.{registers_at_reset, register_at, after_read, after_write, status_of, recorded};
 ghost use Rattle.sv8_mmu.specs.Examples.{in_context, gives, touched, leaves, fetch_fault};
 
+use crate::access_type::AccessType;
+use crate::fault_type::FaultType;
 use crate::translation::{Reach, Translated};
 use crate::walk::Walked;
 
@@ -28,19 +30,19 @@ pub fn worked_walks()
     ensures page_3 { gives (walk 0x100 0 0 0x3456) ≡ Walked.Page 0x1257_890e 3 0xcc }
     ensures reads { touched (walk 0x100 0 0 0x3456) ≡ Read 0 ∷ Read 0x40 ∷ Read 0x80 ∷ Read 0xcc ∷ [] }
     ensures reads_one { touched (walk 0x100 0 3 0x1234_5678) ≡ Read 0xc ∷ [] }
-    ensures invalid_0 { gives (walk 0x100 0 1 0) ≡ Walked.Fault 1 0 }
-    ensures invalid_1 { gives (walk 0x100 0 0 0x0100_0000) ≡ Walked.Fault 1 1 }
-    ensures invalid_2 { gives (walk 0x100 0 0 0x4_0000) ≡ Walked.Fault 1 2 }
-    ensures invalid_3 { gives (walk 0x100 0 0 0x1000) ≡ Walked.Fault 1 3 }
-    ensures reserved_0 { gives (walk 0x100 0 2 0) ≡ Walked.Fault 4 0 }
-    ensures reserved_1 { gives (walk 0x100 0 0 0x0200_0000) ≡ Walked.Fault 4 1 }
-    ensures reserved_2 { gives (walk 0x100 0 0 0x8_0000) ≡ Walked.Fault 4 2 }
-    ensures reserved_3 { gives (walk 0x100 0 0 0x2000) ≡ Walked.Fault 4 3 }
-    ensures pointer { gives (walk 0x100 0 0 0x4000) ≡ Walked.Fault 4 3 }
-    ensures outside_0 { gives (walk 0x100 0x10 0 0) ≡ Walked.Fault 4 0 }
-    ensures outside_1 { gives (walk 0x100 0 4 0) ≡ Walked.Fault 4 1 }
-    ensures outside_2 { gives (walk 0x100 0 0 0x0400_0000) ≡ Walked.Fault 4 2 }
-    ensures outside_3 { gives (walk 0x100 0 0 0x10_0000) ≡ Walked.Fault 4 3 }
+    ensures invalid_0 { gives (walk 0x100 0 1 0) ≡ Walked.Fault FaultType.InvalidAddress 0 }
+    ensures invalid_1 { gives (walk 0x100 0 0 0x0100_0000) ≡ Walked.Fault FaultType.InvalidAddress 1 }
+    ensures invalid_2 { gives (walk 0x100 0 0 0x4_0000) ≡ Walked.Fault FaultType.InvalidAddress 2 }
+    ensures invalid_3 { gives (walk 0x100 0 0 0x1000) ≡ Walked.Fault FaultType.InvalidAddress 3 }
+    ensures reserved_0 { gives (walk 0x100 0 2 0) ≡ Walked.Fault FaultType.Translation 0 }
+    ensures reserved_1 { gives (walk 0x100 0 0 0x0200_0000) ≡ Walked.Fault FaultType.Translation 1 }
+    ensures reserved_2 { gives (walk 0x100 0 0 0x8_0000) ≡ Walked.Fault FaultType.Translation 2 }
+    ensures reserved_3 { gives (walk 0x100 0 0 0x2000) ≡ Walked.Fault FaultType.Translation 3 }
+    ensures pointer { gives (walk 0x100 0 0 0x4000) ≡ Walked.Fault FaultType.Translation 3 }
+    ensures outside_0 { gives (walk 0x100 0x10 0 0) ≡ Walked.Fault FaultType.Translation 0 }
+    ensures outside_1 { gives (walk 0x100 0 4 0) ≡ Walked.Fault FaultType.Translation 1 }
+    ensures outside_2 { gives (walk 0x100 0 0 0x0400_0000) ≡ Walked.Fault FaultType.Translation 2 }
+    ensures outside_3 { gives (walk 0x100 0 0 0x10_0000) ≡ Walked.Fault FaultType.Translation 3 }
     ensures unread { touched (walk 0x100 0 4 0) ≡ Read 0x10 ∷ [] }
 {}
 
@@ -68,21 +70,21 @@ pub fn worked_addresses()
 /// - `unmarked`: a store that is refused leaves the entry as it was.
 /// - `invalid`: a fault of the walk is that of the access.
 pub fn worked_translations()
-    ensures off { gives (translate 0x100 registers_at_reset 0xdead_beec 4 Reach.Ram) ≡ Translated.At 0xdead_beec }
-    ensures load { gives (translate 0x100 (in_context 0) 0x10 0 Reach.Ram) ≡ Translated.At 0x10 }
-    ensures store { gives (translate 0x100 (in_context 0) 0x10 4 Reach.Ram) ≡ Translated.At 0x10 }
-    ensures sets_r { leaves (translate 0x100 (in_context 0) 0x10 0 Reach.Ram) 0x30 ≡ 0x2e }
-    ensures sets_m { leaves (translate 0x100 (in_context 0) 0x10 7 Reach.Ram) 0x30 ≡ 0x6e }
-    ensures stores_entry { touched (translate 0x100 (in_context 0) 0x10 0 Reach.Ram) ≡ Read 0 ∷ Read 0x40 ∷ Read 0x80 ∷ Read 0xc0 ∷ Write 0xc0 ∷ [] }
-    ensures has_r { touched (translate 0x100 (in_context 0) 0xd010 3 Reach.Ram) ≡ Read 0 ∷ Read 0x40 ∷ Read 0x80 ∷ Read 0xf4 ∷ [] }
-    ensures has_m { touched (translate 0x100 (in_context 0) 0xe010 5 Reach.Ram) ≡ Read 0 ∷ Read 0x40 ∷ Read 0x80 ∷ Read 0xf8 ∷ [] }
-    ensures gains_m { leaves (translate 0x100 (in_context 0) 0xd010 4 Reach.Ram) 0x3d ≡ 0x6e }
-    ensures large { gives (translate 0x100 (in_context 3) 0xfc 2 Reach.Ram) ≡ Translated.At 0xfc }
-    ensures device { gives (translate 0x100 (in_context 0) 0xc008 5 Reach.RamOrDevices) ≡ Translated.At 0x8000_0008 }
-    ensures no_device { gives (translate 0x100 (in_context 0) 0xc008 2 Reach.Ram) ≡ Translated.Refused 5 0 }
-    ensures nothing { gives (translate 0x100 (in_context 0) 0x3456 0 Reach.RamOrDevices) ≡ Translated.Refused 5 0 }
-    ensures unmarked { leaves (translate 0x100 (in_context 0) 0x3456 4 Reach.Ram) 0x33 ≡ 0x1257_890e }
-    ensures invalid { gives (translate 0x100 (in_context 0) 0x1000 4 Reach.Ram) ≡ Translated.Refused 1 3 }
+    ensures off { gives (translate 0x100 registers_at_reset 0xdead_beec AccessType.UserStore Reach.Ram) ≡ Translated.At 0xdead_beec }
+    ensures load { gives (translate 0x100 (in_context 0) 0x10 AccessType.UserLoad Reach.Ram) ≡ Translated.At 0x10 }
+    ensures store { gives (translate 0x100 (in_context 0) 0x10 AccessType.UserStore Reach.Ram) ≡ Translated.At 0x10 }
+    ensures sets_r { leaves (translate 0x100 (in_context 0) 0x10 AccessType.UserLoad Reach.Ram) 0x30 ≡ 0x2e }
+    ensures sets_m { leaves (translate 0x100 (in_context 0) 0x10 AccessType.SupervisorInstructionStore Reach.Ram) 0x30 ≡ 0x6e }
+    ensures stores_entry { touched (translate 0x100 (in_context 0) 0x10 AccessType.UserLoad Reach.Ram) ≡ Read 0 ∷ Read 0x40 ∷ Read 0x80 ∷ Read 0xc0 ∷ Write 0xc0 ∷ [] }
+    ensures has_r { touched (translate 0x100 (in_context 0) 0xd010 AccessType.SupervisorFetch Reach.Ram) ≡ Read 0 ∷ Read 0x40 ∷ Read 0x80 ∷ Read 0xf4 ∷ [] }
+    ensures has_m { touched (translate 0x100 (in_context 0) 0xe010 AccessType.SupervisorStore Reach.Ram) ≡ Read 0 ∷ Read 0x40 ∷ Read 0x80 ∷ Read 0xf8 ∷ [] }
+    ensures gains_m { leaves (translate 0x100 (in_context 0) 0xd010 AccessType.UserStore Reach.Ram) 0x3d ≡ 0x6e }
+    ensures large { gives (translate 0x100 (in_context 3) 0xfc AccessType.UserFetch Reach.Ram) ≡ Translated.At 0xfc }
+    ensures device { gives (translate 0x100 (in_context 0) 0xc008 AccessType.SupervisorStore Reach.RamOrDevices) ≡ Translated.At 0x8000_0008 }
+    ensures no_device { gives (translate 0x100 (in_context 0) 0xc008 AccessType.UserFetch Reach.Ram) ≡ Translated.Refused FaultType.AccessBus 0 }
+    ensures nothing { gives (translate 0x100 (in_context 0) 0x3456 AccessType.UserLoad Reach.RamOrDevices) ≡ Translated.Refused FaultType.AccessBus 0 }
+    ensures unmarked { leaves (translate 0x100 (in_context 0) 0x3456 AccessType.UserStore Reach.Ram) 0x33 ≡ 0x1257_890e }
+    ensures invalid { gives (translate 0x100 (in_context 0) 0x1000 AccessType.UserStore Reach.Ram) ≡ Translated.Refused FaultType.InvalidAddress 3 }
 {}
 
 /// Accesses that the field ACC of an entry allows or refuses, at pages of level 3: a fault of type 2 is of protection, one of
@@ -96,19 +98,19 @@ pub fn worked_translations()
 /// - `supervisor_reads`: ACC 6 allows a supervisor's load, and `not_users` refuses a user's.
 /// - `supervisor_all`: ACC 7 allows a store to a supervisor's instructions, and `not_users_fetch` refuses a user's fetch.
 pub fn worked_permissions()
-    ensures read_only { gives (translate 0x100 (in_context 0) 0x5000 5 Reach.Ram) ≡ Translated.Refused 2 3 }
-    ensures read_only_fetch { gives (translate 0x100 (in_context 0) 0x5000 3 Reach.Ram) ≡ Translated.Refused 2 3 }
-    ensures no_fetch { gives (translate 0x100 (in_context 0) 0x6000 2 Reach.Ram) ≡ Translated.Refused 2 3 }
-    ensures written { gives (translate 0x100 (in_context 0) 0x6000 4 Reach.Ram) ≡ Translated.At 0 }
-    ensures no_store { gives (translate 0x100 (in_context 0) 0x7000 4 Reach.Ram) ≡ Translated.Refused 2 3 }
-    ensures fetch_only { gives (translate 0x100 (in_context 0) 0x8000 1 Reach.Ram) ≡ Translated.Refused 2 3 }
-    ensures fetched { gives (translate 0x100 (in_context 0) 0x8000 2 Reach.Ram) ≡ Translated.At 0 }
-    ensures user_reads { gives (translate 0x100 (in_context 0) 0x9000 4 Reach.Ram) ≡ Translated.Refused 2 3 }
-    ensures supervisor_writes { gives (translate 0x100 (in_context 0) 0x9000 5 Reach.Ram) ≡ Translated.At 0 }
-    ensures supervisor_reads { gives (translate 0x100 (in_context 0) 0xa000 1 Reach.Ram) ≡ Translated.At 0 }
-    ensures not_users { gives (translate 0x100 (in_context 0) 0xa000 0 Reach.Ram) ≡ Translated.Refused 3 3 }
-    ensures supervisor_all { gives (translate 0x100 (in_context 0) 0xb000 7 Reach.Ram) ≡ Translated.At 0 }
-    ensures not_users_fetch { gives (translate 0x100 (in_context 0) 0xb000 2 Reach.Ram) ≡ Translated.Refused 3 3 }
+    ensures read_only { gives (translate 0x100 (in_context 0) 0x5000 AccessType.SupervisorStore Reach.Ram) ≡ Translated.Refused FaultType.Protection 3 }
+    ensures read_only_fetch { gives (translate 0x100 (in_context 0) 0x5000 AccessType.SupervisorFetch Reach.Ram) ≡ Translated.Refused FaultType.Protection 3 }
+    ensures no_fetch { gives (translate 0x100 (in_context 0) 0x6000 AccessType.UserFetch Reach.Ram) ≡ Translated.Refused FaultType.Protection 3 }
+    ensures written { gives (translate 0x100 (in_context 0) 0x6000 AccessType.UserStore Reach.Ram) ≡ Translated.At 0 }
+    ensures no_store { gives (translate 0x100 (in_context 0) 0x7000 AccessType.UserStore Reach.Ram) ≡ Translated.Refused FaultType.Protection 3 }
+    ensures fetch_only { gives (translate 0x100 (in_context 0) 0x8000 AccessType.SupervisorLoad Reach.Ram) ≡ Translated.Refused FaultType.Protection 3 }
+    ensures fetched { gives (translate 0x100 (in_context 0) 0x8000 AccessType.UserFetch Reach.Ram) ≡ Translated.At 0 }
+    ensures user_reads { gives (translate 0x100 (in_context 0) 0x9000 AccessType.UserStore Reach.Ram) ≡ Translated.Refused FaultType.Protection 3 }
+    ensures supervisor_writes { gives (translate 0x100 (in_context 0) 0x9000 AccessType.SupervisorStore Reach.Ram) ≡ Translated.At 0 }
+    ensures supervisor_reads { gives (translate 0x100 (in_context 0) 0xa000 AccessType.SupervisorLoad Reach.Ram) ≡ Translated.At 0 }
+    ensures not_users { gives (translate 0x100 (in_context 0) 0xa000 AccessType.UserLoad Reach.Ram) ≡ Translated.Refused FaultType.Privilege 3 }
+    ensures supervisor_all { gives (translate 0x100 (in_context 0) 0xb000 AccessType.SupervisorInstructionStore Reach.Ram) ≡ Translated.At 0 }
+    ensures not_users_fetch { gives (translate 0x100 (in_context 0) 0xb000 AccessType.UserFetch Reach.Ram) ≡ Translated.Refused FaultType.Privilege 3 }
 {}
 
 /// Probes of these tables (the numbers are hexadecimal).
@@ -157,13 +159,13 @@ pub fn worked_probes()
 /// - `status`, `address`: both registers are recorded.
 #[tactic(auto, unfolding(crate::specs::Registers::status_of, crate::specs::Registers::recorded, sv8_model::specs::Words::field))]
 pub fn worked_faults()
-    ensures level_3 { status_of 0 (fetch_fault 4 3) ≡ 0x372 }
-    ensures level_0 { status_of 0 (fetch_fault 4 0) ≡ 0x72 }
-    ensures no_level { status_of 0 (fetch_fault 5 0) ≡ 0x76 }
-    ensures overwritten { status_of 0x372 (fetch_fault 5 0) ≡ 0x77 }
-    ensures over_none { status_of 0x362 (fetch_fault 5 0) ≡ 0x76 }
-    ensures status { (recorded registers_at_reset (fetch_fault 4 3)).fault_status ≡ 0x372 }
-    ensures address { (recorded registers_at_reset (fetch_fault 4 3)).fault_address ≡ 0x10 }
+    ensures level_3 { status_of 0 (fetch_fault FaultType.Translation 3) ≡ 0x372 }
+    ensures level_0 { status_of 0 (fetch_fault FaultType.Translation 0) ≡ 0x72 }
+    ensures no_level { status_of 0 (fetch_fault FaultType.AccessBus 0) ≡ 0x76 }
+    ensures overwritten { status_of 0x372 (fetch_fault FaultType.AccessBus 0) ≡ 0x77 }
+    ensures over_none { status_of 0x362 (fetch_fault FaultType.AccessBus 0) ≡ 0x76 }
+    ensures status { (recorded registers_at_reset (fetch_fault FaultType.Translation 3)).fault_status ≡ 0x372 }
+    ensures address { (recorded registers_at_reset (fetch_fault FaultType.Translation 3)).fault_address ≡ 0x10 }
 {}
 
 /// Registers by their addresses (the numbers are hexadecimal).
@@ -181,9 +183,9 @@ pub fn worked_registers()
     ensures fault_status { after_write registers_at_reset 0x300 0xffff_ffff ≡ registers_at_reset }
     ensures fault_address { after_write registers_at_reset 0x400 0xffff_ffff ≡ registers_at_reset }
     ensures read_pointer { register_at (after_write registers_at_reset 0x100 0x13) 0x100 ≡ Some 0x10 }
-    ensures read_status { register_at (recorded registers_at_reset (fetch_fault 4 3)) 0x300 ≡ Some 0x372 }
-    ensures read_address { register_at (recorded registers_at_reset (fetch_fault 4 3)) 0x400 ≡ Some 0x10 }
-    ensures cleared { (after_read (recorded registers_at_reset (fetch_fault 4 3)) 0x300).fault_status ≡ 0 }
-    ensures kept { (after_read (recorded registers_at_reset (fetch_fault 4 3)) 0x300).fault_address ≡ 0x10 }
+    ensures read_status { register_at (recorded registers_at_reset (fetch_fault FaultType.Translation 3)) 0x300 ≡ Some 0x372 }
+    ensures read_address { register_at (recorded registers_at_reset (fetch_fault FaultType.Translation 3)) 0x400 ≡ Some 0x10 }
+    ensures cleared { (after_read (recorded registers_at_reset (fetch_fault FaultType.Translation 3)) 0x300).fault_status ≡ 0 }
+    ensures kept { (after_read (recorded registers_at_reset (fetch_fault FaultType.Translation 3)) 0x300).fault_address ≡ 0x10 }
     ensures none { register_at registers_at_reset 0x104 ≡ None }
 {}

@@ -1,7 +1,10 @@
 //! The reference memory management unit (The SPARC Architecture Manual, Version 8, Appendix H).
 #![tactic(auto)]
 
+mod access_type;
 mod buffer;
+mod fault_type;
+mod faulting;
 pub mod laws;
 mod probing;
 mod registers;
@@ -10,7 +13,10 @@ mod tests;
 mod translation;
 mod walk;
 
-pub use buffer::{Buffer, write_register};
-pub use probing::probe;
-pub use registers::{Fault, MmuRegisters};
-pub use translation::{Reach, Translated, VirtualAccess, translate};
+pub use access_type::AccessType;
+pub use buffer::Buffer;
+pub use fault_type::FaultType;
+pub use faulting::translate;
+pub use probing::{ProbeKind, probe, probe_by_address};
+pub use registers::{Fault, Mmu};
+pub use translation::{Reach, Translated, VirtualAccess, resolve};

@@ -6,14 +6,29 @@ ghost use Rattle.sv8_model.specs.Does.{Does};
 ghost use Rattle.sv8_phys.specs.Memory.{ram_size};
 ghost use Rattle.sv8_phys.specs.Contents.{outside_of};
 ghost use Rattle.sv8_mmu.specs.Walk.{table_of, entry_at, indices_of, root_of, walk};
-ghost use Rattle.sv8_mmu.specs.Probe.{found, sought, page_or_zero, level_probed, entirely_probed, probe_type, probe};
+ghost use Rattle.sv8_mmu.specs.Probe.{found, sought, page_or_zero, level_probed, entirely_probed, probe_type, probed_as, probe};
 ghost use Rattle.sv8_mmu.specs.Kept.{places_of, reads_of};
 
-use crate::registers::MmuRegisters;
+use crate::registers::Mmu;
 use crate::translation::note_reads;
 use crate::walk::{Trail, Walked, entry_at, indices_of, table_of, walk_for};
 use std::alloc::AllocError;
 use sv8_phys::{Phys, Touches};
+
+/// What a probe seeks.
+#[derive(Clone, Copy, PartialEq, Eq, Debug)]
+pub enum ProbeKind {
+    /// The entry of level 3.
+    Page,
+    /// The entry of level 2.
+    Segment,
+    /// The entry of level 1.
+    Region,
+    /// The entry of level 0, in the context table.
+    Context,
+    /// The entry of a page that the whole walk ends in.
+    Entire,
+}
 
 /// The entry at the level that is sought, or 0, with the indices into the tables below.
 fn found(below: &[u32], entry: u32) -> u32
@@ -61,7 +76,7 @@ fn sought<const PAGES: usize>(
 
 /// The value of a probe for the entry at a level.
 fn probe_level<const PAGES: usize>(
-    registers: &MmuRegisters,
+    registers: &Mmu,
     phys: &Phys<PAGES>,
     level: u32,
     va: u32,
@@ -81,7 +96,7 @@ fn probe_level<const PAGES: usize>(
 
 /// The value of a probe for a whole walk.
 fn probe_entire<const PAGES: usize>(
-    registers: &MmuRegisters,
+    registers: &Mmu,
     phys: &Phys<PAGES>,
     va: u32,
     trail: &mut Trail,
@@ -97,10 +112,31 @@ fn probe_entire<const PAGES: usize>(
     }
 }
 
+/// The value of a probe of a kind, and the entries that it reads.
+fn probed_as<const PAGES: usize>(
+    registers: &Mmu,
+    phys: &Phys<PAGES>,
+    va: u32,
+    kind: ProbeKind,
+    trail: &mut Trail,
+) -> u32
+    requires empty { trail.old.count ≡ 0 }
+    ensures { (o : Outside) → Does true (probed_as (ram_size PAGES) registers.now va kind)
+        (record o { ram = phys.now.ram }) (record o { ram = phys.now.ram }) result [] (reads_of (places_of trail.new)) }
+{
+    match kind {
+        ProbeKind::Page => probe_level(registers, phys, 3, va, trail),
+        ProbeKind::Segment => probe_level(registers, phys, 2, va, trail),
+        ProbeKind::Region => probe_level(registers, phys, 1, va, trail),
+        ProbeKind::Context => probe_level(registers, phys, 0, va, trail),
+        ProbeKind::Entire => probe_entire(registers, phys, va, trail),
+    }
+}
+
 /// The value of a probe, and the entries that it reads.
 #[tactic(auto, unfolding(crate::specs::Probe::probe, sv8_model::specs::Words::field))]
 fn probed<const PAGES: usize>(
-    registers: &MmuRegisters,
+    registers: &Mmu,
     phys: &Phys<PAGES>,
     va: u32,
     trail: &mut Trail,
@@ -120,13 +156,36 @@ fn probed<const PAGES: usize>(
     }
 }
 
-/// What a load from the probing space gives. A probe reads RAM, whatever the buffer keeps, and changes nothing.
+/// The entry that a probe of a kind finds for a virtual address, or 0. A probe reads RAM, whatever the buffer keeps, and changes
+/// nothing.
 ///
 /// # Errors
 ///
 /// `AllocError` where memory for a note cannot be had.
 pub fn probe<const PAGES: usize, T: Touches>(
-    registers: &MmuRegisters,
+    registers: &Mmu,
+    phys: &Phys<PAGES>,
+    va: u32,
+    kind: ProbeKind,
+    notes: &mut T,
+) -> Result<u32, AllocError>
+    ensures ok { IfOk result (λ v. (bytes : List ℕ) → Does T.KEEPS (probed_as (ram_size PAGES) registers.now va kind)
+        (outside_of phys.now bytes) (outside_of phys.now bytes) v (T.noted notes.old) (T.noted notes.new)) }
+    ensures err { OnErr result (T.KEEPS ≡ true) }
+{
+    let mut trail = Trail::new();
+    let value = probed_as(registers, phys, va, kind, &mut trail);
+    note_reads(&trail, notes)?;
+    Ok(value)
+}
+
+/// What a load from the probing space gives: a probe whose kind is in bits 11:8 of the address, and 0 for the other numbers there.
+///
+/// # Errors
+///
+/// `AllocError` where memory for a note cannot be had.
+pub fn probe_by_address<const PAGES: usize, T: Touches>(
+    registers: &Mmu,
     phys: &Phys<PAGES>,
     va: u32,
     notes: &mut T,

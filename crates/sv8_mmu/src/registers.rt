@@ -3,9 +3,12 @@
 ghost use Rattle.std.specs.Prelude.{◌≡◌, ◌≢◌, ◌≤◌, false, None};
 ghost use Rattle.sv8_mmu.specs.Registers.{registers_at_reset, translates, has_no_fault, table_pointer_address, register_at, after_read, is_register, after_write, has_fault, status_of, recorded};
 
+use crate::access_type::AccessType;
+use crate::fault_type::FaultType;
+
 /// The registers of the reference memory management unit.
 #[derive(Clone, Copy, PartialEq, Eq, Debug)]
-pub struct MmuRegisters {
+pub struct Mmu {
     /// The control register: bit 0 is E, bit 1 is NF.
     pub control: u32,
     /// The context table pointer register: bits 31:2 hold bits 35:6 of the context table's address.
@@ -21,12 +24,12 @@ pub struct MmuRegisters {
 /// A fault of an access, as the fault status and fault address registers tell it.
 #[derive(Clone, Copy, PartialEq, Eq, Debug)]
 pub struct Fault {
-    /// The level of the table entry at fault, 0 to 3; 0 for type 5.
+    /// The level of the table entry at fault, 0 to 3; 0 where nothing serves the physical address.
     pub level: u8,
-    /// The access type, 0 to 7.
-    pub access_type: u8,
-    /// The fault type: 1 an invalid address, 2 protection, 3 privilege, 4 translation, 5 a bus error.
-    pub fault_type: u8,
+    /// The access type.
+    pub access_type: AccessType,
+    /// The fault type.
+    pub fault_type: FaultType,
     /// The virtual address.
     pub address: u32,
 }
@@ -54,23 +57,21 @@ fn has_fault(status: u32) -> bool
 #[tactic(auto, unfolding(crate::specs::Registers::status_of))]
 fn status_of(old: u32, fault: Fault) -> u32
     requires level { fault.level ≤ 3 }
-    requires access_type { fault.access_type ≤ 7 }
-    requires fault_type { fault.fault_type ≤ 7 }
     ensures { result ≡ status_of old fault }
 {
     let valid = u32::from(fault.level) * 0x100
-        + u32::from(fault.access_type) * 0x20
-        + u32::from(fault.fault_type) * 4
+        + u32::from(fault.access_type.number()) * 0x20
+        + u32::from(fault.fault_type.number()) * 4
         + 2;
     if has_fault(old) { valid + 1 } else { valid }
 }
 
-impl MmuRegisters {
+impl Mmu {
     /// The registers after reset: no translation, and nothing recorded.
     pub fn new() -> Self
         ensures { result ≡ registers_at_reset }
     {
-        MmuRegisters {
+        Mmu {
             control: 0,
             table_pointer: 0,
             context: 0,
@@ -139,8 +140,6 @@ impl MmuRegisters {
     #[tactic(auto, unfolding(crate::specs::Registers::recorded))]
     pub fn record(&mut self, fault: Fault)
         requires level { fault.level ≤ 3 }
-        requires access_type { fault.access_type ≤ 7 }
-        requires fault_type { fault.fault_type ≤ 7 }
         ensures { self.new ≡ recorded self.old fault }
     {
         self.fault_status = status_of(self.fault_status, fault);

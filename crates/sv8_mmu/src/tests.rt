@@ -3,7 +3,6 @@
 
 ghost use Rattle.sv8_phys.specs.Memory.{ram_size};
 ghost use Rattle.sv8_mmu.specs.Kept.{AllStand};
-ghost use Rattle.std.specs.Prelude.{◌≡◌, ◌≤◌};
 
 use crate::buffer::{Key, Purpose};
 use crate::*;
@@ -59,7 +58,10 @@ const READ: [Touch; 4] = [
     Touch::Read(0x90c),
 ];
 
-/// These, and then the last is stored with other marks.
+/// The first three of them, above the tables of pages.
+const UPPER: [Touch; 3] = [Touch::Read(0x100), Touch::Read(0x400), Touch::Read(0x800)];
+
+/// All four, and then the last is stored with other marks.
 const MARKED: [Touch; 5] = [
     Touch::Read(0x100),
     Touch::Read(0x400),
@@ -69,7 +71,7 @@ const MARKED: [Touch; 5] = [
 ];
 
 /// Translation is on, the context table is at 100 (hexadecimal), and the context is 0.
-const REGISTERS: MmuRegisters = MmuRegisters {
+const REGISTERS: Mmu = Mmu {
     control: 1,
     table_pointer: 0x10,
     context: 0,
@@ -94,9 +96,7 @@ fn mapped(alloc: Global) -> Result<Phys<2>, AllocError> {
 }
 
 /// An access to the virtual address 3010 (hexadecimal).
-fn access(access_type: u8) -> VirtualAccess
-    ensures { result.access_type ≡ access_type }
-{
+fn access(access_type: AccessType) -> VirtualAccess {
     VirtualAccess {
         address: 0x3010,
         access_type,
@@ -109,16 +109,15 @@ fn answers(
     buffer: &mut Buffer,
     memory: &mut Phys<2>,
     context: u32,
-    access_type: u8,
-    answer: Translated,
+    access_type: AccessType,
+    answer: Result<u64, Fault>,
     touches: &[Touch],
     told: &mut Told,
 ) -> Result<bool, AllocError>
-    requires access_type { access_type ≤ 7 }
     requires stand { AllStand (ram_size 2) memory.old.ram 0x10 buffer.old }
     ensures { AllStand (ram_size 2) memory.new.ram 0x10 buffer.new }
 {
-    let registers = MmuRegisters {
+    let registers = Mmu {
         context,
         ..REGISTERS
     };
@@ -144,13 +143,30 @@ fn hits_are_walks(
 ) -> Result<bool, AllocError>
     requires { AllStand (ram_size 2) memory.old.ram 0x10 buffer.old }
 {
-    let at = Translated::At(0x1010);
-    let first = answers(buffer, memory, 0, 0, at, &MARKED, told)?;
-    let load = answers(buffer, memory, 0, 0, at, &READ, told)?;
-    let fetch = answers(buffer, memory, 0, 3, at, &READ, told)?;
-    let store = answers(buffer, memory, 0, 4, at, &MARKED, told)?;
-    let last = answers(buffer, memory, 0, 2, at, &READ, told)?;
-    Ok(first && load && fetch && store && last && memory.word(0x90c) == 0x16e)
+    let at = Ok(0x1010);
+    let first = answers(buffer, memory, 0, AccessType::UserLoad, at, &MARKED, told)?;
+    let load = answers(buffer, memory, 0, AccessType::UserLoad, at, &READ, told)?;
+    let again = answers(
+        buffer,
+        memory,
+        0,
+        AccessType::SupervisorLoad,
+        at,
+        &READ,
+        told,
+    )?;
+    let fetch = answers(
+        buffer,
+        memory,
+        0,
+        AccessType::SupervisorFetch,
+        at,
+        &READ,
+        told,
+    )?;
+    let store = answers(buffer, memory, 0, AccessType::UserStore, at, &MARKED, told)?;
+    let last = answers(buffer, memory, 0, AccessType::UserFetch, at, &READ, told)?;
+    Ok(first && load && again && fetch && store && last && memory.word(0x90c) == 0x16e)
 }
 
 /// Page 3 maps to page 0 of RAM, with R set.
@@ -171,13 +187,26 @@ fn stores_count(
 ) -> Result<bool, AllocError>
     requires { AllStand (ram_size 2) memory.old.ram 0x10 buffer.old }
 {
-    let at = Translated::At(0x1010);
-    let first = answers(buffer, memory, 0, 0, at, &MARKED, told)?;
-    let none = Translated::Refused { kind: 1, level: 0 };
-    let other = answers(buffer, memory, 1, 0, none, &[Touch::Read(0x104)], told)?;
+    let at = Ok(0x1010);
+    let first = answers(buffer, memory, 0, AccessType::UserLoad, at, &MARKED, told)?;
+    let none = Fault {
+        level: 0,
+        access_type: AccessType::UserLoad,
+        fault_type: FaultType::InvalidAddress,
+        address: 0x3010,
+    };
+    let other = answers(
+        buffer,
+        memory,
+        1,
+        AccessType::UserLoad,
+        Err(none),
+        &[Touch::Read(0x104)],
+        told,
+    )?;
     remap(buffer, memory)?;
-    let at = Translated::At(0x10);
-    let last = answers(buffer, memory, 0, 0, at, &READ, told)?;
+    let at = Ok(0x10);
+    let last = answers(buffer, memory, 0, AccessType::UserLoad, at, &READ, told)?;
     Ok(first && other && last)
 }
 
@@ -185,26 +214,74 @@ fn stores_count(
 fn walks_are_kept(buffer: &mut Buffer, memory: &mut Phys<2>) -> Result<bool, AllocError>
     requires { AllStand (ram_size 2) memory.old.ram 0x10 buffer.old }
 {
-    translate(&REGISTERS, buffer, memory, access(2), &mut NoTouches)?;
-    let kept = keeps(buffer, Purpose::Data) && keeps(buffer, Purpose::Data);
+    let found = translate(
+        &REGISTERS,
+        buffer,
+        memory,
+        access(AccessType::UserFetch),
+        &mut NoTouches,
+    )?;
+    let kept = found == Ok(0x1010)
+        && keeps(buffer, Purpose::Load)
+        && keeps(buffer, Purpose::Load)
+        && keeps(buffer, Purpose::Store);
     buffer.forget_page(1);
-    let stays = keeps(buffer, Purpose::Data) && keeps(buffer, Purpose::Fetch);
+    let stays = keeps(buffer, Purpose::Load) && keeps(buffer, Purpose::Fetch);
     buffer.forget_page(0);
-    Ok(kept && stays && !keeps(buffer, Purpose::Data))
+    Ok(kept && stays && !keeps(buffer, Purpose::Load))
 }
 
 /// Where no note can be taken, neither a translation nor a probe answers.
 fn notes_are_refused(buffer: &mut Buffer, memory: &mut Phys<2>) -> bool
     requires { AllStand (ram_size 2) memory.old.ram 0x10 buffer.old }
 {
-    probe(&REGISTERS, memory, 0x3000, &mut Full).is_err()
-        && translate(&REGISTERS, buffer, memory, access(0), &mut Full).is_err()
+    probe(&REGISTERS, memory, 0x3000, ProbeKind::Entire, &mut Full).is_err()
+        && translate(
+            &REGISTERS,
+            buffer,
+            memory,
+            access(AccessType::UserLoad),
+            &mut Full,
+        )
+        .is_err()
 }
 
-/// Where notes can be taken, a probe finds the entry of the page.
+/// Whether a probe of a kind finds an entry, by its name and by its number in the address, with the first so many reads.
+fn finds(
+    memory: &Phys<2>,
+    kind: ProbeKind,
+    number: u8,
+    entry: u32,
+    reads: &[Touch],
+    told: &mut Told,
+) -> Result<bool, AllocError> {
+    told.notes.clear();
+    let found = probe(&REGISTERS, memory, 0x3000, kind, told)?;
+    let right = found == entry && told.notes.as_slice() == reads;
+    told.notes.clear();
+    let by_address = probe_by_address(
+        &REGISTERS,
+        memory,
+        0x3000 + u32::from(number) * 0x100,
+        told,
+    )?;
+    Ok(right && by_address == entry && told.notes.as_slice() == reads)
+}
+
+/// Where notes can be taken, a probe finds the entry of its level, and an entire one that of the page.
 fn probes_answer(memory: &Phys<2>, told: &mut Told) -> Result<bool, AllocError> {
-    let page = probe(&REGISTERS, memory, 0x3000, told)?;
-    Ok(page == 0x10e && told.notes.as_slice() == READ.as_slice())
+    let page = finds(memory, ProbeKind::Page, 0, 0x10e, &READ, told)?;
+    let segment = finds(memory, ProbeKind::Segment, 1, 0x91, &UPPER, told)?;
+    let context = finds(
+        memory,
+        ProbeKind::Context,
+        3,
+        0x41,
+        &[Touch::Read(0x100)],
+        told,
+    )?;
+    let entire = finds(memory, ProbeKind::Entire, 4, 0x10e, &READ, told)?;
+    Ok(page && segment && context && entire)
 }
 
 #[test]

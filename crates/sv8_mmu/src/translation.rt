@@ -1,17 +1,21 @@
 //! Translation of a virtual address.
 
-ghost use Rattle.std.specs.Prelude.{◌≡◌, ℕ, ◌<◌, ◌≤◌, ◌+◌, ◌*◌, ◌/◌, ◌%◌, ◌^◌, List, ◌++◌, IfOk, OnOk, OnErr, true, slice_index_or};
+ghost use Rattle.std.specs.Prelude.{◌≡◌, ℕ, ◌<◌, ◌≤◌, ◌+◌, ◌*◌, ◌/◌, ◌%◌, ◌^◌, List, [], ◌++◌, IfOk, IfSome, OnOk, OnErr, true, slice_index_or};
 ghost use Rattle.sv8_model.specs.Outside.{Outside, with_word};
 ghost use Rattle.sv8_model.specs.Does.{Does, kept};
 ghost use Rattle.sv8_phys.specs.Memory.{ram_size};
 ghost use Rattle.sv8_phys.specs.Contents.{outside_of};
 ghost use Rattle.sv8_mmu.specs.Registers.{translates};
-ghost use Rattle.sv8_mmu.specs.Translation.{fault_types, permission, fault_type, is_store, with_bit, marked, physical_address, is_device, is_served, with_marks, reached, settled, translate};
+ghost use Rattle.sv8_mmu.specs.FaultTypes.{refused_by};
+ghost use Rattle.sv8_mmu.specs.Translation.{fault_types, permission, fault_type, with_bit, marked, physical_address, is_device, is_served, with_marks, reached, settled, translate};
+ghost use Rattle.sv8_mmu.specs.Answers.{changes_marks, translation_grows};
 ghost use Rattle.sv8_mmu.specs.Kept.{places_of, reads_of, IsEnd, IsTranslation, IsWalk, AllStand};
 ghost use Rattle.sv8_model.specs.Action.{done, store_word};
 
+use crate::access_type::AccessType;
 use crate::buffer::{Buffer, Key, Purpose};
-use crate::registers::MmuRegisters;
+use crate::fault_type::FaultType;
+use crate::registers::Mmu;
 use crate::walk::{Trail, Walk, Walked, walk_for};
 use std::alloc::AllocError;
 use sv8_model::Touch;
@@ -30,48 +34,60 @@ pub enum Reach {
 pub struct VirtualAccess {
     /// The virtual address.
     pub address: u32,
-    /// The access type, 0 to 7.
-    pub access_type: u8,
+    /// The access type.
+    pub access_type: AccessType,
     /// What serves it.
     pub reach: Reach,
 }
 
-/// What a translation leads to: a physical address of 36 bits, or a fault of a type (1 to 5) and a level (0 to 3).
+/// What a translation leads to: a physical address of 36 bits, or a fault of a type and a level (0 to 3).
 #[derive(Clone, Copy, PartialEq, Eq, Debug)]
 pub enum Translated {
     At(u64),
-    Refused { kind: u8, level: u8 },
+    Refused { kind: FaultType, level: u8 },
 }
 
 /// The fault types of an access type, for each value of ACC.
-fn fault_types(access_type: u8) -> [u8; 8]
-    requires { access_type ≤ 7 }
+#[inline(always)]
+fn fault_types(access_type: AccessType) -> [u8; 8]
     ensures { result ≡ fault_types access_type }
 {
     match access_type {
-        0 => [0, 0, 0, 0, 2, 0, 3, 3],
-        1 => [0, 0, 0, 0, 2, 0, 0, 0],
-        2 => [2, 2, 0, 0, 0, 2, 3, 3],
-        3 => [2, 2, 0, 0, 0, 2, 0, 0],
-        4 => [2, 0, 2, 0, 2, 2, 3, 3],
-        5 => [2, 0, 2, 0, 2, 0, 2, 0],
-        6 => [2, 2, 2, 0, 2, 2, 3, 3],
-        _ => [2, 2, 2, 0, 2, 2, 2, 0],
+        AccessType::UserLoad => [0, 0, 0, 0, 2, 0, 3, 3],
+        AccessType::SupervisorLoad => [0, 0, 0, 0, 2, 0, 0, 0],
+        AccessType::UserFetch => [2, 2, 0, 0, 0, 2, 3, 3],
+        AccessType::SupervisorFetch => [2, 2, 0, 0, 0, 2, 0, 0],
+        AccessType::UserStore => [2, 0, 2, 0, 2, 2, 3, 3],
+        AccessType::SupervisorStore => [2, 0, 2, 0, 2, 0, 2, 0],
+        AccessType::UserInstructionStore => [2, 2, 2, 0, 2, 2, 3, 3],
+        AccessType::SupervisorInstructionStore => [2, 2, 2, 0, 2, 2, 2, 0],
     }
 }
 
-/// The fault type of an access to a page by its entry; 0 where it is allowed.
-#[tactic(auto, using(crate::proofs::FaultTypes::fault_types_are_small), unfolding(crate::specs::Translation::fault_type, sv8_model::specs::Words::field))]
-fn fault_type(access_type: u8, entry: u32) -> u8
-    requires { access_type ≤ 7 }
-    ensures value { result ≡ fault_type access_type entry }
-    ensures most { result ≤ 7 }
+/// The fault that a number of the table of permissions stands for.
+#[inline(always)]
+fn refused_by(number: u8) -> Option<FaultType>
+    ensures { result ≡ refused_by number }
+{
+    match number {
+        2 => Some(FaultType::Protection),
+        3 => Some(FaultType::Privilege),
+        _ => None,
+    }
+}
+
+/// The fault of an access to a page by its entry, if there is one.
+#[inline(always)]
+#[tactic(auto, unfolding(crate::specs::Translation::fault_type, sv8_model::specs::Words::field))]
+fn fault_type(access_type: AccessType, entry: u32) -> Option<FaultType>
+    ensures { result ≡ fault_type access_type entry }
 {
     let types = fault_types(access_type);
-    types[(entry / 4 % 8) as usize]
+    refused_by(types[(entry / 4 % 8) as usize])
 }
 
 /// The word with bit 5, R, set.
+#[inline(always)]
 fn with_referenced(entry: u32) -> u32
     ensures value { result ≡ with_bit entry 5 }
     ensures kind { entry % 4 ≡ 2 → result % 4 ≡ 2 }
@@ -84,6 +100,7 @@ fn with_referenced(entry: u32) -> u32
 }
 
 /// The word with bit 6, M, set.
+#[inline(always)]
 fn with_modified(entry: u32) -> u32
     ensures value { result ≡ with_bit entry 6 }
     ensures kind { entry % 4 ≡ 2 → result % 4 ≡ 2 }
@@ -96,12 +113,13 @@ fn with_modified(entry: u32) -> u32
 }
 
 /// The entry with the marks of an access.
+#[inline(always)]
 #[tactic(auto, unfolding(crate::specs::Translation::marked))]
-fn marked(access_type: u8, entry: u32) -> u32
+fn marked(access_type: AccessType, entry: u32) -> u32
     ensures value { result ≡ marked access_type entry }
     ensures kind { entry % 4 ≡ 2 → result % 4 ≡ 2 }
 {
-    if access_type > 3 {
+    if access_type.is_store() {
         with_modified(with_referenced(entry))
     } else {
         with_referenced(entry)
@@ -109,6 +127,7 @@ fn marked(access_type: u8, entry: u32) -> u32
 }
 
 /// The physical address: bits 35:12 are those of the entry, but for the bits inside the page.
+#[inline(always)]
 #[tactic(auto, unfolding(crate::specs::Translation::physical_address))]
 fn physical_address(entry: u32, level: u8, va: u32) -> u64
     ensures value { result ≡ physical_address entry level va }
@@ -159,16 +178,16 @@ pub fn note_reads<T: Touches>(trail: &Trail, notes: &mut T) -> Result<(), AllocE
 }
 
 /// What the walk of an access is for.
-#[inline]
-fn purpose_of(access_type: u8) -> Purpose {
+#[inline(always)]
+fn purpose_of(access_type: AccessType) -> Purpose {
     match access_type {
-        2 | 3 => Purpose::Fetch,
-        _ => Purpose::Data,
+        AccessType::UserLoad | AccessType::SupervisorLoad => Purpose::Load,
+        AccessType::UserFetch | AccessType::SupervisorFetch => Purpose::Fetch,
+        _ => Purpose::Store,
     }
 }
 
 /// The walk for a context and a page: one that is kept, or a new one, which is then kept.
-#[inline]
 fn find_walk<const PAGES: usize>(
     table_pointer: u32,
     buffer: &mut Buffer,
@@ -231,26 +250,27 @@ fn settle<const PAGES: usize, T: Touches>(
     access: VirtualAccess,
     notes: &mut T,
 ) -> Result<Translated, AllocError>
-    requires access_type { access.access_type ≤ 7 }
     requires end { IsEnd (ram_size PAGES) walk.end }
     ensures ok { IfOk result (λ r. (bytes : List ℕ) → Does T.KEEPS (settled (ram_size PAGES) access.address access.access_type access.reach walk.end)
         (outside_of phys.old bytes) (outside_of phys.new bytes) r (T.noted notes.old) (T.noted notes.new)) }
     ensures answer { IfOk result (λ r. IsTranslation access.address r) }
     ensures others { phys.new ≡ record phys.old { ram = phys.new.ram } }
     ensures err { OnErr result (phys.new ≡ phys.old) }
+    ensures growth { OnErr result (changes_marks (ram_size PAGES) access.address access.access_type access.reach walk.end ≡ true) }
     ensures stand { (table_pointer : ℕ) → IsWalk (ram_size PAGES) phys.old.ram table_pointer key.context (key.page * 4096) walk
         → AllStand (ram_size PAGES) phys.old.ram table_pointer buffer.old → AllStand (ram_size PAGES) phys.new.ram table_pointer buffer.new }
 {
     match walk.end {
         Walked::Fault { kind, level } => Ok(Translated::Refused { kind, level }),
         Walked::Page { entry, level, at } => {
-            let kind = fault_type(access.access_type, entry);
-            if kind != 0 {
-                return Ok(Translated::Refused { kind, level });
+            match fault_type(access.access_type, entry) {
+                Some(kind) => return Ok(Translated::Refused { kind, level }),
+                None => {}
             }
             let pa = physical_address(entry, level, access.address);
             if !is_served(phys, access.reach, pa) {
-                return Ok(Translated::Refused { kind: 5, level: 0 });
+                let kind = FaultType::AccessBus;
+                return Ok(Translated::Refused { kind, level: 0 });
             }
             let now = marked(access.access_type, entry);
             if now != entry {
@@ -261,24 +281,75 @@ fn settle<const PAGES: usize, T: Touches>(
     }
 }
 
+/// The physical address of an access by the end of a walk, where the access is allowed, RAM serves it, and it leaves the entry
+/// of its page as it is.
+#[inline(always)]
+#[tactic(auto, unfolding(crate::specs::Translation::settled))]
+fn settle_plainly<const PAGES: usize>(
+    phys: &Phys<PAGES>,
+    access: VirtualAccess,
+    end: Walked,
+) -> Option<u64>
+    ensures settled { IfSome result (λ pa. settled (ram_size PAGES) access.address access.access_type access.reach end ≡ done (Translated.At pa)) }
+    ensures answer { IfSome result (λ pa. IsTranslation access.address (Translated.At pa)) }
+{
+    match end {
+        Walked::Fault { .. } => None,
+        Walked::Page { entry, level, .. } => {
+            if fault_type(access.access_type, entry).is_some() {
+                return None;
+            }
+            if marked(access.access_type, entry) != entry {
+                return None;
+            }
+            let pa = physical_address(entry, level, access.address);
+            if phys.is_ram(pa) { Some(pa) } else { None }
+        }
+    }
+}
+
+/// The physical address of an access, and what the walk of its page read, where that walk was used last and all else is plain.
+#[inline(always)]
+fn find_shortcut<'a, const PAGES: usize>(
+    registers: &Mmu,
+    buffer: &'a Buffer,
+    phys: &Phys<PAGES>,
+    access: VirtualAccess,
+) -> Option<(u64, &'a Trail)>
+    requires on { translates registers.now ≡ true }
+    requires stand { AllStand (ram_size PAGES) phys.now.ram registers.now.table_pointer buffer.now }
+    ensures answer { IfSome result (λ s. IsTranslation access.address (Translated.At s.0)) }
+    ensures does { IfSome result (λ s. (o : Outside) → Does true (translate (ram_size PAGES) registers.now access.address access.access_type access.reach)
+        (record o { ram = phys.now.ram }) (record o { ram = phys.now.ram }) (Translated.At s.0) [] (reads_of (places_of s.1.now))) }
+{
+    let key = Key {
+        context: registers.context,
+        page: access.address / 0x1000,
+    };
+    let walk = buffer.last(purpose_of(access.access_type), key)?;
+    let pa = settle_plainly(phys, access, walk.end)?;
+    Some((pa, &walk.trail))
+}
+
 /// Translates the address of an access by the tables.
+#[cold]
 #[inline(never)]
 #[tactic(auto, unfolding(crate::specs::Translation::translate))]
 fn translate_by_tables<const PAGES: usize, T: Touches>(
-    registers: &MmuRegisters,
+    registers: &Mmu,
     buffer: &mut Buffer,
     phys: &mut Phys<PAGES>,
     access: VirtualAccess,
     notes: &mut T,
 ) -> Result<Translated, AllocError>
     requires on { translates registers.now ≡ true }
-    requires access_type { access.access_type ≤ 7 }
     requires stand { AllStand (ram_size PAGES) phys.old.ram registers.now.table_pointer buffer.old }
     ensures ok { IfOk result (λ r. (bytes : List ℕ) → Does T.KEEPS (translate (ram_size PAGES) registers.now access.address access.access_type access.reach)
         (outside_of phys.old bytes) (outside_of phys.new bytes) r (T.noted notes.old) (T.noted notes.new)) }
     ensures answer { IfOk result (λ r. IsTranslation access.address r) }
     ensures others { phys.new ≡ record phys.old { ram = phys.new.ram } }
     ensures err { OnErr result (phys.new ≡ phys.old) }
+    ensures growth { OnErr result (translation_grows T.KEEPS (ram_size PAGES) registers.now access.address access.access_type access.reach (outside_of phys.old []) ≡ true) }
     ensures stand { AllStand (ram_size PAGES) phys.new.ram registers.now.table_pointer buffer.new }
 {
     let key = Key {
@@ -292,34 +363,36 @@ fn translate_by_tables<const PAGES: usize, T: Touches>(
     Ok(answer)
 }
 
-/// Translates the address of an access. The marks that the access leaves in the entry of its page are made.
-///
-/// What the buffer keeps never shows: neither in the answer, nor in RAM, nor in the notes. It keeps the walk of a page, where
-/// there is memory for it.
+/// Translates the address of an access as `translate` does, whose fault it tells by type and level alone: the access has the
+/// rest.
 ///
 /// # Errors
 ///
-/// `AllocError` where memory for a page of RAM that is shared or for a note cannot be had; memory is then as it was.
+/// `AllocError` as for `translate`.
 #[inline(always)]
 #[tactic(auto, unfolding(crate::specs::Translation::translate))]
-pub fn translate<const PAGES: usize, T: Touches>(
-    registers: &MmuRegisters,
+pub fn resolve<const PAGES: usize, T: Touches>(
+    registers: &Mmu,
     buffer: &mut Buffer,
     phys: &mut Phys<PAGES>,
     access: VirtualAccess,
     notes: &mut T,
 ) -> Result<Translated, AllocError>
-    requires access_type { access.access_type ≤ 7 }
     requires stand { AllStand (ram_size PAGES) phys.old.ram registers.now.table_pointer buffer.old }
     ensures ok { IfOk result (λ r. (bytes : List ℕ) → Does T.KEEPS (translate (ram_size PAGES) registers.now access.address access.access_type access.reach)
         (outside_of phys.old bytes) (outside_of phys.new bytes) r (T.noted notes.old) (T.noted notes.new)) }
     ensures answer { IfOk result (λ r. IsTranslation access.address r) }
     ensures others { phys.new ≡ record phys.old { ram = phys.new.ram } }
     ensures err { OnErr result (phys.new ≡ phys.old) }
+    ensures growth { OnErr result (translation_grows T.KEEPS (ram_size PAGES) registers.now access.address access.access_type access.reach (outside_of phys.old []) ≡ true) }
     ensures stand { AllStand (ram_size PAGES) phys.new.ram registers.now.table_pointer buffer.new }
 {
     if !registers.translates() {
         return Ok(Translated::At(access.address as u64));
+    }
+    if let Some((pa, trail)) = find_shortcut(registers, buffer, phys, access) {
+        note_reads(trail, notes)?;
+        return Ok(Translated::At(pa));
     }
     let answer = translate_by_tables(registers, buffer, phys, access, notes)?;
     Ok(answer)

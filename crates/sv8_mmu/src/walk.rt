@@ -7,13 +7,14 @@ ghost use Rattle.sv8_phys.specs.Memory.{ram_size};
 ghost use Rattle.sv8_mmu.specs.Walk.{table_of, indices_of, root_of, met, looked_up, below_pointer, walk};
 ghost use Rattle.sv8_mmu.specs.Kept.{places_of, reads_of, IsEnd, IsWalk};
 
+use crate::fault_type::FaultType;
 use sv8_phys::Phys;
 
 /// The end of a walk: the entry of a page with its level and its address, or a fault.
 #[derive(Clone, Copy)]
 pub enum Walked {
     Page { entry: u32, level: u8, at: u32 },
-    Fault { kind: u8, level: u8 },
+    Fault { kind: FaultType, level: u8 },
 }
 
 /// The addresses of the entries that a walk read, the first `count` of these.
@@ -110,7 +111,10 @@ fn below_pointer<const PAGES: usize>(
         (record o { ram = phys.now.ram }) (record o { ram = phys.now.ram }) result (reads_of (places_of trail.old)) (reads_of (places_of trail.new)) }
 {
     match below {
-        [] => Walked::Fault { kind: 4, level },
+        [] => Walked::Fault {
+            kind: FaultType::Translation,
+            level,
+        },
         [index, after @ ..] => look_up(
             phys,
             level + 1,
@@ -138,7 +142,10 @@ fn look_up<const PAGES: usize>(
         (record o { ram = phys.now.ram }) (record o { ram = phys.now.ram }) result (reads_of (places_of trail.old)) (reads_of (places_of trail.new)) }
 {
     match entry_at(phys, at, trail) {
-        None => Walked::Fault { kind: 4, level },
+        None => Walked::Fault {
+            kind: FaultType::Translation,
+            level,
+        },
         Some(entry) => match entry % 4 {
             1 => below_pointer(phys, level, below, entry, trail),
             2 => Walked::Page {
@@ -146,8 +153,14 @@ fn look_up<const PAGES: usize>(
                 level,
                 at: at as u32,
             },
-            0 => Walked::Fault { kind: 1, level },
-            _ => Walked::Fault { kind: 4, level },
+            0 => Walked::Fault {
+                kind: FaultType::InvalidAddress,
+                level,
+            },
+            _ => Walked::Fault {
+                kind: FaultType::Translation,
+                level,
+            },
         },
     }
 }

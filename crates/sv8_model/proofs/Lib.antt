@@ -5,3 +5,4 @@ pub mod Footprints
 pub mod Frames
 pub mod Staying
 pub mod CellLaws
+pub mod Common

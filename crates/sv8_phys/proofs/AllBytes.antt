@@ -4,7 +4,7 @@ use Rattle.std.proofs.lemmas.Bool.{cases_eq, cases_lt}
 use Rattle.std.proofs.lemmas.Grind.{same_number_lists}
 use Rattle.std.proofs.lemmas.List.{length-replicate, get_or-replicate, get_or-take, get_or-drop, get_or_append_left, get_or-append_right, get_or-map, get_or_past, length-take-le, length-drop}
 use Rattle.std.proofs.lemmas.List.FromFn.{get_or-map-range_with_len, length-map-range_with_len}
-use Rattle.sv8_model.proofs.Lists.{IsByte}
+use Rattle.sv8_model.proofs.Common.{IsByte}
 use Rattle.sv8_phys.proofs.ByteLemmas.{each_byte}
 use Rattle.sv8_phys.specs.Memory.{page_of, with_page}
 use Rattle.std.specs.declared.rc.Rc.{Rc}

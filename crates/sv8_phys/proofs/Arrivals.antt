@@ -9,7 +9,7 @@ use Rattle.std.proofs.Math.Seq.{take-append-add}
 use Rattle.std.proofs.Math.ListN.{drop_of_length-le}
 use Rattle.sv8_time.specs.Schedule.{Input, Schedule, input_bytes, byte_count, bytes_below, input_before}
 use Rattle.sv8_time.specs.Order.{Each, Rising}
-use Rattle.sv8_time.proofs.Parts.{filter_none}
+use Rattle.sv8_time.proofs.Common.{filter_none}
 use Rattle.sv8_model.specs.Outside.{Outside, oldest, without_oldest}
 use Rattle.sv8_model.specs.declared.touch.Touch.{Touch}
 use Rattle.sv8_model.specs.declared.touch.Touch.TheVariants as note

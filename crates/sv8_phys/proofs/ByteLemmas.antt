@@ -1,11 +1,8 @@
 -- Lists of numbers below 256, and what stays one.
-use borrow.Rule.Slice.PartMut.{put_mid, mid_of}
-use Rattle.std.proofs.Common.{◌≡◌, ℕ, zero, suc, ◌+◌, ◌-◌, ◌*◌, ◌/◌, ◌%◌, ◌^◌, ◌<◌, ◌≤◌, Bool, true, false, ◌&&◌, List, [], ◌∷◌, ◌++◌, length, get_or, set, drop, refl, sym, ap, subst, ◌∙◌, arith}
-use Rattle.std.specs.Prelude.{nat_lt}
+use Rattle.std.proofs.Common.{◌≡◌, ℕ, zero, suc, ◌+◌, Bool, true, false, ◌&&◌, List, [], ◌∷◌, get_or, refl, sym, ap, ◌∙◌, arith}
 use Rattle.std.proofs.lemmas.Bool.{lt-ltb, ltb-true, true≢false}
-use Rattle.byteorder.specs.Endian.{big_bytes}
 use Rattle.sv8_model.specs.Outside.{with_word, with_byte}
-use Rattle.sv8_model.proofs.Lists.{IsByte, set_each, word_bytes}
+use Rattle.sv8_model.proofs.Common.{IsByte, set_each, word_bytes}
 use Rattle.sv8_phys.specs.declared.size.Size.{Size}
 use Rattle.sv8_phys.specs.declared.size.Size.TheVariants.{Byte, Half, Word, Double}
 use Rattle.sv8_phys.specs.Bytes.{are_bytes}

@@ -11,4 +11,6 @@ pub mod PendingLevels
 pub mod ChunkLemmas
 pub mod Access
 pub mod Arrivals
+pub mod Calls
 pub mod OnLiterals
+pub mod Common

@@ -8,7 +8,7 @@ use Rattle.std.proofs.lemmas.List.FromFn.{length-map-range_with_len, get_or-map-
 use Rattle.std.proofs.lemmas.Nat.Bits.{bit_at-lt, bit_at_not, bit_at-pow_same, bit_at-pow_other}
 use Rattle.sv8_model.specs.Words.{bit}
 use Rattle.sv8_model.specs.Levels.{asked, cleared, levels_word, masked_from, unmasked_from}
-use Rattle.sv8_model.proofs.Lists.{length-masked, get_or-masked, length-unmasked, get_or-unmasked}
+use Rattle.sv8_model.proofs.Common.{length-masked, get_or-masked, length-unmasked, get_or-unmasked}
 use Rattle.std.proofs.lemmas.Nat.{and_le_l}
 use Rattle.sv8_phys.specs.Pending.{levels_of_word, AreLevels}
 use Rattle.sv8_phys.proofs.PendingWord.{word_of_bits}

@@ -6,7 +6,7 @@ use Rattle.std.proofs.Math.ListN.{drop_of_length-le}
 use Rattle.std.proofs.lemmas.List.{append_assoc, drop_more}
 use Rattle.sv8_model.specs.declared.touch.Touch.{Touch}
 use Rattle.sv8_model.specs.Does.{kept}
-use Rattle.sv8_model.proofs.Deeds.{kept_append}
+use Rattle.sv8_model.proofs.Common.{kept_append}
 use Rattle.sv8_phys.specs.Notes.{levels_of, levels_in}
 use Rattle.sv8_phys.proofs.Bits.{or_groups}
 

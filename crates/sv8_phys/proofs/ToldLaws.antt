@@ -9,10 +9,10 @@ use Rattle.sv8_model.specs.declared.touch.Touch.TheVariants as note
 use Rattle.sv8_model.specs.Words.{bit}
 use Rattle.sv8_model.specs.Levels.{timer_level}
 use Rattle.sv8_model.specs.Outside.{word_address}
-use Rattle.sv8_model.specs.Footprint.{is_read_of, is_write_of, asks, is_input, is_expiry, reads_word, writes_word, reads_input, reads_level, expires}
+use Rattle.sv8_model.specs.Footprint.{is_read_of, is_write_of, asks, is_input, is_expiry, reads_word, reads_input, reads_level, expires}
 use Rattle.sv8_model.specs.Cells.{Cell, ram_byte, waiting_bytes, pending_level, is_read, is_written}
 use Rattle.sv8_phys.specs.Laws.{FootprintIsTold, WritesAreUnread}
-use Rattle.sv8_phys.specs.Notes.{is_told, levels_of, levels_in, levels_note, told}
+use Rattle.sv8_phys.specs.Notes.{is_told, levels_in, levels_note, told}
 use Rattle.sv8_phys.proofs.Bits.{bit-or, bit-zero}
 
 or-false : (b : Bool) → (b || false) ≡ b

@@ -4,7 +4,7 @@ use Rattle.sv8_model.specs.declared.touch.Touch.{Touch}
 use Rattle.sv8_model.specs.Words.{bit}
 use Rattle.sv8_model.specs.Levels.{levels_word}
 use Rattle.sv8_model.specs.Cells.{Cell, is_read, is_written}
-use Rattle.sv8_model.specs.Footprint.{is_write_of, reads_word, writes_word}
+use Rattle.sv8_model.specs.Footprint.{is_write_of, writes_word}
 use Rattle.std.specs.List.{list_any}
 use Rattle.sv8_phys.specs.Notes.{told}
 

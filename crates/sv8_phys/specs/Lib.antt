@@ -6,5 +6,7 @@ pub mod Pending
 pub mod Contents
 pub mod Devices
 pub mod Notes
+pub mod Growths
+pub mod Calls
 pub mod Laws
 pub mod Examples

@@ -1,6 +1,6 @@
 //! The notes of one step, kept until its end.
 
-ghost use Rattle.std.specs.Prelude.{◌≡◌, ◌∷◌, ◌++◌, [], OnOk, OnErr, true, filter};
+ghost use Rattle.std.specs.Prelude.{◌≡◌, ◌∷◌, ◌++◌, [], IfOk, OnOk, OnErr, true, filter};
 ghost use Rattle.sv8_model.specs.Does.{kept};
 ghost use Rattle.sv8_model.specs.Footprint.{reads_word};
 ghost use Rattle.sv8_phys.specs.Notes.{is_told, levels_of, levels_in, levels_note, told};
@@ -71,18 +71,6 @@ fn levels_of_note(note: Touch) -> u16
     }
 }
 
-/// All levels that some note asks.
-#[tactic(auto, using(crate::proofs::Telling::levels_more, crate::proofs::Telling::levels_all))]
-fn all_levels(notes: &[Touch]) -> u16
-    ensures { result ≡ levels_in notes.now }
-{
-    let mut levels = 0;
-    for note in notes {
-        levels |= levels_of_note(*note);
-    }
-    levels
-}
-
 /// Hands on a note, if it is told as it stands.
 fn tell_note<T: Touches>(from: &[Touch], note: Touch, notes: &mut T) -> Result<(), AllocError>
     ensures ok { OnOk result (T.noted notes.new ≡ T.noted notes.old ++ kept T.KEEPS (filter (is_told from.now) (note ∷ []))) }
@@ -97,19 +85,19 @@ fn tell_note<T: Touches>(from: &[Touch], note: Touch, notes: &mut T) -> Result<(
     }
 }
 
-/// Hands on the notes that are told as they stand.
-#[tactic(auto, using(crate::proofs::Telling::handed_more))]
-fn tell_standing<T: Touches>(from: &[Touch], notes: &mut T) -> Result<(), AllocError>
+/// Hands on the notes that are told as they stand. Answers all levels that some note asks.
+#[tactic(auto, using(crate::proofs::Telling::handed_more, crate::proofs::Telling::levels_more, crate::proofs::Telling::levels_all))]
+fn tell_standing<T: Touches>(from: &[Touch], notes: &mut T) -> Result<u16, AllocError>
     ensures ok { OnOk result (T.noted notes.new ≡ T.noted notes.old ++ kept T.KEEPS (filter (is_told from.now) from.now)) }
+    ensures levels { IfOk result (λ levels. levels ≡ levels_in from.now) }
     ensures err { OnErr result (T.KEEPS ≡ true) }
 {
+    let mut levels = 0;
     for note in from {
-        match tell_note(from, *note, notes) {
-            Ok(()) => {}
-            Err(fault) => return Err(fault),
-        }
+        levels |= levels_of_note(*note);
+        tell_note(from, *note, notes)?;
     }
-    Ok(())
+    Ok(levels)
 }
 
 /// Hands on a note of levels, if there are any.
@@ -127,13 +115,13 @@ fn tell_levels<T: Touches>(levels: u16, notes: &mut T) -> Result<(), AllocError>
 }
 
 /// Hands on what is told of some notes.
-#[tactic(auto, using(sv8_model::proofs::Deeds::kept_append), unfolding(crate::specs::Notes::told))]
+#[tactic(auto, using(sv8_model::proofs::Common::kept_append), unfolding(crate::specs::Notes::told))]
 fn tell_all<T: Touches>(from: &[Touch], notes: &mut T) -> Result<(), AllocError>
     ensures ok { OnOk result (T.noted notes.new ≡ T.noted notes.old ++ kept T.KEEPS (told from.now)) }
     ensures err { OnErr result (T.KEEPS ≡ true) }
 {
     match tell_standing(from, notes) {
-        Ok(()) => tell_levels(all_levels(from), notes),
+        Ok(levels) => tell_levels(levels, notes),
         Err(fault) => Err(fault),
     }
 }

@@ -1,8 +1,12 @@
 //! That the calls which take memory answer where there is enough of it: a body that always gave up would meet every contract.
 
+ghost use Rattle.std.specs.Prelude.{◌≡◌, ◌%◌};
+ghost use Rattle.sv8_phys.specs.Memory.{bytes_in};
+
 use super::*;
 use std::alloc::{AllocError, Global};
 use std::test::Fail;
+use sv8_time::Timeline;
 
 /// Keeps what a step tells.
 #[derive(Drop)]
@@ -26,9 +30,6 @@ impl Touches for Told {
     }
 }
 
-/// The console's output.
-const OUTPUT_AT: u64 = 0x8000_0008;
-
 /// A memory of two pages.
 fn blank(alloc: Global) -> Result<Phys<2>, Fail> {
     let memory = Phys::new(alloc)?;
@@ -38,10 +39,7 @@ fn blank(alloc: Global) -> Result<Phys<2>, Fail> {
 /// Puts so many bytes out.
 fn print(memory: &mut Phys<2>, count: u32) -> Result<bool, Fail> {
     for _ in 0..count {
-        if memory
-            .write(OUTPUT_AT, Size::Word, 0x48, &mut NoTouches)?
-            .is_err()
-        {
+        if memory.write(OUTPUT, Size::Word, 0x48)?.is_err() {
             return Ok(false);
         }
     }
@@ -110,5 +108,100 @@ fn notes_are_told(rt: HostRuntime) -> Result<(), Fail> {
         notes: Vec::new(rt.alloc()),
     };
     assert!(rt; ask(&memory, &mut notes, &mut told)?);
+    Ok(())
+}
+
+/// Whether a load has an answer.
+fn reads(memory: &Phys<2>, pa: u64, size: Size, answer: Option<u64>) -> bool
+    requires { pa % bytes_in size ≡ 0 }
+{
+    memory.read(pa, size).ok() == answer
+}
+
+/// Stores a word, which something serves.
+fn store(memory: &mut Phys<2>, pa: u64, value: u64) -> Result<bool, Fail>
+    requires { pa % 4 ≡ 0 }
+{
+    let answer = memory.write(pa, Size::Word, value)?;
+    Ok(answer.is_ok())
+}
+
+/// Loads of each size find their bytes, the most significant first; nothing serves the first address behind RAM.
+fn reads_each_size(memory: &mut Phys<2>) -> Result<bool, Fail> {
+    let stored = store(memory, 0x1ff8, 0x1122_3344)? && store(memory, 0x1ffc, 0x5566_7788)?;
+    let refused = memory.write(0x2000, Size::Word, 1)?.is_err();
+    Ok(
+        stored
+            && refused
+            && reads(memory, 0x1ffb, Size::Byte, Some(0x44))
+            && reads(memory, 0x1ffe, Size::Half, Some(0x7788))
+            && reads(memory, 0x1ff8, Size::Word, Some(0x1122_3344))
+            && reads(memory, 0x1ff8, Size::Double, Some(0x1122_3344_5566_7788))
+            && reads(memory, 0x2000, Size::Word, None),
+    )
+}
+
+/// The console's input and a half of a device are not read by `read`; its output reads 0.
+fn reads_devices(memory: &Phys<2>) -> bool {
+    reads(memory, INPUT, Size::Word, None)
+        && reads(memory, WAITING, Size::Word, None)
+        && reads(memory, OUTPUT, Size::Half, None)
+        && reads(memory, OUTPUT, Size::Word, Some(0))
+}
+
+/// A count of 2 expires at the second step, starts again from 3, and then level 10 pends until it is cleared.
+fn ticks(memory: &mut Phys<2>) -> Result<bool, Fail> {
+    memory.tick();
+    let rests = reads(memory, TIMER_COUNT, Size::Word, Some(0)) && memory.pending() == 0;
+    let set = store(memory, TIMER_COUNT, 2)? && store(memory, TIMER_RELOAD, 3)?;
+    memory.tick();
+    let falls = reads(memory, TIMER_COUNT, Size::Word, Some(1)) && memory.pending() == 0;
+    memory.tick();
+    let expires = reads(memory, TIMER_COUNT, Size::Word, Some(3))
+        && reads(memory, PENDING, Size::Word, Some(0x400))
+        && memory.pending() == 0x400;
+    let clears = store(memory, PENDING, 0x400)?;
+    Ok(rests && set && falls && expires && clears && memory.pending() == 0)
+}
+
+#[test]
+fn calls_without_notes_answer(rt: HostRuntime) -> Result<(), Fail> {
+    let mut memory = blank(rt.alloc())?;
+    assert!(rt; reads_devices(&memory) && reads_each_size(&mut memory)? && ticks(&mut memory)?);
+    Ok(())
+}
+
+/// Whether so many bytes wait at a step, and whether this byte is taken next.
+fn takes(memory: &mut Phys<2>, timeline: &Timeline, before: u32, count: u32, byte: u8) -> bool {
+    if timeline.delivered(before) < memory.taken() {
+        return false;
+    }
+    memory.waiting(before, timeline) == count && memory.take_input(before, timeline) == byte
+}
+
+/// Two bytes come in at step 2, and one at step 5.
+fn fill(timeline: &mut Timeline, alloc: Global) -> bool {
+    timeline.set_input(alloc, 5, b"c").is_ok() && timeline.set_input(alloc, 2, b"ab").is_ok()
+}
+
+/// The oldest byte first, and 0 where none waits, which takes none.
+fn takes_each(memory: &mut Phys<2>, timeline: &Timeline) -> bool {
+    takes(memory, timeline, 2, 0, 0)
+        && takes(memory, timeline, 3, 2, b'a')
+        && takes(memory, timeline, 3, 1, b'b')
+        && takes(memory, timeline, 5, 0, 0)
+        && takes(memory, timeline, 6, 1, b'c')
+        && memory.taken() == 3
+}
+
+fn takes_what_came(memory: &mut Phys<2>, alloc: Global) -> bool {
+    let mut timeline = Timeline::new(alloc, 0x2000);
+    fill(&mut timeline, alloc) && takes_each(memory, &timeline)
+}
+
+#[test]
+fn input_is_taken_in_order(rt: HostRuntime) -> Result<(), Fail> {
+    let mut memory = blank(rt.alloc())?;
+    assert!(rt; takes_what_came(&mut memory, rt.alloc()));
     Ok(())
 }

@@ -55,11 +55,11 @@ abbrev Reads : List Place → Type 0
 Reads [] = Unit {0}
 Reads (p ∷ ps) = (reading p.text ≡ Ok p.stmt) × Reads ps
 
-record Step (limit n : ℕ) (text : List ℕ) (l next : Layout) : Type 0 where
-  s : Stmt
-  read : reading text ≡ Ok s
-  admits : admitted limit n l.at s l.symbols ≡ Ok (next.symbols, next.at)
-  places : next.places ≡ l.places ++ record { text = text; stmt = s; at = l.at } ∷ []
+pub record Step (limit n : ℕ) (text : List ℕ) (l next : Layout) : Type 0 where
+  pub s : Stmt
+  pub read : reading text ≡ Ok s
+  pub admits : admitted limit n l.at s l.symbols ≡ Ok (next.symbols, next.at)
+  pub places : next.places ≡ l.places ++ record { text = text; stmt = s; at = l.at } ∷ []
 
 stmt_step : (limit n : ℕ) (text : List ℕ) (s : Stmt) (l next : Layout) → reading text ≡ Ok s → with_stmt limit n text s l ≡ Ok next → Step limit n text l next
 unfolding with_stmt
@@ -72,7 +72,7 @@ stmt_step limit n text s l next f h = go (admitted limit n l.at s l.symbols) ref
         let same : record { places = l.places ++ record { text = text; stmt = s; at = l.at } ∷ []; symbols = symbols; at = at } ≡ next = cc in
         rw (← same) (record { s = s; read = f; admits = g; places = refl })
 
-step_of : (limit n : ℕ) (text : List ℕ) (l next : Layout) → with_line limit n text l ≡ Ok next → Step limit n text l next
+pub step_of : (limit n : ℕ) (text : List ℕ) (l next : Layout) → with_line limit n text l ≡ Ok next → Step limit n text l next
 unfolding with_line
 step_of limit n text l next h = go (reading text) refl h
   where

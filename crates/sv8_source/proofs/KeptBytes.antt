@@ -5,7 +5,7 @@ use Rattle.sv8_syntax.specs.Reading.{reading}
 use Rattle.sv8_asm.specs.Code.{bytes}
 use Rattle.sv8_asm.specs.Names.{Names}
 use Rattle.sv8_asm.specs.Uses.{agree}
-use Rattle.sv8_asm.proofs.UsedNames.{agreeing_names_decide}
+use Rattle.sv8_asm.proofs.Common.{agreeing_names_decide}
 use Rattle.sv8_source.specs.Layout.{Place, valued}
 use Rattle.sv8_source.specs.Text.{Assembly}
 use Rattle.sv8_source.proofs.InPlace.{Coded, coded_of}

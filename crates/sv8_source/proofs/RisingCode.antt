@@ -3,7 +3,7 @@ use Rattle.std.proofs.Common.{◌≡◌, ◌∙◌, ℕ, ◌+◌, ◌≤◌, Lis
 use Rattle.sv8_syntax.specs.declared.fault.LineFault.{LineFault}
 use Rattle.sv8_asm.specs.Code.{bytes}
 use Rattle.sv8_asm.specs.Names.{Names}
-use Rattle.sv8_asm.proofs.Sizes.{bytes_fit}
+use Rattle.sv8_asm.proofs.Common.{bytes_fit}
 use Rattle.sv8_source.specs.Fault.{after_line}
 use Rattle.sv8_source.specs.Layout.{Place, valued}
 use Rattle.sv8_source.specs.Listing.{ListedLine, shown}

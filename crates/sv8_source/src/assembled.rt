@@ -14,6 +14,7 @@ use crate::laid::Placed;
 use crate::places::{byte_in, bytes_at, bytes_in, lines_near, place_at, place_in, start_of};
 use crate::source::Listed;
 use crate::valued::push_bytes;
+use byteorder::{BigEndian, ByteOrder};
 use std::alloc::{AllocError, Global};
 use std::marker::Model;
 use std::rc::Rc;
@@ -275,7 +276,7 @@ impl Assembled {
             self.byte(near, address + 2),
             self.byte(near, address + 3),
         ];
-        u32::from_be_bytes(bytes)
+        BigEndian::read_u32(&bytes)
     }
 
     /// An address up to which, from this one on, no byte is placed: this one itself, or where the next line begins.

@@ -5,6 +5,7 @@ ghost use Rattle.sv8_source.specs.declared.fault.SourceFault.TheVariants.{Syntax
 ghost use Rattle.sv8_source.specs.Listing.{listing};
 ghost use Rattle.sv8_source.specs.Text.{fault};
 ghost use Rattle.sv8_source.specs.Laws.{TextsAreLines, LinesRise, LowestLineIsNamed, LeastFaultIsNamed};
+ghost use Rattle.sv8_source.specs.LayoutLaws.{LocationsFollow, NamesAreDefined, NearestLabelsCount, NothingBeyond};
 
 /// The listing of a source that assembles has its lines, in order.
 pub fn texts_are_lines()
@@ -25,6 +26,29 @@ pub fn lowest_line_is_named()
 /// Of several faults that a line has in the layout pass, the one of the lowest number is named.
 pub fn least_fault_is_named()
     ensures { LeastFaultIsNamed }
+{}
+
+/// The first line of a source stands at location 0, and each other line behind the one before it: at that line's location and its size
+/// there. No line stands above the limit.
+pub fn locations_follow()
+    ensures { LocationsFollow }
+{}
+
+/// Behind the layout pass a label stands for the location of its line, the name of `.equ` for its number, and no other name for
+/// anything.
+pub fn names_are_defined()
+    ensures { NamesAreDefined }
+{}
+
+/// A reference to a local label stands for the nearest line that has its digit: `f` for the first one behind the line of the reference,
+/// `b` for the last one up to and with that line.
+pub fn nearest_labels_count()
+    ensures { NearestLabelsCount }
+{}
+
+/// No line of a source places a byte at the limit or above it.
+pub fn nothing_beyond()
+    ensures { NothingBeyond }
 {}
 
 /// Sources that are refused, with the line at fault.

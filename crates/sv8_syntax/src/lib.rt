@@ -30,6 +30,3 @@ pub use line::parse_line;
 pub use register::Register;
 pub use statement::{Instruction, Label, Motion, Operation, Statement, Stmt, Width};
 pub use value::{Expr, Exprs, Imm, Name, RegOrImm, Text, Upper};
-
-#[cfg(test)]
-mod tests;

@@ -72,6 +72,15 @@ impl Read for Endless {
     }
 }
 
+/// A script with its answers.
+#[derive(Drop, Clone, Copy)]
+pub struct Script {
+    pub text: &'static [u8],
+    pub answers: &'static [u8],
+    /// Each command: where its last line ends in the text, and where its answer ends in the answers.
+    pub commands: &'static [(usize, usize)],
+}
+
 /// How many bytes of the answers are due once `given` bytes of the script have been read.
 pub fn due(commands: &[(usize, usize)], given: usize) -> usize {
     let mut answered = 0;

@@ -2,8 +2,9 @@
 
 ghost use Rattle.std.specs.Prelude.{◌<◌};
 
-use crate::ends::{Endless, Giver, Log, NotingTaker, Taker, WatchingGiver, due};
-use crate::scripts::{FIRST, FIRST_ANSWERS};
+use crate::ends::{Endless, Giver, Log, NotingTaker, Script, Taker, WatchingGiver, due};
+use crate::refusals::REFUSALS;
+use crate::scripts::{FIRST, FIRST_ANSWERS, shows};
 use std::alloc::Global;
 use std::cell::Cell;
 use std::test::Fail;
@@ -12,26 +13,22 @@ use sv8_shell::{RunFault, run};
 
 type Small = Bench<8, 1, 256>;
 
-/// Each command of the first run: where its last line ends in the script, and where its answer ends in the answers.
-const COMMANDS: [(usize, usize); 4] = [(58, 3), (63, 137), (70, 619), (75, 622)];
+const FIRST_RUN: Script = Script {
+    text: FIRST,
+    answers: FIRST_ANSWERS,
+    commands: &[(58, 3), (63, 137), (70, 619), (75, 622)],
+};
 
-/// Commands that are refused: by their words, by the workbench, by their lines, and for lines that are not there.
-const REFUSED: &[u8] = b"frob\nunirq 0 0\nedit 1 0 1\nfrob\nedit 1 0 2\nnop\n";
+/// Commands that are refused: by their words, by the workbench, by their lines, and for lines that are not there. The last is answered at
+/// the end of the script, and is none of the commands.
+const REFUSED: Script = Script {
+    text: b"frob\nunirq 0 0\nedit 1 0 1\nfrob\nedit 1 0 2\nnop\n",
+    answers: b"refused 18 BadCommand\nrefused 15 BadLevel\nrefused 6 Syntax line 1\nrefused 18 BadCommand\n",
+    commands: &[(5, 22), (15, 42), (31, 66)],
+};
 
-const REFUSED_ANSWERS: &[u8] =
-    b"refused 18 BadCommand\nrefused 15 BadLevel\nrefused 6 Syntax line 1\nrefused 18 BadCommand\n";
-
-/// Each of them but the last, whose lines are not there: it is answered at the end of the script.
-const REFUSED_COMMANDS: [(usize, usize); 3] = [(5, 22), (15, 42), (31, 66)];
-
-/// Whether a script in pieces of at most `most` bytes has these answers, and each of them was flushed when the next piece was read.
-fn is_flushed_in_time(
-    alloc: Global,
-    script: &[u8],
-    answers: &[u8],
-    commands: &[(usize, usize)],
-    most: usize,
-) -> Result<bool, Fail>
+/// Whether a script in pieces of at most `most` bytes has its answers, and each of them was flushed when the next piece was read.
+fn is_flushed_in_time(alloc: Global, script: &Script, most: usize) -> Result<bool, Fail>
     requires { 0 < most }
 {
     let mut bench = Small::new(alloc)?;
@@ -40,34 +37,27 @@ fn is_flushed_in_time(
         flushed: Cell::new(0),
     };
     let mut reader = WatchingGiver {
-        rest: script,
+        rest: script.text,
         most,
         log: &log,
-        commands,
+        commands: script.commands,
     };
     let mut writer = NotingTaker {
         bytes: Vec::new(alloc),
         log: &log,
     };
     let ended = run(alloc, &mut bench, &mut reader, &mut writer);
-    Ok(ended == Ok(()) && writer.bytes.as_slice() == answers && log.flushed.get() == answers.len())
+    let all = script.answers;
+    Ok(ended == Ok(()) && writer.bytes.as_slice() == all && log.flushed.get() == all.len())
 }
 
 #[test]
 fn answers_are_flushed_before_the_next_read(rt: HostRuntime) -> Result<(), Fail> {
     for most in [1, 7, 58, 64] {
-        assert!(rt; is_flushed_in_time(rt.alloc(), FIRST, FIRST_ANSWERS, &COMMANDS, most)?);
+        assert!(rt; is_flushed_in_time(rt.alloc(), &FIRST_RUN, most)?);
     }
     for most in [1, 5, 16, 99] {
-        assert!(rt;
-            is_flushed_in_time(
-                rt.alloc(),
-                REFUSED,
-                REFUSED_ANSWERS,
-                &REFUSED_COMMANDS,
-                most
-            )?
-        );
+        assert!(rt; is_flushed_in_time(rt.alloc(), &REFUSED, most)?);
     }
     Ok(())
 }
@@ -88,73 +78,96 @@ fn nothing_is_read_after_quit(rt: HostRuntime) -> Result<(), Fail> {
     Ok(())
 }
 
-/// Whether bytes are the first part of the answers, of this length.
-fn is_first_part(written: &[u8], length: usize) -> bool {
-    written.len() == length && FIRST_ANSWERS.starts_with(written)
+/// Whether bytes are the first part of a script's answers, of this length.
+fn is_first_part(script: &Script, written: &[u8], length: usize) -> bool {
+    written.len() == length && script.answers.starts_with(written)
+}
+
+/// Whether a script whose reader gives a byte a call, and then fails, has the answers to its whole lines.
+fn is_answered_before_a_read_fault(
+    alloc: Global,
+    script: &Script,
+    calls: usize,
+) -> Result<bool, Fail> {
+    let mut bench = Small::new(alloc)?;
+    let mut reader = Giver {
+        rest: script.text,
+        most: 1,
+        calls,
+    };
+    let mut writer = Taker {
+        bytes: Vec::new(alloc),
+        most: 99,
+        calls: 10_000,
+    };
+    let ended = run(alloc, &mut bench, &mut reader, &mut writer);
+    Ok(
+        ended == Err(RunFault::Read)
+            && is_first_part(script, writer.bytes.as_slice(), due(script.commands, calls)),
+    )
 }
 
 #[test]
-fn each_read_of_the_first_run_fails(rt: HostRuntime) -> Result<(), Fail> {
-    for calls in 0..=FIRST.len() {
-        let mut bench = Small::new(rt.alloc())?;
-        let mut reader = Giver {
-            rest: FIRST,
-            most: 1,
-            calls,
-        };
-        let mut writer = Taker {
-            bytes: Vec::new(rt.alloc()),
-            most: 99,
-            calls: 10_000,
-        };
-        let ended = run(rt.alloc(), &mut bench, &mut reader, &mut writer);
-        let whole = calls == FIRST.len();
-        assert!(rt; ended == if whole { Ok(()) } else { Err(RunFault::Read) });
-        assert!(rt; is_first_part(writer.bytes.as_slice(), due(&COMMANDS, calls)));
+fn each_read_fails(rt: HostRuntime) -> Result<(), Fail> {
+    for script in [FIRST_RUN, REFUSALS] {
+        for calls in 0..script.text.len() {
+            assert!(rt; is_answered_before_a_read_fault(rt.alloc(), &script, calls)?);
+        }
     }
+    // The first run ends by itself; the other script is read to its end, which is one call more.
+    assert!(rt; !is_answered_before_a_read_fault(rt.alloc(), &FIRST_RUN, FIRST.len())?);
+    assert!(rt; is_answered_before_a_read_fault(rt.alloc(), &REFUSALS, REFUSALS.text.len())?);
     Ok(())
 }
 
 /// How many bytes are written by so many calls that take one byte each, or flush behind an answer.
-fn taken_by(calls: usize) -> usize {
+fn taken_by(commands: &[(usize, usize)], calls: usize) -> usize {
     let mut left = calls;
     let mut taken = 0;
-    for (_, answer_end) in COMMANDS {
+    for (_, answer_end) in commands {
         let bytes = answer_end.saturating_sub(taken);
         if left <= bytes {
             return taken.saturating_add(left);
         }
         left -= bytes + 1;
-        taken = answer_end;
+        taken = *answer_end;
     }
     taken
 }
 
+/// How a script ends whose writer takes a byte a call and then fails, if it has written what those calls take.
+fn end_before_a_write_fault(
+    alloc: Global,
+    script: &Script,
+    calls: usize,
+) -> Result<Option<Result<(), RunFault>>, Fail> {
+    let mut bench = Small::new(alloc)?;
+    let mut reader = Giver {
+        rest: script.text,
+        most: 7,
+        calls: 1_000,
+    };
+    let mut writer = Taker {
+        bytes: Vec::new(alloc),
+        most: 1,
+        calls,
+    };
+    let ended = run(alloc, &mut bench, &mut reader, &mut writer);
+    let taken = taken_by(script.commands, calls);
+    let is_written = is_first_part(script, writer.bytes.as_slice(), taken);
+    Ok(if is_written { Some(ended) } else { None })
+}
+
 #[test]
-fn each_write_of_the_first_run_fails(rt: HostRuntime) -> Result<(), Fail> {
-    let all = FIRST_ANSWERS.len().saturating_add(COMMANDS.len());
-    for calls in 0..=all {
-        let mut bench = Small::new(rt.alloc())?;
-        let mut reader = Giver {
-            rest: FIRST,
-            most: 7,
-            calls: 1_000,
-        };
-        let mut writer = Taker {
-            bytes: Vec::new(rt.alloc()),
-            most: 1,
-            calls,
-        };
-        let ended = run(rt.alloc(), &mut bench, &mut reader, &mut writer);
-        assert!(rt;
-            ended
-                == if calls == all {
-                    Ok(())
-                } else {
-                    Err(RunFault::Write)
-                }
-        );
-        assert!(rt; is_first_part(writer.bytes.as_slice(), taken_by(calls)));
+fn each_write_fails(rt: HostRuntime) -> Result<(), Fail> {
+    for script in [FIRST_RUN, REFUSALS] {
+        let all = script.answers.len().saturating_add(script.commands.len());
+        for calls in 0..all {
+            let ended = end_before_a_write_fault(rt.alloc(), &script, calls)?;
+            assert!(rt; ended == Some(Err(RunFault::Write)));
+        }
+        let ended = end_before_a_write_fault(rt.alloc(), &script, all)?;
+        assert!(rt; ended == Some(Ok(())));
     }
     Ok(())
 }
@@ -163,14 +176,18 @@ fn each_write_of_the_first_run_fails(rt: HostRuntime) -> Result<(), Fail> {
 fn half_a_line_before_a_read_fault(rt: HostRuntime) -> Result<(), Fail> {
     let mut bench = Small::new(rt.alloc())?;
     let mut reader = Giver {
-        rest: b"frob\nfro",
-        most: 8,
+        rest: b"regs 0\nregs",
+        most: 11,
         calls: 1,
     };
     let mut written = Vec::new(rt.alloc());
     let ended = run(rt.alloc(), &mut bench, &mut reader, &mut written);
+    let due = shows(
+        rt.alloc(),
+        b"step 0 run\npc 00000000 npc 00000004 annul 0\n",
+    )?;
     assert!(rt; ended == Err(RunFault::Read));
-    assert!(rt; written.as_slice() == b"refused 18 BadCommand\n".as_slice());
+    assert!(rt; written.as_slice() == due.as_slice());
     Ok(())
 }
 

@@ -1,4 +1,5 @@
-//! Tests of the whole workbench: scripts and their answers, and readers and writers that fail.
+//! Tests of commands: their texts, scripts and their answers, refusals, events, and readers and writers that fail. These stand here, and not in the
+//! crates that they test, as each crate with tests is proved twice.
 #![tactic(auto)]
 
 #[cfg(test)]

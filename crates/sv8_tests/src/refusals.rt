@@ -1,6 +1,7 @@
 //! Refusals, each with its number, its name and its line; a refused command changes nothing.
 
-use std::alloc::Global;
+use crate::ends::Script;
+use std::alloc::{AllocError, Global};
 use std::test::Fail;
 use sv8_bench::Bench;
 use sv8_shell::run;
@@ -20,6 +21,72 @@ fn refused_edit_changes_nothing(rt: HostRuntime) -> Result<(), Fail> {
     let wanted =
         b"ok\nrefused 7 UnknownName line 2\n1 00000000 01000000 |nop\nok\nrefused 2 NoSuchLine\nrefused 18 BadCommand\nrefused 13 StepTooLarge\n1 00000000 01000000 |nop\nok\nok\n";
     assert!(rt; answers(rt.alloc(), script, wanted)?);
+    Ok(())
+}
+
+/// An edit, one that is refused, the listing, and a refusal of each kind.
+pub const REFUSALS: Script = Script {
+    text: b"edit 1 0 1\nnop\nedit 1 1 2\n.word 7\nbne nowhere\nlist\npoke 1000001 0 0\npoke 0 2 0\nirq 0 16\nunpoke 0 0\nedit 3 3 0\nfrob\n",
+    answers: b"ok\nrefused 7 UnknownName line 2\n1 00000000 01000000 |nop\nok\nrefused 13 StepTooLarge\nrefused 14 BadAddress\nrefused 15 BadLevel\nrefused 16 NothingThere\nrefused 2 NoSuchLine\nrefused 18 BadCommand\n",
+    commands: &[
+        (15, 3),
+        (46, 32),
+        (51, 60),
+        (68, 84),
+        (79, 106),
+        (88, 126),
+        (99, 150),
+        (110, 171),
+        (115, 193),
+    ],
+};
+
+/// What is answered to the last command of `REFUSALS` where it is cut within, to these lengths: the lines of the first edit are `n` or
+/// `no`; the second line of the other one has no target; or has another name; and the request is of level 1.
+const CUT_ANSWERS: [(usize, usize, &[u8]); 4] = [
+    (12, 13, b"refused 6 Syntax line 1\n"),
+    (35, 38, b"refused 6 Syntax line 2\n"),
+    (39, 44, b"refused 7 UnknownName line 2\n"),
+    (86, 86, b"ok\n"),
+];
+
+/// What is answered to a command that is cut within where `REFUSALS` is cut to this length.
+fn cut_answer(length: usize) -> &'static [u8] {
+    for (first, last, answer) in CUT_ANSWERS {
+        if first <= length && length <= last {
+            return answer;
+        }
+    }
+    b"refused 18 BadCommand\n"
+}
+
+/// The answers to `REFUSALS` where it is cut to this length.
+fn cut_answers(alloc: Global, length: usize) -> Result<Vec<u8>, AllocError> {
+    let mut whole = 0;
+    let mut within = length != 0;
+    for (script_end, answer_end) in REFUSALS.commands {
+        // The last line needs no LF.
+        let last_byte = script_end.saturating_sub(1);
+        if last_byte <= length {
+            whole = *answer_end;
+            within = *script_end < length;
+        }
+    }
+    let (answers, _) = REFUSALS.answers.split_at(whole.min(REFUSALS.answers.len()));
+    let mut text = Vec::from_slice(alloc, answers)?;
+    if within {
+        text.extend_from_slice(cut_answer(length))?;
+    }
+    Ok(text)
+}
+
+#[test]
+fn a_script_cut_at_each_byte(rt: HostRuntime) -> Result<(), Fail> {
+    let alloc = rt.alloc();
+    for length in 0..=REFUSALS.text.len() {
+        let (script, _) = REFUSALS.text.split_at(length);
+        assert!(rt; answers(alloc, script, &cut_answers(alloc, length)?)?);
+    }
     Ok(())
 }
 

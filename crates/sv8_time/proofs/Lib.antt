@@ -10,3 +10,4 @@ pub mod PokeEdits
 pub mod InputPlaces
 pub mod BlockPlaces
 pub mod SoundEvents
+pub mod Common

@@ -118,10 +118,10 @@ record Fit (m : List Bool) (limit : ℕ) (pokes : List BytePoke) : Type 0 where
   pub places : Each (IsPokePlace limit) pokes
   pub marked : Each (λ p. is_marked m p.step ≡ true) pokes
 
-fit_put : (m : List Bool) (limit step address value : ℕ) (pokes : List BytePoke) → step ≤ 1000000 → address < limit → is_marked m step ≡ true → Fit m limit pokes → Fit m limit (put_poke (poke_of step address value) pokes)
-fit_put m limit step address value pokes a b e h = record {
+fit_put : (m : List Bool) (limit step address value : ℕ) (pokes : List BytePoke) → step ≤ 1000000 → address < limit → value < 256 → is_marked m step ≡ true → Fit m limit pokes → Fit m limit (put_poke (poke_of step address value) pokes)
+fit_put m limit step address value pokes a b v e h = record {
   rise = rising_placed poke_before (key_order (λ p. p.step) (λ p. p.address)) (poke_of step address value) pokes h.rise;
-  places = each_placed (IsPokePlace limit) poke_before (poke_of step address value) pokes (a, b) h.places;
+  places = each_placed (IsPokePlace limit) poke_before (poke_of step address value) pokes (a, b, v) h.places;
   marked = each_placed (λ p. is_marked m p.step ≡ true) poke_before (poke_of step address value) pokes e h.marked;
 }
 
@@ -154,27 +154,27 @@ poke_few s step address new h e k = one_more (event_count s) (word_count new + l
 step_bound : (step : ℕ) → nat_lt 1000000 step ≡ false → step ≤ 1000000
 step_bound step e = ltb-false 1000000 step e
 
-pub sound_poke_byte : (m n : List Bool) (s : Schedule) (step address value : ℕ) (new : List BytePoke) → Covers m n → is_marked n step ≡ true → Sound m s → set_poke_byte_fault step address s ≡ None → new ≡ put_poke (poke_of step address value) s.pokes
+pub sound_poke_byte : (m n : List Bool) (s : Schedule) (step address value : ℕ) (new : List BytePoke) → value < 256 → Covers m n → is_marked n step ≡ true → Sound m s → set_poke_byte_fault step address s ≡ None → new ≡ put_poke (poke_of step address value) s.pokes
     → word_count new ≡ cond (has_word step address s.pokes) (word_count s.pokes) (word_count s.pokes + 1) → Sound n (with_pokes new s)
-sound_poke_byte m n s step address value new c e h f g k =
+sound_poke_byte m n s step address value new byte c e h f g k =
     let many = is_one_too_many (has_word step address s.pokes) s in
     let a = step_bound step (first_none (nat_lt 1000000 step) StepTooLarge _ f) in
     let b = ltb-true address s.limit (not_not (nat_lt address s.limit) (second_none (nat_lt 1000000 step) (not (nat_lt address s.limit)) many StepTooLarge BadAddress TooManyEvents f)) in
     let t = third_none (nat_lt 1000000 step) (not (nat_lt address s.limit)) many StepTooLarge BadAddress TooManyEvents f in
-    sound_fit m n s new c h (subst (λ l. Fit n s.limit l) (sym g) (fit_put n s.limit step address value s.pokes a b e (fit_of m n s c h))) (poke_few s step address new h.timeline.few t k)
+    sound_fit m n s new c h (subst (λ l. Fit n s.limit l) (sym g) (fit_put n s.limit step address value s.pokes a b byte e (fit_of m n s c h))) (poke_few s step address new h.timeline.few t k)
 
-pub sound_poke : (m n : List Bool) (s : Schedule) (step address v w x y : ℕ) (new : List BytePoke) → Covers m n → is_marked n step ≡ true → Sound m s → set_poke_fault step address s ≡ None
+pub sound_poke : (m n : List Bool) (s : Schedule) (step address v w x y : ℕ) (new : List BytePoke) → v < 256 → w < 256 → x < 256 → y < 256 → Covers m n → is_marked n step ≡ true → Sound m s → set_poke_fault step address s ≡ None
     → new ≡ put_poke (poke_of step (address + 3) y) (put_poke (poke_of step (address + 2) x) (put_poke (poke_of step (address + 1) w) (put_poke (poke_of step address v) s.pokes)))
     → word_count new ≡ cond (has_word step address s.pokes) (word_count s.pokes) (word_count s.pokes + 1) → Sound n (with_pokes new s)
-sound_poke m n s step address v w x y new c e h f g k =
+sound_poke m n s step address v w x y new v_fits w_fits x_fits y_fits c e h f g k =
     let many = is_one_too_many (has_word step address s.pokes) s in
     let a = step_bound step (first_none (nat_lt 1000000 step) StepTooLarge _ f) in
     let b = (word_of_fault step address s many TooManyEvents f).1 in
     let t = third_none (nat_lt 1000000 step) (not (is_word address s.limit)) many StepTooLarge BadAddress TooManyEvents f in
-    let one = fit_put n s.limit step address v s.pokes a (omega arith) e (fit_of m n s c h) in
-    let two = fit_put n s.limit step (address + 1) w _ a (omega arith) e one in
-    let three = fit_put n s.limit step (address + 2) x _ a (omega arith) e two in
-    let four = fit_put n s.limit step (address + 3) y _ a (omega arith) e three in
+    let one = fit_put n s.limit step address v s.pokes a (omega arith) v_fits e (fit_of m n s c h) in
+    let two = fit_put n s.limit step (address + 1) w _ a (omega arith) w_fits e one in
+    let three = fit_put n s.limit step (address + 2) x _ a (omega arith) x_fits e two in
+    let four = fit_put n s.limit step (address + 3) y _ a (omega arith) y_fits e three in
     sound_fit m n s new c h (subst (λ l. Fit n s.limit l) (sym g) four) (poke_few s step address new h.timeline.few t k)
 
 cut_few : (s : Schedule) (new : List BytePoke) → event_count s ≤ 65536 → word_count new ≤ word_count s.pokes → word_count new + length s.inputs + length s.requests ≤ 65536

@@ -251,7 +251,7 @@ IsNextRequest level after requests = IsNext (λ n. has_request n level requests)
 -- what holds of every timeline
 
 abbrev pub IsPokePlace : ℕ → BytePoke → Type 0
-IsPokePlace limit p = (p.step ≤ 1000000) × (p.address < limit)
+IsPokePlace limit p = (p.step ≤ 1000000) × (p.address < limit) × (p.value < 256)
 
 abbrev pub IsInputPlace : Input → Type 0
 IsInputPlace i = (i.step ≤ 1000000) × (length i.bytes ≤ 1024)

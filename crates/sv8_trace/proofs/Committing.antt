@@ -6,7 +6,7 @@ use Rattle.std.proofs.Math.Seq.{get_or-append_seam}
 use Rattle.std.proofs.Math.Nat.{mul-div_cancel_left}
 use Rattle.sv8_phys.specs.Contents.{AreContents}
 use Rattle.sv8_history.specs.Trace as history
-use Rattle.sv8_history.proofs.Footprints.{footprint_same}
+use Rattle.sv8_history.proofs.Common.{footprint_same}
 use Rattle.sv8_model.specs.Cells.{Cell}
 use Rattle.sv8_cpu.specs.State.{State}
 use Rattle.sv8_cpu.specs.Recorded.{machine}

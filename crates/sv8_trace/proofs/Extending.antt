@@ -1,25 +1,22 @@
 -- One interval more.
-use Rattle.std.proofs.Common.{◌≡◌, ℕ, zero, suc, ◌+◌, ◌-◌, ◌*◌, ◌/◌, ◌%◌, ◌<◌, ◌≤◌, List, [], ◌∷◌, ◌++◌, length, get_or, Bool, true, false, not, ◌&&◌, ◌||◌, cond, leb, ltb, Option, Some, None, is_some, refl, sym, ◌∙◌, ap, ap₂, subst, arith, inl, inr, ◌⊎◌, lt-ltb, le-ltb, le-leb, length-append, mul_comm, mul-le-mul_left, div-lt_iff_lt-mul, le-div_iff_mul-le}
-use Rattle.std.proofs.Math.Nat.{mul-div_cancel_left, div-add-mod, mod-lt, le_of_mul-le-mul_left}
+use Rattle.std.proofs.Common.{◌≡◌, ℕ, zero, suc, ◌+◌, ◌-◌, ◌*◌, ◌/◌, ◌%◌, ◌<◌, ◌≤◌, List, [], ◌∷◌, ◌++◌, length, get_or, Bool, false, ◌&&◌, ◌||◌, cond, leb, refl, sym, ◌∙◌, ap, ap₂, arith, inl, inr, ◌⊎◌, lt-ltb, le-ltb, le-leb, length-append, mul_comm, mul-le-mul_left, div-lt_iff_lt-mul, le-div_iff_mul-le}
+use Rattle.std.proofs.Math.Nat.{mul-div_cancel_left}
 use Rattle.std.proofs.lemmas.Nat.{div-mul-add, mod-mul-add}
 use Rattle.std.proofs.lemmas.Bool.{cases_lt, lt-leb}
 use Rattle.std.proofs.lemmas.List.{get_or_append_left, get_or_past}
 use Rattle.std.proofs.Math.Seq.{get_or-append_seam}
-use Rattle.sv8_model.specs.Cells.{Cell, Value}
+use Rattle.sv8_model.specs.Cells.{Cell}
 use Rattle.sv8_history.specs.Machine.{Footprint, SameFootprint, Run, touches_of}
 use Rattle.sv8_history.specs.Trace as history
 use Rattle.sv8_history.specs.Trace.{some_from, next_checkpoint}
 use Rattle.sv8_history.specs.Growing.{extended, steps_from, state_after, notes_after, kept_after}
-use Rattle.sv8_history.proofs.Footprints.{footprint_same, footprint_then, footprint_back}
-use Rattle.sv8_history.proofs.Spans.{some_from-like}
+use Rattle.sv8_history.proofs.Common.{footprint_same, some_from-like}
 use Rattle.sv8_time.specs.Schedule.{Schedule}
 use Rattle.sv8_cpu.specs.State.{State}
 use Rattle.sv8_cpu.specs.Run.{step, footprint}
 use Rattle.sv8_cpu.specs.Events.{with_events}
-use Rattle.sv8_cpu.specs.Recorded.{machine, event_at, poke_of, footprint_of, get, AreEvents}
+use Rattle.sv8_cpu.specs.Recorded.{machine, event_at, footprint_of, AreEvents}
 use Rattle.sv8_trace.specs.declared.interval.Interval.{Interval}
-use Rattle.sv8_trace.specs.Steps.{footprint_in}
-use Rattle.sv8_trace.specs.Kept.{kept_in}
 use Rattle.sv8_trace.specs.Recorder.{steps_on, footprint_on, touches_on, IsRecorded}
 use Rattle.sv8_trace.specs.Recording.{Recording, blank, no_interval, trace_of, last_point, IsExtended}
 

@@ -1,6 +1,6 @@
 -- Notes of more touches.
 use Rattle.std.proofs.lemmas.List.{take_more}
-use Rattle.std.proofs.Common.{take, length, get_or, ◌+◌, ◌≡◌, ℕ, ◌≤◌, ◌<◌, suc, List, [], ◌∷◌, ◌++◌, ◌==◌, Bool, true, false, not, if◌then◌else◌, ◌&&◌, ◌||◌, refl, sym, ◌∙◌, ap, ap₂, eqb-true, eq-eqb}
+use Rattle.std.proofs.Common.{take, length, get_or, ◌+◌, ◌≡◌, ℕ, ◌<◌, List, [], ◌∷◌, ◌++◌, ◌==◌, Bool, true, false, ◌&&◌, ◌||◌, refl, sym, ◌∙◌, ap, eqb-true, eq-eqb}
 use Rattle.std.specs.List.{list_any}
 use Rattle.sv8_model.specs.declared.touch.Touch.{Touch}
 use Rattle.sv8_model.specs.declared.touch.Touch.TheVariants.{Read, Write, Input, Levels, Expiry}
@@ -11,7 +11,7 @@ use Rattle.sv8_model.specs.Footprint.{is_read_of, is_write_of, is_input, asks, i
 use Rattle.sv8_model.specs.Cells.{Cell, ram_byte, waiting_bytes, pending_level, is_read}
 use Rattle.sv8_trace.specs.declared.notes.WordNote.{WordNote}
 use Rattle.sv8_trace.specs.Touched.{is_told_written}
-use Rattle.sv8_trace.specs.Steps.{Steps, Gains, is_word_of, is_asked_in, is_among, reads_in, writes_in}
+use Rattle.sv8_trace.specs.Steps.{Steps, Gains, is_word_of, has_word, is_asked_in, is_among, reads_in, writes_in}
 
 flip : (p q : Bool) → (p ≡ true → q ≡ true) → (q ≡ true → p ≡ true) → p ≡ q
 flip true q f g = sym (f refl)
@@ -69,74 +69,50 @@ gains_nothing offset s = record {
 -- ---- one touch
 
 module _ (offset : ℕ) (s : Steps) where
-  -- a word that is read gives nothing that was written, and the other way round
-  abbrev word : (is_write : Bool) (a : ℕ) → WordNote
-  word is_write a = record { address = a; offset = offset; is_write = is_write }
+  abbrev word : ℕ → WordNote
+  word a = record { address = a; offset = offset }
 
-  seen : (is_write kind : Bool) (a w j : ℕ) → is_word_of kind w j (word is_write a) ≡ (j == offset && ((a == w) && (if is_write then kind else not kind)))
-  seen is_write kind a w j = ap (λ o. (a == w && o) && (if is_write then kind else not kind)) (swap offset j) ∙ order (a == w) (j == offset) (if is_write then kind else not kind)
+  -- the note of a word more
+  noted : (notes : List WordNote) (a w j : ℕ) → has_word (notes ++ word a ∷ []) w j ≡ (has_word notes w j || (j == offset && (a == w || false)))
+  noted notes a w j = any_one (is_word_of w j) notes (word a) ∙ ap (λ b. has_word notes w j || b) (ap (λ o. a == w && o) (swap offset j) ∙ order (a == w) (j == offset))
     where
-      order : (x o k : Bool) → ((x && o) && k) ≡ (o && (x && k))
-      order true true k = refl
-      order true false k = refl
-      order false true k = refl
-      order false false k = refl
+      order : (x o : Bool) → (x && o) ≡ (o && (x || false))
+      order true true = refl
+      order true false = refl
+      order false true = refl
+      order false false = refl
 
-  pub gains_read : (a : ℕ) → Gains offset (Read a ∷ []) s (record s { words = s.words ++ record { address = a; offset = offset; is_write = false } ∷ [] })
+  pub gains_read : (a : ℕ) → Gains offset (Read a ∷ []) s (record s { reads = s.reads ++ record { address = a; offset = offset } ∷ [] })
   gains_read a = record {
     reads = λ c j. reads c j;
     writes = λ c j. writes c j;
     takes = λ j. none (is_among j s.inputs) (j == offset);
   }
     where
-      same : (b : Bool) → (b && true) ≡ (b || false)
-      same true = refl
-      same false = refl
-
-      no : (b : Bool) → (b && false) ≡ false
-      no true = refl
-      no false = refl
-
-      reads : (c : Cell) (j : ℕ) → reads_in (record s { words = s.words ++ record { address = a; offset = offset; is_write = false } ∷ [] }) c j ≡ (reads_in s c j || (j == offset && is_read (Read a ∷ []) c))
-      reads (ram_byte i) j =
-          any_one (is_word_of false (word_address i) j) s.words (word false a)
-          ∙ ap (λ b. list_any (is_word_of false (word_address i) j) s.words || b) (seen false false a (word_address i) j ∙ ap (λ b. j == offset && b) (same (a == word_address i)))
+      reads : (c : Cell) (j : ℕ) → reads_in (record s { reads = s.reads ++ record { address = a; offset = offset } ∷ [] }) c j ≡ (reads_in s c j || (j == offset && is_read (Read a ∷ []) c))
+      reads (ram_byte i) j = noted s.reads a (word_address i) j
       reads waiting_bytes j = none _ (j == offset)
       reads (pending_level l) j = none _ (j == offset)
 
-      writes : (c : Cell) (j : ℕ) → writes_in (record s { words = s.words ++ record { address = a; offset = offset; is_write = false } ∷ [] }) c j ≡ (writes_in s c j || (j == offset && is_told_written (Read a ∷ []) c))
-      writes (ram_byte i) j =
-          any_one (is_word_of true (word_address i) j) s.words (word false a)
-          ∙ ap (λ b. list_any (is_word_of true (word_address i) j) s.words || b) (seen false true a (word_address i) j ∙ ap (λ b. j == offset && b) (no (a == word_address i)))
+      writes : (c : Cell) (j : ℕ) → writes_in s c j ≡ (writes_in s c j || (j == offset && is_told_written (Read a ∷ []) c))
+      writes (ram_byte i) j = none _ (j == offset)
       writes waiting_bytes j = none _ (j == offset)
       writes (pending_level l) j = (gains_nothing offset s).writes (pending_level l) j
 
-  pub gains_write : (a : ℕ) → Gains offset (Write a ∷ []) s (record s { words = s.words ++ record { address = a; offset = offset; is_write = true } ∷ [] })
+  pub gains_write : (a : ℕ) → Gains offset (Write a ∷ []) s (record s { writes = s.writes ++ record { address = a; offset = offset } ∷ [] })
   gains_write a = record {
     reads = λ c j. reads c j;
     writes = λ c j. writes c j;
     takes = λ j. none (is_among j s.inputs) (j == offset);
   }
     where
-      same : (b : Bool) → (b && true) ≡ (b || false)
-      same true = refl
-      same false = refl
-
-      no : (b : Bool) → (b && false) ≡ false
-      no true = refl
-      no false = refl
-
-      reads : (c : Cell) (j : ℕ) → reads_in (record s { words = s.words ++ record { address = a; offset = offset; is_write = true } ∷ [] }) c j ≡ (reads_in s c j || (j == offset && is_read (Write a ∷ []) c))
-      reads (ram_byte i) j =
-          any_one (is_word_of false (word_address i) j) s.words (word true a)
-          ∙ ap (λ b. list_any (is_word_of false (word_address i) j) s.words || b) (seen true false a (word_address i) j ∙ ap (λ b. j == offset && b) (no (a == word_address i)))
+      reads : (c : Cell) (j : ℕ) → reads_in s c j ≡ (reads_in s c j || (j == offset && is_read (Write a ∷ []) c))
+      reads (ram_byte i) j = none _ (j == offset)
       reads waiting_bytes j = none _ (j == offset)
       reads (pending_level l) j = none _ (j == offset)
 
-      writes : (c : Cell) (j : ℕ) → writes_in (record s { words = s.words ++ record { address = a; offset = offset; is_write = true } ∷ [] }) c j ≡ (writes_in s c j || (j == offset && is_told_written (Write a ∷ []) c))
-      writes (ram_byte i) j =
-          any_one (is_word_of true (word_address i) j) s.words (word true a)
-          ∙ ap (λ b. list_any (is_word_of true (word_address i) j) s.words || b) (seen true true a (word_address i) j ∙ ap (λ b. j == offset && b) (same (a == word_address i)))
+      writes : (c : Cell) (j : ℕ) → writes_in (record s { writes = s.writes ++ record { address = a; offset = offset } ∷ [] }) c j ≡ (writes_in s c j || (j == offset && is_told_written (Write a ∷ []) c))
+      writes (ram_byte i) j = noted s.writes a (word_address i) j
       writes waiting_bytes j = none _ (j == offset)
       writes (pending_level l) j = (gains_nothing offset s).writes (pending_level l) j
 

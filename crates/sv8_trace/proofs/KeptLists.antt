@@ -1,9 +1,9 @@
 -- Kept values in their lists.
-use Rattle.std.proofs.Common.{◌≡◌, ℕ, List, [], ◌∷◌, ◌++◌, ◌==◌, filter, Bool, true, false, not, ◌&&◌, cond, Option, Some, None, is_some, option_map, refl, sym, ◌∙◌, ap, ap₂, eqb-true, eq-eqb}
+use Rattle.std.proofs.Common.{◌≡◌, ℕ, List, [], ◌∷◌, ◌++◌, ◌==◌, filter, Bool, true, false, not, ◌&&◌, cond, Option, Some, None, is_some, refl, sym, ◌∙◌, ap, eqb-true, eq-eqb}
 use Rattle.std.proofs.lemmas.Bool.{true≢false}
 use Rattle.sv8_model.specs.Cells as model
 use Rattle.sv8_model.specs.Cells.{ram_byte, waiting_bytes, pending_level, Value, same_cell}
-use Rattle.sv8_cpu.proofs.RecordedCells.{same_is}
+use Rattle.sv8_cpu.proofs.Common.{same_is}
 use Rattle.sv8_trace.specs.declared.cell.Cell.{Cell}
 use Rattle.sv8_trace.specs.declared.cell.Content.{Content}
 use Rattle.sv8_trace.specs.declared.kept.Kept.{Kept}

@@ -3,13 +3,16 @@ pub mod Touching
 pub mod Gaining
 pub mod Firsts
 pub mod Nearness
+pub mod RunLists
 pub mod Placed
 pub mod Below
 pub mod Recorded
 pub mod Searching
 pub mod Extending
 pub mod Growing
+pub mod Marking
 pub mod Spreading
 pub mod Preparing
 pub mod Committing
 pub mod Editing
+pub mod Common

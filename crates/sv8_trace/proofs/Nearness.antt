@@ -1,12 +1,12 @@
 -- What patches make of traces that show the same.
-use Rattle.std.proofs.Common.{◌≡◌, ℕ, zero, suc, ◌+◌, ◌*◌, ◌/◌, ◌<◌, ◌≤◌, ◌==◌, List, [], ◌∷◌, Bool, true, false, not, ◌&&◌, cond, leb, ltb, Option, Some, None, is_some, option_map, refl, sym, ◌∙◌, ap, ap₂, arith, leb-true}
+use Rattle.std.proofs.Common.{◌≡◌, ℕ, suc, ◌+◌, ◌*◌, ◌/◌, ◌<◌, ◌≤◌, List, [], ◌∷◌, Bool, true, false, not, ◌&&◌, cond, leb, ltb, Option, Some, None, is_some, refl, sym, ◌∙◌, ap, arith, leb-true}
 use Rattle.std.proofs.lemmas.Bool.{true≢false}
 use Rattle.std.proofs.Math.Nat.{le_of_mul-le-mul_left}
-use Rattle.sv8_history.specs.Machine.{Machine, Footprint, SameFootprint, Notes, writes_of}
+use Rattle.sv8_history.specs.Machine.{Machine, SameFootprint, Notes, writes_of}
 use Rattle.sv8_history.specs.Trace.{Trace, Agrees, some_from, next_checkpoint}
 use Rattle.sv8_history.specs.Changes.{Change, Cause, Image, Poke, Clear, is_live}
-use Rattle.sv8_history.specs.Patches.{patched_point, kept_at_end, kept_by_poke, spread, keeping, set_poke, uncover, patch, patch_all}
-use Rattle.sv8_history.proofs.Footprints.{footprint_same}
+use Rattle.sv8_history.specs.Patches.{patched_point, kept_at_end, kept_by_poke, spread, set_poke, uncover, patch, patch_all}
+use Rattle.sv8_history.proofs.Common.{footprint_same}
 use Rattle.sv8_trace.specs.Prepared.{Near}
 
 module _ (m : Machine) (k : ℕ) where
@@ -67,7 +67,7 @@ module _ (m : Machine) (k : ℕ) where
     by_poke a t last =
         rw (wrote a, h.kept t a, h.kept last a, h.count)
         (ap (λ o. cond (is_some (w.kept t a)) (w.kept t a) o)
-        (one (leb (next_checkpoint k t) (k * w.count)) (is_live (writes_of m w.notes a) t (suc t) last (next_checkpoint k t)) (cond (ltb last (next_checkpoint k t) && not (some_from t last (writes_of m w.notes a))) (w.kept last a) None) refl))
+        (one (leb (next_checkpoint k t) (k * w.count)) (is_live (writes_of m w.notes a) t (suc t) last (next_checkpoint k t)) (cond (leb t last && (ltb last (next_checkpoint k t) && not (some_from t last (writes_of m w.notes a)))) (w.kept last a) None) refl))
       where
         one : (b l : Bool) (o : Option m.Value) → leb (next_checkpoint k t) (k * w.count) ≡ b
             → cond (b && l) (Some (m.get a (v.point (next_checkpoint k t)))) o ≡ cond (b && l) (Some (m.get a (w.point (next_checkpoint k t)))) o

@@ -1,5 +1,5 @@
 -- The steps of a preparation.
-use Rattle.std.proofs.Common.{◌≡◌, ◌≢◌, ℕ, zero, suc, ◌+◌, ◌*◌, ◌/◌, ◌%◌, ◌<◌, ◌≤◌, ◌==◌, List, [], ◌∷◌, length, get_or, set, map, take, drop, drop-cons, add-one, replicate, Bool, true, false, not, ◌&&◌, cond, leb, ltb, min, Option, Some, None, option_map, unwrap_or, MatchOption, refl, sym, ◌∙◌, ap, ap₂, subst, arith, inl, inr, ◌⊎◌, le-leb, lt-ltb, le-ltb, eq-eqb, ne_eqb, length-take-le, length-set, get_or-set_same, get_or-set_other, div-lt_iff_lt-mul, le-div_iff_mul-le, mul_comm}
+use Rattle.std.proofs.Common.{◌≡◌, ◌≢◌, ℕ, zero, suc, ◌+◌, ◌*◌, ◌/◌, ◌%◌, ◌<◌, ◌≤◌, ◌==◌, List, [], length, get_or, set, map, take, drop, drop-cons, add-one, replicate, Bool, true, false, ◌&&◌, cond, leb, ltb, min, Option, Some, None, option_map, unwrap_or, MatchOption, refl, sym, ◌∙◌, ap, ap₂, subst, arith, inl, inr, ◌⊎◌, lt-ltb, le-ltb, eq-eqb, ne_eqb, length-take-le, length-set, get_or-set_same, get_or-set_other, div-lt_iff_lt-mul, le-div_iff_mul-le, mul_comm}
 use Rattle.std.specs.Bool.{⊤}
 use Rattle.std.proofs.lemmas.Bool.{cases_lt, cases_eq}
 use Rattle.std.proofs.lemmas.List.{get_or-take, set-set, get_or_default, length-map}
@@ -10,7 +10,6 @@ use Rattle.sv8_phys.specs.Memory.{ram_size, page_of}
 use Rattle.sv8_phys.specs.Contents.{AreContents}
 use Rattle.sv8_history.specs.Machine.{Machine}
 use Rattle.sv8_history.specs.Trace.{Trace}
-use Rattle.sv8_history.specs.Changes.{Change}
 use Rattle.sv8_history.specs.Patches as history
 use Rattle.sv8_cpu.specs.State.{State}
 use Rattle.sv8_cpu.specs.Recorded.{machine, get, put}
@@ -22,7 +21,7 @@ use Rattle.sv8_trace.specs.Patch.{change_of, changes_of}
 use Rattle.sv8_trace.specs.Recording.{Recording, blank, no_interval, trace_of}
 use Rattle.sv8_trace.specs.Prepared.{placed, placed_pages, placed_levels, list_at, prepared_trace, IsPageColumn, IsPreparedFor, Near}
 use Rattle.sv8_trace.specs.Steps.{IsFirstBelow}
-use Rattle.sv8_trace.specs.Patching.{IsFirstWrite, KeptPut, PointsSet, RaisedAt}
+use Rattle.sv8_trace.specs.Patching.{IsFirstWrite, PointsSet, RaisedAt}
 use Rattle.sv8_trace.specs.Placing.{AreSound}
 use Rattle.sv8_trace.proofs.Nearness.{near_all, near_along}
 use Rattle.sv8_trace.proofs.Placed.{page_byte, page_length, pages_get, pages_set, levels_get, levels_set, shown_byte, shown_level}
@@ -131,13 +130,13 @@ patched_more windows pages k pos ps i d v w x h near whole =
 
 -- ---- the first write
 
-pub first_write_is : (m : Machine) (v : Trace m) (c : m.Cell) (from end : ℕ) (o : Option ℕ) → end ≤ 1000000 → IsFirstBelow (λ n. (v.notes n).writes c) from (min 4294967295 end) o
+pub first_write_is : (m : Machine) (v : Trace m) (c : m.Cell) (from end recorded : ℕ) (o : Option ℕ) → end ≤ recorded → recorded ≤ 1000000 → IsFirstBelow (λ n. (v.notes n).writes c) from (min end recorded) o
     → IsFirstWrite m v c from end (unwrap_or o 4294967295)
-first_write_is m v c from end None few h = record {
-  before = λ n a b l. h n a (omega (arith, few, l));
-  at = λ l. absurd (omega (arith, few, l));
+first_write_is m v c from end recorded None le few h = record {
+  before = λ n a b l. h n a (omega (arith, le, l));
+  at = λ l. absurd (omega (arith, le, few, l));
 }
-first_write_is m v c from end (Some s) few h = record {
+first_write_is m v c from end recorded (Some s) le few h = record {
   before = λ n a b l. h.3 n a b;
   at = λ l. (h.0, h.2);
 }
@@ -339,3 +338,28 @@ raised_from m old mid now c v to wrote same law n b =
 
 pub points_kept : (windows pages k : ℕ) (r : Recording) (mid now : Staged) → now ≡ record mid { kept = now.kept } → (i : ℕ) → i ≤ mid.count → (prepared_trace windows pages k r now).point (k * i) ≡ (prepared_trace windows pages k r mid).point (k * i)
 points_kept windows pages k r mid now rest i h = ap (λ (s : Staged). placed s (k * i / k) (get_or r.points (k * i / k) blank)) rest
+
+-- ---- the end of a preparation, with other columns that show the same pages
+
+pub finished_fits : (pages : ℕ) (r : Recording) (s now : Staged) → now ≡ record s { pages = now.pages } → now.pages.items ≡ s.pages.items → IsPreparedFor pages r s → IsPreparedFor pages r now
+finished_fits pages r s now rest columns fits = record {
+  count = rw count fits.count;
+  pages_count = ap length columns ∙ fits.pages_count;
+  levels_count = ap (λ (x : Staged). length x.levels.items) rest ∙ fits.levels_count;
+  no_level = ap (λ (x : Staged). get_or x.levels.items 0 None) rest ∙ fits.no_level;
+  lists_count = ap (λ (x : Staged). length x.kept.items) rest ∙ fits.lists_count ∙ sym count;
+  whole_pages = λ p. let w = fits.whole_pages p in rw (columns, count) w;
+  whole_levels = λ l. let w = fits.whole_levels l in rw (ap (λ (x : Staged). x.levels.items) rest, count) w;
+}
+  where
+    count : now.count ≡ s.count
+    count = ap (λ (x : Staged). x.count) rest
+
+pub finished_trace : (windows pages k : ℕ) (r : Recording) (s now : Staged) → now ≡ record s { pages = now.pages } → now.pages.items ≡ s.pages.items → prepared_trace windows pages k r now ≡ prepared_trace windows pages k r s
+finished_trace windows pages k r s now rest columns = ap (prepared_trace windows pages k r) rest ∙ ap (with_columns windows pages k r s) columns
+  where
+    with_columns : (windows pages k : ℕ) (r : Recording) (s : Staged) → List (Option (List (List ℕ))) → Trace (machine windows pages)
+    with_columns windows pages k r s cs = record (prepared_trace windows pages k r s) {
+      point = λ n. let p = get_or r.points (n / k) blank in
+          record p { memory = record p.memory { ram = placed_pages 0 cs (n / k) p.memory.ram; pending = placed_levels 0 s.levels.items (n / k) p.memory.pending } };
+    }

@@ -1,23 +1,22 @@
 -- One step more in the record.
-use Rattle.std.proofs.Common.{add-one, ◌≡◌, ◌≢◌, ℕ, zero, suc, ◌+◌, ◌≤◌, ◌<◌, List, [], ◌∷◌, ◌++◌, ◌==◌, Bool, true, false, not, ◌&&◌, ◌||◌, leb, ltb, cond, Option, Some, None, is_some, refl, sym, ◌∙◌, ap, ap₂, subst, arith, inl, inr, ◌⊎◌, eq-eqb, ne_eqb, lt-ltb, le-ltb, le-leb}
+use Rattle.std.proofs.Common.{add-one, ◌≡◌, ◌≢◌, ℕ, suc, ◌+◌, ◌≤◌, ◌<◌, List, [], ◌==◌, Bool, true, false, not, ◌&&◌, ◌||◌, leb, ltb, cond, Option, Some, None, is_some, refl, sym, ◌∙◌, ap, ap₂, arith, inl, inr, ◌⊎◌, eq-eqb, ne_eqb, lt-ltb, le-ltb, le-leb}
 use Rattle.std.proofs.lemmas.Bool.{cases_order, cases_lt}
 use Rattle.sv8_model.specs.declared.touch.Touch.{Touch}
 use Rattle.sv8_model.specs.Footprint.{reads_input}
 use Rattle.sv8_model.specs.Cells.{Cell, Value, ram_byte, waiting_bytes, pending_level, is_read, is_written}
 use Rattle.sv8_history.specs.Machine.{Footprint, SameFootprint}
 use Rattle.sv8_history.specs.Trace.{some_from}
-use Rattle.sv8_history.proofs.Spans.{none_from}
+use Rattle.sv8_history.proofs.Common.{none_from}
 use Rattle.sv8_time.specs.Schedule.{Schedule}
 use Rattle.sv8_phys.specs.Notes.{told}
 use Rattle.sv8_cpu.specs.State.{State}
 use Rattle.sv8_cpu.specs.Run.{step, footprint}
 use Rattle.sv8_cpu.specs.Work.{counted}
 use Rattle.sv8_cpu.specs.Recorded.{event_at, poke_of, get}
-use Rattle.sv8_trace.specs.declared.kept.Kept.{Kept}
 use Rattle.sv8_trace.specs.declared.interval.Interval.{Interval}
 use Rattle.sv8_trace.specs.Kept.{kept_in}
-use Rattle.sv8_trace.specs.Touched.{is_touched, is_told_written}
-use Rattle.sv8_trace.specs.Steps.{Steps, Gains, no_steps, footprint_in, reads_in, writes_in, is_among}
+use Rattle.sv8_trace.specs.Touched.{is_touched}
+use Rattle.sv8_trace.specs.Steps.{Gains, no_steps, footprint_in, reads_in, writes_in, is_among}
 use Rattle.sv8_trace.specs.Recorder.{steps_on, footprint_on, touches_on, counted_by, IsRecorded, RaisedUpTo}
 use Rattle.sv8_trace.proofs.Touching.{touched_told, told_read, told_written}
 

@@ -1,18 +1,16 @@
 -- The search through the intervals, and what it finds of a change.
-use Rattle.std.proofs.Common.{◌≡◌, ◌≢◌, ℕ, zero, suc, ◌+◌, ◌-◌, ◌*◌, ◌/◌, ◌%◌, ◌≤◌, ◌<◌, List, [], ◌∷◌, length, get_or, Bool, true, false, not, ◌&&◌, ◌||◌, min, leb, ltb, cond, Option, Some, None, is_some, refl, sym, ◌∙◌, ap, ap₂, subst, arith, inl, inr, ◌⊎◌, le-leb, lt-ltb, le-ltb, div-lt_iff_lt-mul}
+use Rattle.std.proofs.Common.{◌≡◌, ℕ, ◌+◌, ◌-◌, ◌*◌, ◌/◌, ◌%◌, ◌≤◌, ◌<◌, List, length, get_or, Bool, true, false, not, ◌&&◌, ◌||◌, min, leb, ltb, Option, Some, None, refl, sym, ◌∙◌, ap, ap₂, subst, arith, inl, inr, ◌⊎◌, le-leb, lt-ltb, le-ltb, div-lt_iff_lt-mul}
 use Rattle.std.proofs.lemmas.List.{get_or_default}
 use Rattle.sv8_trace.specs.declared.interval.Interval.{Interval}
-use Rattle.std.proofs.Math.Nat.{div-add-mod, mod-lt, mul_comm}
+use Rattle.std.proofs.Math.Nat.{div-add-mod, mul_comm}
 use Rattle.std.proofs.lemmas.Nat.{div-mul-add, mod-mul-add}
 use Rattle.std.proofs.lemmas.Bool.{cases_lt, lt-leb, true≢false, true_from_ne_false}
-use Rattle.sv8_model.specs.Cells.{Cell, ram_byte, pending_level}
-use Rattle.sv8_history.specs.Machine.{Footprint, Machine, reads_of, writes_of}
+use Rattle.sv8_history.specs.Machine.{Machine, reads_of, writes_of}
 use Rattle.sv8_history.specs.Trace.{Trace, some_from}
 use Rattle.sv8_history.specs.Changes.{Change}
-use Rattle.sv8_history.specs.Reads.{IsLeast, least_below, reads_change}
+use Rattle.sv8_history.specs.Reads.{least_below, reads_change}
 use Rattle.sv8_history.specs.Input.{takes_edit}
-use Rattle.sv8_history.proofs.Spans.{none_at, none_from}
-use Rattle.sv8_history.proofs.Least.{Found, found, found_one}
+use Rattle.sv8_history.proofs.Common.{none_at, none_from, Found, found, found_one}
 use Rattle.sv8_trace.specs.declared.notes.Sought.{Sought}
 use Rattle.sv8_trace.specs.Steps.{Steps, IsFirstBelow, footprint_in}
 use Rattle.sv8_trace.specs.Sought.{is_met}

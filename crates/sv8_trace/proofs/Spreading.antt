@@ -1,12 +1,14 @@
 -- The parts of a patch make the whole, for any machine.
-use Rattle.std.proofs.Common.{◌≡◌, ◌≢◌, ℕ, zero, suc, ◌+◌, ◌*◌, ◌/◌, ◌<◌, ◌≤◌, ◌==◌, List, [], ◌∷◌, length, drop, drop-cons, add-one, get_or, map, Bool, true, false, not, ◌&&◌, cond, leb, ltb, min, Option, Some, None, is_some, option_map, refl, sym, ◌∙◌, ap, ap₂, arith, inl, inr, ◌⊎◌, le-leb, lt-ltb, le-ltb, eqb-true, eq-eqb, ne_eqb, div-lt_iff_lt-mul, le-div_iff_mul-le, mul_comm, mul-le-mul_left}
+use Rattle.std.proofs.Common.{◌≡◌, ◌≢◌, ℕ, suc, ◌+◌, ◌*◌, ◌/◌, ◌<◌, ◌≤◌, ◌==◌, Bool, true, false, not, ◌&&◌, cond, leb, ltb, min, Option, Some, None, is_some, option_map, refl, sym, ◌∙◌, ap, ap₂, arith, inl, inr, ◌⊎◌, le-leb, lt-ltb, le-ltb, eq-eqb, ne_eqb, div-lt_iff_lt-mul, le-div_iff_mul-le, mul_comm, mul-le-mul_left}
 use Rattle.std.proofs.lemmas.Bool.{cases_lt, cases_eq, lt-leb, true≢false, true_from_ne_false}
-use Rattle.std.proofs.Math.Nat.{mul-div_cancel_left}
+use Rattle.std.proofs.Math.Nat.{mul-div_cancel_left, mul-suc}
+use Rattle.std.specs.Int.{div_ceil}
+use Rattle.std.proofs.lemmas.Grind.{div_ceil_times}
 use Rattle.sv8_history.specs.Machine.{Machine, writes_of}
 use Rattle.sv8_history.specs.Trace.{Trace, some_from, next_checkpoint}
 use Rattle.sv8_history.specs.Changes.{is_live}
-use Rattle.sv8_history.specs.Patches.{patched_point, kept_at_end, kept_by_poke, spread, keeping, set_poke}
-use Rattle.sv8_history.proofs.Spans.{none_at, none_from, next_above}
+use Rattle.sv8_history.specs.Patches.{patched_point, kept_at_end, kept_by_poke, spread, keeping}
+use Rattle.sv8_history.proofs.Common.{none_at, none_from, next_above}
 use Rattle.sv8_trace.specs.Prepared.{Near}
 use Rattle.sv8_trace.specs.Patching.{IsFirstWrite, KeptPut, RaisedAt}
 
@@ -40,6 +42,22 @@ after_step k t i pos = go (cases_lt t (k * i))
     go : (t < k * i) ⊎ (k * i ≤ t) → leb (suc t) (k * i) ≡ leb (t / k + 1) i
     go (inl h) = let w : t / k < i = (div-lt_iff_lt-mul pos).1 (rw (mul_comm i k) h) in rw (le-leb (suc t) (k * i) (omega arith), le-leb (t / k + 1) i (omega arith))
     go (inr h) = let w : i ≤ t / k = (le-div_iff_mul-le pos).1 (rw (mul_comm i k) h) in rw (lt-leb (suc t) (k * i) (omega arith), lt-leb (t / k + 1) i (omega arith))
+
+-- the first checkpoint that is not before a step
+pub from_step : (k t i : ℕ) → 0 < k → leb t (k * i) ≡ leb (div_ceil t k) i
+from_step k t i pos = go (cases_lt (k * i) t)
+  where
+    go : (k * i < t) ⊎ (t ≤ k * i) → leb t (k * i) ≡ leb (div_ceil t k) i
+    go (inl h) = before (cases_lt i (div_ceil t k))
+      where
+        before : (i < div_ceil t k) ⊎ (div_ceil t k ≤ i) → leb t (k * i) ≡ leb (div_ceil t k) i
+        before (inl l) = rw (lt-leb t (k * i) h, lt-leb (div_ceil t k) i l)
+        before (inr l) = let m = mul-le-mul_left k l in absurd (omega (arith, m, mul_comm k (div_ceil t k), (div_ceil_times t k pos).0, h))
+    go (inr h) = behind (cases_lt i (div_ceil t k))
+      where
+        behind : (i < div_ceil t k) ⊎ (div_ceil t k ≤ i) → leb t (k * i) ≡ leb (div_ceil t k) i
+        behind (inl l) = let m = mul-le-mul_left k l in absurd (omega (arith, m, mul_comm k (div_ceil t k), mul-suc k i, (div_ceil_times t k pos).1, h))
+        behind (inr l) = rw (le-leb t (k * i) h, le-leb (div_ceil t k) i l)
 
 leb_min : (i x y : ℕ) → leb i (min x y) ≡ (leb i x && leb i y)
 leb_min i x y = go (cases_lt x i) (cases_lt y i)
@@ -166,32 +184,37 @@ module _ (m : Machine) (k : ℕ) (pos : 0 < k) where
   none_either true o e = sym e
   none_either false o e = refl
 
-  pub below_none : (v : Trace m) (a : m.Cell) (t u : ℕ) → v.kept t a ≡ None → v.kept u a ≡ None → k * v.count < next_checkpoint k t → None ≡ kept_by_poke m k v a t u
-  below_none v a t u e f h = rw (e, lt-leb (next_checkpoint k t) (k * v.count) h) (none_either (ltb u (next_checkpoint k t) && not (some_from t u (writes_of m v.notes a))) (v.kept u a) f)
+  pub below_none : (v : Trace m) (a : m.Cell) (t u : ℕ) → v.kept t a ≡ None → (t ≤ u → v.kept u a ≡ None) → k * v.count < next_checkpoint k t → None ≡ kept_by_poke m k v a t u
+  below_none v a t u e f h = rw (e, lt-leb (next_checkpoint k t) (k * v.count) h) (go (cases_lt u t))
+    where
+      go : (u < t) ⊎ (t ≤ u) → None ≡ cond (leb t u && (ltb u (next_checkpoint k t) && not (some_from t u (writes_of m v.notes a)))) (v.kept u a) None
+      go (inl before) = rw (lt-leb t u before) refl
+      go (inr l) = none_either (leb t u && (ltb u (next_checkpoint k t) && not (some_from t u (writes_of m v.notes a)))) (v.kept u a) (f l)
 
   pub below_kept : (v : Trace m) (a : m.Cell) (t u : ℕ) (w : m.Value) → v.kept t a ≡ Some w → Some w ≡ kept_by_poke m k v a t u
   below_kept v a t u w e = rw e
 
   pub below_is : (v : Trace m) (a : m.Cell) (t u wrote r : ℕ) → next_checkpoint k t ≤ k * v.count → k * v.count ≤ r → v.kept t a ≡ None → IsFirstWrite m v a t r wrote
-      → cond (leb (next_checkpoint k t) u && leb (next_checkpoint k t) wrote) (Some (m.get a (v.point (next_checkpoint k t)))) (cond (ltb u (next_checkpoint k t) && leb u wrote) (v.kept u a) None) ≡ kept_by_poke m k v a t u
+      → cond (leb (next_checkpoint k t) u && leb (next_checkpoint k t) wrote) (Some (m.get a (v.point (next_checkpoint k t)))) (cond (leb t u && (ltb u (next_checkpoint k t) && leb u wrote)) (v.kept u a) None) ≡ kept_by_poke m k v a t u
   below_is v a t u wrote r in_cut fits none first =
       let live = live_is (writes_of m v.notes a) t (suc t) u (next_checkpoint k t) r wrote (omega arith) first.before first.at in
       let low : suc t ≤ next_checkpoint k t = next_above k t pos in
       rw (none, le-leb (next_checkpoint k t) (k * v.count) in_cut, ← live, le-leb (suc t) (next_checkpoint k t) low)
       (ap (λ o. cond (leb (next_checkpoint k t) u && leb (next_checkpoint k t) wrote) (Some (m.get a (v.point (next_checkpoint k t)))) o) (go (cases_lt u (next_checkpoint k t))))
     where
-      go : (u < next_checkpoint k t) ⊎ (next_checkpoint k t ≤ u) → cond (ltb u (next_checkpoint k t) && leb u wrote) (v.kept u a) None ≡ cond (ltb u (next_checkpoint k t) && not (some_from t u (writes_of m v.notes a))) (v.kept u a) None
+      go : (u < next_checkpoint k t) ⊎ (next_checkpoint k t ≤ u)
+          → cond (leb t u && (ltb u (next_checkpoint k t) && leb u wrote)) (v.kept u a) None ≡ cond (leb t u && (ltb u (next_checkpoint k t) && not (some_from t u (writes_of m v.notes a)))) (v.kept u a) None
       go (inl h) = let e = unwritten (writes_of m v.notes a) t u r wrote (omega (arith, h, in_cut, fits)) first.before first.at in rw e
       go (inr h) = rw (le-ltb u (next_checkpoint k t) h)
 
 pub first_of : {A : Type 0} (x y : Bool) (a b : A) → x ≡ true → y ≡ true → a ≡ cond (x && y) a b
 first_of x y a b e f = rw (e, f)
 
-pub second_of : {A : Type 0} (x y z w : Bool) (a b d : A) → (x && y) ≡ false → z ≡ true → w ≡ true → b ≡ cond (x && y) a (cond (z && w) b d)
-second_of x y z w a b d e f h = rw (e, f, h)
+pub second_of : {A : Type 0} (x y s z w : Bool) (a b d : A) → (x && y) ≡ false → s ≡ true → z ≡ true → w ≡ true → b ≡ cond (x && y) a (cond (s && (z && w)) b d)
+second_of x y s z w a b d e l f h = rw (e, l, f, h)
 
-pub third_of : {A : Type 0} (x y z w : Bool) (a b d : A) → (x && y) ≡ false → (z && w) ≡ false → d ≡ cond (x && y) a (cond (z && w) b d)
-third_of x y z w a b d e f = rw (e, f)
+pub third_of : {A : Type 0} (x y s z w : Bool) (a b d : A) → (x && y) ≡ false → (s && (z && w)) ≡ false → d ≡ cond (x && y) a (cond (s && (z && w)) b d)
+third_of x y s z w a b d e f = rw (e, f)
 
 pub next_index : (k t : ℕ) → 0 < k → next_checkpoint k t / k ≡ t / k + 1
 next_index k t pos =

@@ -1,5 +1,5 @@
 -- What is told of a step touches a cell where the step reads or writes it.
-use Rattle.std.proofs.Common.{◌≡◌, ℕ, List, [], ◌∷◌, ◌++◌, ◌==◌, Bool, true, false, not, ◌&&◌, ◌||◌, refl, sym, ◌∙◌, ap, ap₂}
+use Rattle.std.proofs.Common.{◌≡◌, ℕ, List, [], ◌∷◌, ◌==◌, Bool, true, false, ◌&&◌, ◌||◌, refl, ◌∙◌, ap, ap₂}
 use Rattle.std.specs.List.{list_any}
 use Rattle.sv8_model.specs.declared.touch.Touch.{Touch}
 use Rattle.sv8_model.specs.declared.touch.Touch.TheVariants.{Read, Write, Input, Levels, Expiry}
@@ -8,7 +8,7 @@ use Rattle.sv8_model.specs.Levels.{timer_level}
 use Rattle.sv8_model.specs.Footprint.{is_read_of, is_write_of, is_input, asks, is_expiry}
 use Rattle.sv8_model.specs.Cells.{Cell, ram_byte, waiting_bytes, pending_level, is_read, is_written}
 use Rattle.sv8_phys.specs.Notes.{told}
-use Rattle.sv8_phys.proofs.ToldLaws.{footprint_told, writes_told}
+use Rattle.sv8_phys.proofs.Common.{footprint_told, writes_told}
 use Rattle.sv8_trace.specs.Touched.{is_touched, is_touched_by, is_told_written}
 
 four : (a b c d : Bool) → ((a || b) || (c || d)) ≡ ((a || c) || (b || d))

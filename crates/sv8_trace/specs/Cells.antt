@@ -1,5 +1,5 @@
 -- Cells and what stands in them, as code names them.
-use Rattle.std.specs.Prelude.{ℕ, ◌<◌, ◌≤◌}
+use Rattle.std.specs.Prelude.{ℕ, ◌*◌, ◌/◌, ◌<◌, ◌≤◌, Option, Some, None}
 use Rattle.sv8_model.specs.Cells.{Cell, ram_byte, pending_level, Value, byte, held}
 use Rattle.sv8_phys.specs.Memory.{ram_size}
 use Rattle.sv8_trace.specs.declared.cell.Cell as code
@@ -19,3 +19,8 @@ content_of (content.Pending pending) = held pending
 abbrev pub IsCell : ℕ → code.Cell → Type 0
 IsCell pages (cell.Byte address) = address < ram_size pages
 IsCell pages (cell.Level level) = (1 ≤ level) × (level ≤ 15)
+
+-- the address of the word that a byte is in
+abbrev pub word_of_cell : code.Cell → Option ℕ
+word_of_cell (cell.Byte address) = Some (4 * (address / 4))
+word_of_cell (cell.Level level) = None

@@ -5,7 +5,9 @@ pub mod Steps
 pub mod Sought
 pub mod Recorder
 pub mod Recording
+pub mod Marks
 pub mod Patch
+pub mod PageRuns
 pub mod Prepared
 pub mod Patching
 pub mod Placing

@@ -1,5 +1,5 @@
 -- The parts of a patch, for the clauses of the code that makes it.
-use Rattle.std.specs.Prelude.{◌≡◌, ℕ, ◌+◌, ◌*◌, ◌<◌, ◌≤◌, ◌==◌, ◌&&◌, Bool, true, false, cond, leb, ltb, Option, Some, None, option_map, slice_index_or}
+use Rattle.std.specs.Prelude.{◌≡◌, ℕ, ◌<◌, ◌≤◌, ◌==◌, ◌&&◌, true, false, cond, leb, ltb, Option, option_map, slice_index_or}
 use Rattle.sv8_model.specs.Cells.{Cell, Value}
 use Rattle.sv8_history.specs.Machine.{Machine, writes_of}
 use Rattle.sv8_history.specs.Trace.{Trace}

@@ -1,5 +1,5 @@
 -- The parts of a commit, for the clauses of the code that makes it.
-use Rattle.std.specs.Prelude.{◌≡◌, ℕ, ◌<◌, List, length, slice_index_or, slice_set, Bool, Option, unwrap_or}
+use Rattle.std.specs.Prelude.{ℕ, ◌<◌, List, length, slice_index_or, slice_set, Bool, Option, unwrap_or}
 use Rattle.sv8_phys.specs.Memory.{with_page}
 use Rattle.sv8_phys.specs.Contents.{AreContents}
 use Rattle.sv8_cpu.specs.State.{State}

@@ -1,5 +1,5 @@
 -- A change of a trace that is built and not yet placed.
-use Rattle.std.specs.Prelude.{◌≡◌, ℕ, zero, suc, ◌+◌, ◌*◌, ◌/◌, ◌%◌, ◌<◌, ◌≤◌, ltb, length, List, [], ◌∷◌, slice_index_or, slice_set, Bool, false, cond, Option, Some, None, unwrap_or, MatchOption, ⊤}
+use Rattle.std.specs.Prelude.{◌≡◌, ℕ, suc, ◌*◌, ◌/◌, ◌%◌, ◌≤◌, ltb, length, List, [], ◌∷◌, slice_index_or, slice_set, Bool, false, cond, Option, Some, None, unwrap_or, MatchOption, ⊤}
 use Rattle.sv8_phys.specs.Memory.{with_page}
 use Rattle.sv8_history.specs.Machine.{Machine}
 use Rattle.sv8_history.specs.Trace.{Trace}
@@ -9,6 +9,10 @@ use Rattle.sv8_trace.specs.declared.kept.Kept.{Kept}
 use Rattle.sv8_trace.specs.declared.prepared.Staged.{Staged}
 use Rattle.sv8_trace.specs.Kept.{kept_in}
 use Rattle.sv8_trace.specs.Recording.{Recording, blank, no_interval, trace_of}
+
+-- what was prepared, as it is seen from outside
+abbrev pub Preparation : Type 0
+Preparation = Staged
 
 -- RAM of checkpoint i, with the page of each column in its place; the first column is that of page p
 abbrev pub placed_pages : ℕ → List (Option (List (List ℕ))) → ℕ → List ℕ → List ℕ

@@ -3,7 +3,7 @@ use Rattle.std.specs.Prelude.{◌≡◌, ℕ, false, zero, suc, ◌+◌, ◌<◌
 use Rattle.sv8_model.specs.Cells.{Cell}
 use Rattle.sv8_history.specs.Machine.{Footprint, SameFootprint}
 use Rattle.sv8_history.specs.Trace.{some_from}
-use Rattle.sv8_time.specs.Schedule.{Schedule, bytes_below}
+use Rattle.sv8_time.specs.Schedule.{Schedule}
 use Rattle.sv8_time.specs.declared.words.WordPoke.{WordPoke}
 use Rattle.sv8_time.specs.declared.requests.Request.{Request}
 use Rattle.sv8_cpu.specs.State.{State}

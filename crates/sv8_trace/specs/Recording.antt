@@ -1,9 +1,9 @@
 -- A trace as its contracts see it.
-use Rattle.std.specs.Prelude.{◌≡◌, ℕ, ◌+◌, ◌*◌, ◌/◌, ◌%◌, ◌<◌, ◌≤◌, length, List, [], ◌∷◌, slice_index_or}
+use Rattle.std.specs.Prelude.{ℕ, ◌*◌, ◌/◌, ◌%◌, length, List, [], ◌∷◌, slice_index_or}
 use Rattle.sv8_trap.specs.Processor.{reset_processor}
 use Rattle.sv8_mmu.specs.Registers.{registers_at_reset}
-use Rattle.sv8_phys.specs.Contents.{empty_contents, AreContents}
-use Rattle.sv8_time.specs.Schedule.{Schedule, bytes_below}
+use Rattle.sv8_phys.specs.Contents.{empty_contents}
+use Rattle.sv8_time.specs.Schedule.{Schedule}
 use Rattle.sv8_history.specs.Trace as history
 use Rattle.sv8_history.specs.Growing.{extended}
 use Rattle.sv8_cpu.specs.State.{State}

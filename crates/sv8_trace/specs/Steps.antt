@@ -1,5 +1,5 @@
 -- The notes of the steps from a checkpoint to the next one. A step is named by its offset, the number of steps since the checkpoint.
-use Rattle.std.specs.Prelude.{◌≡◌, ℕ, ◌<◌, ◌≤◌, ◌==◌, ◌&&◌, ◌||◌, Bool, true, false, not, if◌then◌else◌, leb, ltb, List, [], Option, Some, None}
+use Rattle.std.specs.Prelude.{◌≡◌, ℕ, ◌<◌, ◌≤◌, ◌==◌, ◌&&◌, ◌||◌, Bool, true, false, leb, ltb, List, [], Option, Some, None}
 use Rattle.std.specs.List.{list_any}
 use Rattle.sv8_model.specs.declared.touch.Touch.{Touch}
 use Rattle.sv8_model.specs.Words.{bit}
@@ -13,8 +13,9 @@ use Rattle.sv8_trace.specs.declared.notes.LevelRun.{LevelRun}
 use Rattle.sv8_trace.specs.Touched.{is_told_written}
 
 pub record Steps : Type 0 where
-  -- the words of RAM that steps read, or write
-  pub words : List WordNote
+  -- the words of RAM that steps read, and those that they write
+  pub reads : List WordNote
+  pub writes : List WordNote
   -- the levels that steps ask, in runs of steps that ask the same
   pub levels : List LevelRun
   -- the steps that take or count the bytes that wait at the console, and those in which the timer expires
@@ -23,13 +24,17 @@ pub record Steps : Type 0 where
 
 -- of no steps
 abbrev pub no_steps : Steps
-no_steps = record { words = []; levels = []; inputs = []; expiries = [] }
+no_steps = record { reads = []; writes = []; levels = []; inputs = []; expiries = [] }
 
 -- ---- the footprint of a step
 
--- a word is read, or written, by a step
-abbrev pub is_word_of : Bool → ℕ → ℕ → WordNote → Bool
-is_word_of is_write address offset note = note.address == address && note.offset == offset && (if note.is_write then is_write else not is_write)
+-- it is the note of a word at a step
+abbrev pub is_word_of : ℕ → ℕ → WordNote → Bool
+is_word_of address offset note = note.address == address && note.offset == offset
+
+-- a word is among the notes at a step
+abbrev pub has_word : List WordNote → ℕ → ℕ → Bool
+has_word notes address offset = list_any (is_word_of address offset) notes
 
 -- a level is asked in a run that the step is in
 abbrev pub is_asked_in : ℕ → ℕ → LevelRun → Bool
@@ -39,12 +44,12 @@ abbrev pub is_among : ℕ → List ℕ → Bool
 is_among offset offsets = list_any (λ o. o == offset) offsets
 
 abbrev pub reads_in : Steps → Cell → ℕ → Bool
-reads_in s (ram_byte i) offset = list_any (is_word_of false (word_address i) offset) s.words
+reads_in s (ram_byte i) offset = has_word s.reads (word_address i) offset
 reads_in s waiting_bytes offset = is_among offset s.inputs
 reads_in s (pending_level l) offset = list_any (is_asked_in l offset) s.levels
 
 abbrev pub writes_in : Steps → Cell → ℕ → Bool
-writes_in s (ram_byte i) offset = list_any (is_word_of true (word_address i) offset) s.words
+writes_in s (ram_byte i) offset = has_word s.writes (word_address i) offset
 writes_in s waiting_bytes offset = false
 writes_in s (pending_level l) offset = l == timer_level && is_among offset s.expiries
 

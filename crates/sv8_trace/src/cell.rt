@@ -3,7 +3,7 @@
 ghost use Rattle.std.specs.Prelude.{◌≡◌, ◌≤◌};
 ghost use Rattle.sv8_model.specs.Cells.{same_cell, byte_of, held_of};
 ghost use Rattle.sv8_cpu.specs.Recorded.{get};
-ghost use Rattle.sv8_trace.specs.Cells.{cell_of, content_of, IsCell};
+ghost use Rattle.sv8_trace.specs.Cells.{cell_of, content_of, word_of_cell, IsCell};
 
 use sv8_cpu::Machine;
 
@@ -56,6 +56,16 @@ impl Cell {
             (Cell::Byte(address), Cell::Byte(other)) => address == other,
             (Cell::Level(level), Cell::Level(other)) => level == other,
             _ => false,
+        }
+    }
+
+    /// The address of the word that a byte is in.
+    pub(crate) fn word(self) -> Option<u32>
+        ensures { result ≡ word_of_cell self }
+    {
+        match self {
+            Cell::Byte(address) => Some(4 * (address / 4)),
+            Cell::Level(_) => None,
         }
     }
 

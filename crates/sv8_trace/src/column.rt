@@ -1,6 +1,6 @@
 //! One part of each checkpoint of a trace that is to change.
 
-ghost use Rattle.std.specs.Prelude.{◌≡◌, ℕ, ◌≤◌, ◌<◌, ◌%◌, ◌&&◌, ◌++◌, ◌∷◌, [], false, cond, leb, ltb, length, slice_index_or, slice_set, IfOk, OnOk};
+ghost use Rattle.std.specs.Prelude.{◌≡◌, ℕ, ◌≤◌, ◌<◌, ◌&&◌, ◌++◌, ◌∷◌, [], false, cond, leb, ltb, length, slice_index_or, OnOk};
 
 use std::alloc::{AllocError, Global};
 use std::marker::Model;
@@ -21,61 +21,11 @@ impl Model for PageColumn {
 }
 
 impl PageColumn {
-    /// Of no checkpoints.
-    pub(crate) fn new(alloc: Global) -> PageColumn
-        ensures { result ≡ [] }
+    /// The pages, in the order of the checkpoints.
+    pub(crate) fn new(pages: Vec<Page>) -> PageColumn
+        ensures { result ≡ pages.items }
     {
-        PageColumn {
-            pages: Vec::new(alloc),
-        }
-    }
-
-    /// The page of one checkpoint more.
-    pub(crate) fn push(&mut self, page: Page) -> Result<(), AllocError>
-        ensures { OnOk result (self.new ≡ self.old ++ page ∷ []) }
-    {
-        self.pages.push(page)?;
-        Ok(())
-    }
-
-    /// A byte of the page of a checkpoint.
-    pub(crate) fn byte(&self, index: usize, address: u32) -> u8
-        requires { index < length self.now }
-        ensures { result ≡ slice_index_or (slice_index_or self.now index []) (address % 4096) 0 }
-    {
-        self.pages[index].byte(address)
-    }
-
-    /// Sets a byte in the pages of the checkpoints from `low` on and below `end`. Pages that are the same stay one.
-    ///
-    /// # Errors
-    ///
-    /// `AllocError` where memory for a page cannot be had; some pages are then changed.
-    pub(crate) fn set(
-        &mut self,
-        low: usize,
-        end: usize,
-        address: u32,
-        value: u8,
-    ) -> Result<(), AllocError>
-        requires { end ≤ length self.old }
-        ensures length { length self.new ≡ length self.old }
-        ensures set { OnOk result ((i : ℕ) → slice_index_or self.new i []
-            ≡ cond (leb low i && ltb i end) (slice_set (slice_index_or self.old i []) (address % 4096) value) (slice_index_or self.old i [])) }
-    {
-        if low >= end {
-            return Ok(());
-        }
-        let mut before = self.pages[low].share()?;
-        let mut after = with_byte(&before, address, value)?;
-        for index in low..end {
-            if !self.pages[index].is_same(&before) {
-                before = self.pages[index].share()?;
-                after = with_byte(&before, address, value)?;
-            }
-            self.pages[index] = after.share()?;
-        }
-        Ok(())
+        PageColumn { pages }
     }
 
     /// The pages, in the order of the checkpoints.
@@ -84,15 +34,6 @@ impl PageColumn {
     {
         self.pages
     }
-}
-
-/// A page with another byte.
-fn with_byte(page: &Page, address: u32, value: u8) -> Result<Page, AllocError>
-    ensures { IfOk result (λ p. p ≡ slice_set page.now (address % 4096) value) }
-{
-    let mut copy = page.share()?;
-    copy.set_byte(address, value)?;
-    Ok(copy)
 }
 
 /// Whether one level is pending in each checkpoint.

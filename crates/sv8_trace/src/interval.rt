@@ -1,11 +1,49 @@
 //! What is kept of the steps from a checkpoint to the next one.
 
+ghost use Rattle.std.specs.Prelude.{◌≡◌, IfOk};
+ghost use Rattle.sv8_trace.specs.Recording.{no_interval};
+
 use crate::kept::KeptList;
 use crate::notes::Notes;
+use std::alloc::{AllocError, Global};
 
 /// What is kept of the steps from a checkpoint to the next one: what each touches, and what stood in cells before events set them.
 #[derive(Drop)]
 pub(crate) struct Interval {
     pub notes: Notes,
     pub kept: KeptList,
+}
+
+impl Interval {
+    /// Of no steps.
+    pub(crate) fn new(alloc: Global) -> Interval
+        ensures { result ≡ no_interval }
+    {
+        Interval {
+            notes: Notes::new(alloc),
+            kept: KeptList::new(alloc),
+        }
+    }
+
+    /// Lets all go; the memory stays.
+    pub(crate) fn clear(&mut self)
+        ensures { self.new ≡ no_interval }
+    {
+        self.notes.clear();
+        self.kept.clear();
+    }
+
+    /// The same once more, in no more memory than it needs.
+    ///
+    /// # Errors
+    ///
+    /// `AllocError` where that memory cannot be had.
+    pub(crate) fn copy(&self) -> Result<Interval, AllocError>
+        ensures { IfOk result (λ i. i ≡ self.now) }
+    {
+        Ok(Interval {
+            notes: self.notes.copy()?,
+            kept: self.kept.copy()?,
+        })
+    }
 }

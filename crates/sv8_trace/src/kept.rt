@@ -55,6 +55,13 @@ impl KeptList {
         }
     }
 
+    /// Lets all values go; the memory stays.
+    pub(crate) fn clear(&mut self)
+        ensures { self.new ≡ [] }
+    {
+        self.values.clear();
+    }
+
     /// The same values once more.
     pub(crate) fn copy(&self) -> Result<KeptList, AllocError>
         ensures { IfOk result (λ l. l ≡ self.now) }
@@ -103,8 +110,19 @@ impl KeptList {
         Ok(())
     }
 
-    /// Lets the values go of cells that are touched.
+    /// Lets the values go of cells that are touched. Mostly there are none.
+    #[inline(always)]
     pub(crate) fn forget(&mut self, touches: &[Touch])
+        ensures { self.new ≡ filter (λ k. not (is_touched touches.now (cell_of k.cell))) self.old }
+    {
+        if !self.is_empty() {
+            self.drop_touched(touches);
+        }
+    }
+
+    /// Looks at each value, and lets those go of cells that are touched.
+    #[inline(never)]
+    fn drop_touched(&mut self, touches: &[Touch])
         ensures { self.new ≡ filter (λ k. not (is_touched touches.now (cell_of k.cell))) self.old }
     {
         self.values.retain(|kept| !touches_cell(touches, kept.cell));

@@ -7,10 +7,12 @@ mod cell;
 mod column;
 mod interval;
 mod kept;
+mod marks;
 mod notes;
 mod patch;
 mod prepared;
 mod recorder;
+mod runs;
 mod step_notes;
 mod trace;
 

@@ -1,25 +1,26 @@
 //! The notes of the steps from a checkpoint to the next one.
 
-ghost use Rattle.std.specs.Prelude.{◌≡◌, ℕ, ◌+◌, ◌<◌, ◌≤◌, ◌==◌, ◌&&◌, ◌||◌, ◌++◌, ◌∷◌, [], Bool, not, false, leb, OnOk, if◌then◌else◌};
+ghost use Rattle.std.specs.Prelude.{◌≡◌, ℕ, ◌+◌, ◌<◌, ◌≤◌, ◌==◌, ◌&&◌, ◌||◌, ◌++◌, ◌∷◌, [], Bool, not, false, leb, IfOk, OnOk};
 ghost use Rattle.std.specs.List.{list_any};
 ghost use Rattle.sv8_model.specs.Words.{bit};
 ghost use Rattle.sv8_model.specs.Cells as model;
 ghost use Rattle.sv8_trace.specs.Cells.{cell_of};
-ghost use Rattle.sv8_trace.specs.Steps.{Gains, IsFirstBelow, footprint_in, is_among, is_asked_in, is_word_of, no_steps};
-ghost use Rattle.sv8_trace.specs.Sought.{is_met};
+ghost use Rattle.sv8_trace.specs.Marks.{mark_of, IsUntouched};
+ghost use Rattle.sv8_trace.specs.Steps.{Gains, IsFirstBelow, footprint_in, is_among, is_asked_in, is_word_of, has_word, no_steps};
+ghost use Rattle.sv8_trace.specs.Sought.{is_met, sought_word};
 
 use crate::cell::Cell;
+use crate::marks::Marks;
 use crate::step_notes::{TIMER_LEVEL, asks};
 use std::alloc::{AllocError, Global};
 use std::marker::Model;
 use sv8_phys::Touch;
 
-/// A word of RAM that a step reads or writes. Steps are named by their offset, the number of steps since the checkpoint.
+/// A word of RAM that a step reads, or writes. Steps are named by their offset, the number of steps since the checkpoint.
 #[derive(Clone, Copy)]
 pub(crate) struct WordNote {
     pub address: u32,
     pub offset: u32,
-    pub is_write: bool,
 }
 
 /// Steps one after the other that ask the same interrupt levels, bit l for level l.
@@ -43,10 +44,23 @@ pub(crate) enum Sought {
     Input,
 }
 
+impl Sought {
+    /// The address of the word that is looked for, if one is.
+    pub(crate) fn word(self) -> Option<u32>
+        ensures { result ≡ sought_word self }
+    {
+        match self {
+            Sought::Read(cell) | Sought::Write(cell) | Sought::Touch(cell) => cell.word(),
+            Sought::Input => None,
+        }
+    }
+}
+
 /// What each of the steps from a checkpoint to the next one touches.
 #[derive(Drop)]
 pub(crate) struct Notes {
-    words: Vec<WordNote>,
+    reads: Vec<WordNote>,
+    writes: Vec<WordNote>,
     levels: Vec<LevelRun>,
     inputs: Vec<u32>,
     expiries: Vec<u32>,
@@ -57,7 +71,7 @@ impl Model for Notes {
 
     ghost Value = { Steps };
 
-    ghost view = { λ n. record { words = n.words.items; levels = n.levels.items; inputs = n.inputs.items; expiries = n.expiries.items } };
+    ghost view = { λ n. record { reads = n.reads.items; writes = n.writes.items; levels = n.levels.items; inputs = n.inputs.items; expiries = n.expiries.items } };
 }
 
 /// The lesser of two offsets, where there are any.
@@ -94,16 +108,43 @@ fn first_among(offsets: &[u32], from: u32, end: u32) -> Option<u32>
 }
 
 impl WordNote {
-    /// The step, if it is from one step on and below another, and reads, or writes, a word.
-    fn first(&self, address: u32, is_write: bool, from: u32, end: u32) -> Option<u32>
-        ensures { IsFirstBelow (λ n. is_word_of is_write address n self.now) from end result }
+    /// The step, if it is from one step on and below another, and the word has this address.
+    fn first(&self, address: u32, from: u32, end: u32) -> Option<u32>
+        ensures { IsFirstBelow (λ n. is_word_of address n self.now) from end result }
     {
-        if self.address == address && self.is_write == is_write {
+        if self.address == address {
             within(self.offset, from, end)
         } else {
             None
         }
     }
+}
+
+/// The first step from one offset on and below another that has a note of a word.
+fn first_of_word(notes: &[WordNote], address: u32, from: u32, end: u32) -> Option<u32>
+    ensures { IsFirstBelow (has_word notes.now address) from end result }
+{
+    let mut found = None;
+    for note in notes {
+        found = lesser(found, note.first(address, from, end));
+    }
+    found
+}
+
+/// Marks the words of notes with a number, unless their marks are greater.
+fn mark_all(
+    alloc: Global,
+    marks: &mut Marks,
+    notes: &[WordNote],
+    mark: u32,
+) -> Result<(), AllocError>
+    ensures grows { (a : ℕ) → mark_of marks.old a ≤ mark_of marks.new a }
+    ensures marked { OnOk result ((a : ℕ) → mark_of marks.new a < mark → (j : ℕ) → has_word notes.now a j ≡ false) }
+{
+    for note in notes {
+        marks.raise(alloc, note.address, mark)?;
+    }
+    Ok(())
 }
 
 impl LevelRun {
@@ -133,23 +174,40 @@ impl Notes {
         ensures { result ≡ no_steps }
     {
         Notes {
-            words: Vec::new(alloc),
+            reads: Vec::new(alloc),
+            writes: Vec::new(alloc),
             levels: Vec::new(alloc),
             inputs: Vec::new(alloc),
             expiries: Vec::new(alloc),
         }
     }
 
-    /// A word is read or written.
-    fn note_word(&mut self, address: u32, offset: u32, is_write: bool) -> Result<(), AllocError>
-        ensures { OnOk result (self.new ≡ record self.old { words = self.old.words ++ record { address = address; offset = offset; is_write = is_write } ∷ [] }) }
+    /// Lets all notes go; the memory stays.
+    pub(crate) fn clear(&mut self)
+        ensures { self.new ≡ no_steps }
     {
-        self.words.push(WordNote {
-            address,
-            offset,
-            is_write,
-        })?;
-        Ok(())
+        self.reads.clear();
+        self.writes.clear();
+        self.levels.clear();
+        self.inputs.clear();
+        self.expiries.clear();
+    }
+
+    /// The same notes once more, in no more memory than they need.
+    ///
+    /// # Errors
+    ///
+    /// `AllocError` where that memory cannot be had.
+    pub(crate) fn copy(&self) -> Result<Notes, AllocError>
+        ensures { IfOk result (λ n. n ≡ self.now) }
+    {
+        Ok(Notes {
+            reads: self.reads.clone()?,
+            writes: self.writes.clone()?,
+            levels: self.levels.clone()?,
+            inputs: self.inputs.clone()?,
+            expiries: self.expiries.clone()?,
+        })
     }
 
     /// Levels are asked: the last run goes on, or another begins.
@@ -184,13 +242,14 @@ impl Notes {
     }
 
     /// Takes a note of a touch.
+    #[inline(always)]
     fn note(&mut self, touch: Touch, offset: u32) -> Result<(), AllocError>
         requires { offset < 1000000 }
         ensures { OnOk result (Gains offset (touch ∷ []) self.old self.new) }
     {
         match touch {
-            Touch::Read(address) => self.note_word(address, offset, false)?,
-            Touch::Write(address) => self.note_word(address, offset, true)?,
+            Touch::Read(address) => self.reads.push(WordNote { address, offset })?,
+            Touch::Write(address) => self.writes.push(WordNote { address, offset })?,
             Touch::Input => self.inputs.push(offset)?,
             Touch::Levels(levels) => self.note_levels(levels, offset)?,
             Touch::Expiry => self.expiries.push(offset)?,
@@ -213,15 +272,23 @@ impl Notes {
         Ok(())
     }
 
-    /// The first step from one offset on and below another that reads, or writes, a word.
-    fn first_word(&self, address: u32, is_write: bool, from: u32, end: u32) -> Option<u32>
-        ensures { IsFirstBelow (λ n. list_any (is_word_of is_write address n) self.now.words) from end result }
+    /// Marks the words that the steps touch with a number, unless their marks are greater.
+    ///
+    /// # Errors
+    ///
+    /// `AllocError` where memory for the marks cannot be had; some words are then marked.
+    pub(crate) fn mark_words(
+        &self,
+        alloc: Global,
+        marks: &mut Marks,
+        mark: u32,
+    ) -> Result<(), AllocError>
+        ensures grows { (a : ℕ) → mark_of marks.old a ≤ mark_of marks.new a }
+        ensures marked { OnOk result ((a : ℕ) → mark_of marks.new a < mark → IsUntouched self.now a) }
     {
-        let mut found = None;
-        for note in &self.words {
-            found = lesser(found, note.first(address, is_write, from, end));
-        }
-        found
+        mark_all(alloc, marks, &self.reads, mark)?;
+        mark_all(alloc, marks, &self.writes, mark)?;
+        Ok(())
     }
 
     /// The first step from one offset on and below another that asks a level.
@@ -240,7 +307,7 @@ impl Notes {
         ensures { IsFirstBelow (λ n. (footprint_in self.now n).reads (cell_of cell)) from end result }
     {
         match cell {
-            Cell::Byte(address) => self.first_word(4 * (address / 4), false, from, end),
+            Cell::Byte(address) => first_of_word(&self.reads, 4 * (address / 4), from, end),
             Cell::Level(level) => self.first_asking(level, from, end),
         }
     }
@@ -250,7 +317,7 @@ impl Notes {
         ensures { IsFirstBelow (λ n. (footprint_in self.now n).writes (cell_of cell)) from end result }
     {
         match cell {
-            Cell::Byte(address) => self.first_word(4 * (address / 4), true, from, end),
+            Cell::Byte(address) => first_of_word(&self.writes, 4 * (address / 4), from, end),
             Cell::Level(level) if level == TIMER_LEVEL => first_among(&self.expiries, from, end),
             Cell::Level(_) => None,
         }

@@ -6,11 +6,11 @@ use crate::cell::{Cell, Content};
 #[derive(Clone, Copy, PartialEq, Eq, Debug)]
 pub enum Cause {
     /// The source is edited: the cell has this content after reset.
-    Image(Content),
+    Source(Content),
     /// An event now sets the cell to this, where there was none that did or in the place of another.
     Poke(Content),
     /// The event no longer sets the cell, which uncovers what stood there.
-    Clear,
+    Uncover,
 }
 
 /// A change of one cell: from the step of its cause (0 for the source) to the next step whose event sets the cell anyway, which is

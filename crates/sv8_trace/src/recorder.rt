@@ -19,9 +19,8 @@ ghost use Rattle.sv8_trace.specs.Recorder.{below_byte, below_word, below_words, 
 use crate::cell::{Cell, Content};
 use crate::interval::Interval;
 use crate::kept::KeptList;
-use crate::notes::Notes;
 use crate::step_notes::StepNotes;
-use std::alloc::{AllocError, Global};
+use std::alloc::AllocError;
 use sv8_cpu::{Machine, Work};
 use sv8_time::{Request, Timeline, WordPoke};
 
@@ -109,7 +108,7 @@ fn keep_levels<const NW: usize, const PAGES: usize>(
 }
 
 /// Keeps what stands in the cells that the events of step n are about to set.
-#[tactic(auto, using(sv8_cpu::proofs::Poking::are_inside))]
+#[tactic(auto, using(sv8_cpu::proofs::Common::are_inside))]
 fn keep_below<const NW: usize, const PAGES: usize>(
     kept: &mut KeptList,
     machine: &Machine<NW, PAGES>,
@@ -163,18 +162,20 @@ fn record_step<const NW: usize, const PAGES: usize>(
     Ok(machine)
 }
 
-/// Makes so many steps from the machine of step n on, and records them.
+/// Makes so many steps from the machine of step n on, and records them. `touches` and `draft` are places for what is gathered
+/// meanwhile, whose memory the next call uses again.
 ///
 /// # Errors
 ///
 /// `AllocError` where memory for a step or its notes cannot be had. The machine is given up with it; `work` counts the steps that
 /// were made.
 pub(crate) fn record<const NW: usize, const PAGES: usize>(
-    alloc: Global,
     machine: Machine<NW, PAGES>,
     timeline: &Timeline,
     n: u32,
     count: u32,
+    touches: &mut StepNotes,
+    draft: &mut Interval,
     work: &mut Work,
 ) -> Result<(Machine<NW, PAGES>, Interval), AllocError>
     requires few_windows { NW ≤ 32 }
@@ -188,22 +189,10 @@ pub(crate) fn record<const NW: usize, const PAGES: usize>(
     ensures counted { OnOk result (work.new ≡ counted_by count work.old) }
     ensures raised { RaisedUpTo count work.old work.new }
 {
-    let mut touches = StepNotes::new(alloc);
-    let mut interval = Interval {
-        notes: Notes::new(alloc),
-        kept: KeptList::new(alloc),
-    };
+    draft.clear();
     let mut machine = machine;
     for offset in 0..count {
-        machine = record_step(
-            machine,
-            timeline,
-            n + offset,
-            offset,
-            &mut touches,
-            &mut interval,
-            work,
-        )?;
+        machine = record_step(machine, timeline, n + offset, offset, touches, draft, work)?;
     }
-    Ok((machine, interval))
+    Ok((machine, draft.copy()?))
 }

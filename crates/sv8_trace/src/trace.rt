@@ -14,7 +14,9 @@ mod preparing;
 mod search;
 
 use crate::interval::Interval;
+use crate::marks::Marks;
 use crate::recorder::record;
+use crate::step_notes::StepNotes;
 use std::alloc::{AllocError, Global};
 use std::marker::Model;
 use sv8_cpu::{Machine, Work};
@@ -29,12 +31,17 @@ pub const NO_END: u32 = u32::MAX;
 pub struct Trace<const NW: usize, const PAGES: usize, const K: u32> {
     points: Vec<Machine<NW, PAGES>>,
     intervals: Vec<Interval>,
+    marks: Marks,
+    /// Places for the notes of the step and of the interval under way.
+    touches: StepNotes,
+    draft: Interval,
 }
 
 impl<const NW: usize, const PAGES: usize, const K: u32> Model for Trace<NW, PAGES, K> {
     ghost use Rattle.std.specs.Prelude.{◌≡◌, ℕ, ◌+◌, ◌*◌, ◌≤◌, ◌<◌, length, slice_index_or};
     ghost use Rattle.sv8_phys.specs.Contents.{AreContents};
     ghost use Rattle.sv8_trace.specs.Recording.{Recording, blank};
+    ghost use Rattle.sv8_trace.specs.Marks.{AreMarked};
 
     ghost Value = { Recording };
 
@@ -42,7 +49,8 @@ impl<const NW: usize, const PAGES: usize, const K: u32> Model for Trace<NW, PAGE
 
     ghost invariant = { λ t. (2 ≤ NW) × (NW ≤ 32) × (PAGES ≤ 65536) × (1 ≤ K) × (K ≤ 1000000)
         × (length t.points.items ≡ length t.intervals.items + 1) × (K * length t.intervals.items ≤ 1000000)
-        × ((i : ℕ) → i < length t.points.items → AreContents PAGES (slice_index_or t.points.items i blank).memory) };
+        × ((i : ℕ) → i < length t.points.items → AreContents PAGES (slice_index_or t.points.items i blank).memory)
+        × AreMarked t.marks t.intervals.items };
 }
 
 impl<const NW: usize, const PAGES: usize, const K: u32> Trace<NW, PAGES, K> {
@@ -65,6 +73,9 @@ impl<const NW: usize, const PAGES: usize, const K: u32> Trace<NW, PAGES, K> {
         Ok(Trace {
             points,
             intervals: Vec::new(alloc),
+            marks: Marks::new(alloc),
+            touches: StepNotes::new(alloc),
+            draft: Interval::new(alloc),
         })
     }
 
@@ -116,19 +127,29 @@ impl<const NW: usize, const PAGES: usize, const K: u32> Trace<NW, PAGES, K> {
     {
         let count = self.intervals.len();
         let machine = self.points[count].snapshot(alloc)?;
-        let (machine, interval) = record(alloc, machine, timeline, K * count as u32, K, work)?;
-        self.add(machine, interval)?;
+        let n = K * count as u32;
+        let touches = &mut self.touches;
+        let draft = &mut self.draft;
+        let (machine, interval) = record(machine, timeline, n, K, touches, draft, work)?;
+        self.add(alloc, machine, interval)?;
         Ok(())
     }
 
     /// Adds a checkpoint and the interval in front of it.
-    fn add(&mut self, machine: Machine<NW, PAGES>, interval: Interval) -> Result<(), AllocError>
+    fn add(
+        &mut self,
+        alloc: Global,
+        machine: Machine<NW, PAGES>,
+        interval: Interval,
+    ) -> Result<(), AllocError>
         requires room { recorded K self.old + K ≤ 1000000 }
         ensures points { OnOk result (self.new.points ≡ self.old.points ++ machine.entry ∷ []) }
         ensures intervals { OnOk result (self.new.intervals ≡ self.old.intervals ++ interval ∷ []) }
         ensures refused { OnErr result (self.new ≡ self.old) }
     {
         let _size = machine.ram_size();
+        let count = self.intervals.len() as u32 + 1;
+        interval.notes.mark_words(alloc, &mut self.marks, count)?;
         self.points.push(machine)?;
         match self.intervals.push(interval) {
             Ok(()) => Ok(()),

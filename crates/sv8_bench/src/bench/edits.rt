@@ -1,8 +1,8 @@
 //! Edits of the timeline. Each makes all that takes memory before it changes anything.
 
-ghost use Rattle.std.specs.Prelude.{◌≡◌, ◌<◌, length, None, IfErr, OnOk, OnErr};
+ghost use Rattle.std.specs.Prelude.{◌≡◌, ◌<◌, length, None, Some, IfErr, OnOk, OnErr};
 ghost use Rattle.sv8_time.specs.Schedule.{with_poke, without_poke, with_poke_byte, without_poke_byte, with_input, without_input, with_request, without_request, set_poke_fault, clear_poke_fault, set_poke_byte_fault, clear_poke_byte_fault, set_input_fault, clear_input_fault, set_request_fault, clear_request_fault};
-ghost use Rattle.sv8_edits.specs.Changes.{poke_changes, clear_changes, poke_byte_changes, clear_byte_changes, request_changes, clear_request_changes};
+ghost use Rattle.sv8_edits.specs.Changes.{input_change, poke_changes, clear_changes, poke_byte_changes, clear_byte_changes, request_changes, clear_request_changes};
 ghost use Rattle.sv8_bench.specs.Faults.{IsTimelineFault};
 ghost use Rattle.sv8_bench.specs.Kept.{with_timeline};
 ghost use Rattle.sv8_bench.specs.Workbench.{IsEdited, IsRefed};
@@ -115,7 +115,8 @@ impl<const NW: usize, const PAGES: usize, const K: u32> Bench<NW, PAGES, K> {
         Ok(())
     }
 
-    /// Sets the bytes that come in at the console at a step, at least one, over those that stand there.
+    /// Sets the bytes that come in at the console at a step, at least one, over those that stand there. The recorded run is left as it is
+    /// where these bytes stand there already.
     ///
     /// # Errors
     ///
@@ -124,11 +125,27 @@ impl<const NW: usize, const PAGES: usize, const K: u32> Bench<NW, PAGES, K> {
     pub fn set_input(&mut self, step: u32, bytes: &[u8]) -> Result<(), BenchFault>
         requires { 0 < length bytes.now }
         ensures accepted { OnOk result (set_input_fault step bytes.now self.old.kept.timeline ≡ None) }
-        ensures edited { OnOk result (IsRefed K step (with_timeline (with_input step bytes.now self.old.kept.timeline) self.old.kept) self.old self.new) }
+        ensures edited { OnOk result (IsRefed K (input_change step bytes.now self.old.kept.timeline)
+            (with_timeline (with_input step bytes.now self.old.kept.timeline) self.old.kept) self.old self.new) }
         ensures refused { IfErr result (IsTimelineFault (set_input_fault step bytes.now self.old.kept.timeline)) }
         ensures unchanged { OnErr result (self.new ≡ self.old) }
     {
         self.timeline.check_set_input(step, bytes)?;
+        let events = self.timeline.events(step);
+        if events.bytes == bytes {
+            return Ok(());
+        }
+        self.change_input(step, bytes)
+    }
+
+    /// Sets other bytes than those that stand at a step.
+    fn change_input(&mut self, step: u32, bytes: &[u8]) -> Result<(), BenchFault>
+        requires some { 0 < length bytes.now }
+        requires accepted { set_input_fault step bytes.now self.old.kept.timeline ≡ None }
+        ensures edited { OnOk result (IsRefed K (Some step) (with_timeline (with_input step bytes.now self.old.kept.timeline) self.old.kept) self.old self.new) }
+        ensures refused { IfErr result (λ e. e ≡ BenchFault.OutOfMemory) }
+        ensures unchanged { OnErr result (self.new ≡ self.old) }
+    {
         let _limit = self.timeline.limit();
         let prepared = self.trace.prepare_input(self.alloc, step)?;
         self.timeline.set_input(self.alloc, step, bytes)?;
@@ -143,7 +160,7 @@ impl<const NW: usize, const PAGES: usize, const K: u32> Bench<NW, PAGES, K> {
     /// `StepTooLarge`, or `NothingThere` where nothing comes in; else `OutOfMemory`. The workbench is then as it was.
     pub fn clear_input(&mut self, step: u32) -> Result<(), BenchFault>
         ensures accepted { OnOk result (clear_input_fault step self.old.kept.timeline ≡ None) }
-        ensures edited { OnOk result (IsRefed K step (with_timeline (without_input step self.old.kept.timeline) self.old.kept) self.old self.new) }
+        ensures edited { OnOk result (IsRefed K (Some step) (with_timeline (without_input step self.old.kept.timeline) self.old.kept) self.old self.new) }
         ensures refused { IfErr result (IsTimelineFault (clear_input_fault step self.old.kept.timeline)) }
         ensures unchanged { OnErr result (self.new ≡ self.old) }
     {

@@ -18,8 +18,7 @@ use sv8_trace::{Cause, Cell, Content, NO_END, Patch};
 
 /// The next step above one that pokes a byte, or no end.
 fn next_poke(timeline: &Timeline, address: u32, after: u32) -> u32
-    ensures value { result ≡ next_poke address after timeline.now }
-    ensures later { after ≤ result }
+    ensures { result ≡ next_poke address after timeline.now }
 {
     timeline.next_poke(address, after).unwrap_or(NO_END)
 }
@@ -36,8 +35,7 @@ fn first_poke(timeline: &Timeline, address: u32) -> u32
 
 /// The step of the next request of a level above one, or no end.
 fn next_request(timeline: &Timeline, level: u32, after: u32) -> u32
-    ensures value { result ≡ next_request level after timeline.now }
-    ensures later { after ≤ result }
+    ensures { result ≡ next_request level after timeline.now }
 {
     timeline.next_request(level, after).unwrap_or(NO_END)
 }
@@ -96,7 +94,7 @@ fn add_clear<const NW: usize, const PAGES: usize>(
         cell: Cell::Byte(address),
         from: step,
         to: next_poke(timeline, address, step),
-        cause: Cause::Clear,
+        cause: Cause::Uncover,
     })?;
     Ok(())
 }
@@ -121,7 +119,7 @@ fn add_image<const NW: usize, const PAGES: usize>(
         cell: Cell::Byte(address),
         from: 0,
         to: first_poke(timeline, address),
-        cause: Cause::Image(Content::Byte(new)),
+        cause: Cause::Source(Content::Byte(new)),
     })?;
     Ok(())
 }
@@ -243,7 +241,7 @@ pub(crate) fn clear_request_patches<const NW: usize, const PAGES: usize>(
             cell: Cell::Level(level),
             from: step,
             to: next_request(timeline, level, step),
-            cause: Cause::Clear,
+            cause: Cause::Uncover,
         })?;
     }
     Ok(patches)

@@ -1,32 +1,71 @@
 //! Loads and stores.
 
-ghost use Rattle.std.specs.Prelude.{◌≡◌, ℕ, ◌+◌, ◌*◌, ◌/◌, ◌%◌, ◌<◌, ◌++◌, ◌∷◌, [], true, List, IfOk, OnOk, OnErr};
-ghost use Rattle.sv8_model.specs.Does.{Does, kept};
+ghost use Rattle.std.specs.Prelude.{◌≡◌, ℕ, ◌+◌, ◌*◌, ◌/◌, ◌%◌, ◌<◌, ◌++◌, ◌∷◌, [], true, false, List, IfOk, OnOk, OnErr};
+ghost use Rattle.sv8_model.specs.Does.{Does, DoesUnnoted, kept};
 ghost use Rattle.sv8_model.specs.Outside.{word_address};
 ghost use Rattle.sv8_phys.specs.Memory.{bytes_in, ram_size};
 ghost use Rattle.sv8_phys.specs.Contents.{outside_of};
 ghost use Rattle.sv8_phys.specs.Devices.{load, store, ram_load, ram_store, stored_with};
 ghost use Rattle.sv8_phys.specs.Notes.{load_touches, store_touches};
+ghost use Rattle.sv8_phys.specs.Growths.{load_grows, store_grows};
+ghost use Rattle.sv8_phys.specs.Calls.{loaded};
 
 use crate::fault::BusError;
 use crate::phys::Phys;
 use crate::size::Size;
 use crate::timer::Timer;
-use crate::touch::Touches;
+use crate::touch::{NoTouches, Touches};
 use std::alloc::AllocError;
 use sv8_model::Touch;
 
 impl<const PAGES: usize> Phys<PAGES> {
     /// Loads from RAM or a device. A number of more than one byte has its most significant byte at the lowest address.
     ///
-    /// The console's input is not served here but by `take_input` and `waiting`.
+    /// The console's input is not served here but by `take_input` and `waiting`. It takes no memory.
     ///
     /// # Errors
     ///
-    /// `AllocError` where memory for a note cannot be had. `BusError`, as an answer, where neither RAM nor a device serves the
-    /// address, or a device is not asked for a word.
+    /// `BusError` where neither RAM nor a device serves the address, or a device is not asked for a word.
+    pub fn read(&self, pa: u64, size: Size) -> Result<u64, BusError>
+        requires { pa % bytes_in size ≡ 0 }
+        ensures { result ≡ loaded (ram_size PAGES) self.now size pa }
+    {
+        match self.read_noted(pa, size, &mut NoTouches) {
+            Ok(answer) => answer,
+            Err(_) => unreachable!(),
+        }
+    }
+
+    /// Stores to RAM or a device the low bytes of a number.
+    ///
+    /// # Errors
+    ///
+    /// `AllocError` where memory for a page that is shared or for the output cannot be had; memory and devices are then as they
+    /// were. `BusError`, as an answer, as for `read`.
+    pub fn write(
+        &mut self,
+        pa: u64,
+        size: Size,
+        value: u64,
+    ) -> Result<Result<(), BusError>, AllocError>
+        requires { pa % bytes_in size ≡ 0 }
+        ensures ok { IfOk result (λ r. (bytes : List ℕ) → DoesUnnoted (store (ram_size PAGES) self.old.timer size pa value)
+            (outside_of self.old bytes) (outside_of self.new bytes) (record { answer = r; timer = self.new.timer })) }
+        ensures taken { self.new.taken ≡ self.old.taken }
+        ensures err { OnErr result (self.new ≡ self.old) }
+        ensures growth { OnErr result (store_grows false (ram_size PAGES) size pa ≡ true) }
+    {
+        let answer = self.write_noted(pa, size, value, &mut NoTouches)?;
+        Ok(answer)
+    }
+
+    /// Loads as `read` does, and notes what it touches.
+    ///
+    /// # Errors
+    ///
+    /// `AllocError` where memory for a note cannot be had. `BusError`, as an answer, as for `read`.
     #[inline]
-    pub fn read<T: Touches>(
+    pub fn read_noted<T: Touches>(
         &self,
         pa: u64,
         size: Size,
@@ -35,7 +74,7 @@ impl<const PAGES: usize> Phys<PAGES> {
         requires { pa % bytes_in size ≡ 0 }
         ensures ok { IfOk result (λ r. (bytes : List ℕ) → Does T.KEEPS (load (ram_size PAGES) self.now.timer size pa)
             (outside_of self.now bytes) (outside_of self.now bytes) r (T.noted notes.old) (T.noted notes.new)) }
-        ensures err { OnErr result (T.KEEPS ≡ true) }
+        ensures growth { OnErr result (load_grows T.KEEPS (ram_size PAGES) size pa ≡ true) }
     {
         if pa < self.ram_size() {
             let value = self.read_ram(pa, size, notes)?;
@@ -46,14 +85,14 @@ impl<const PAGES: usize> Phys<PAGES> {
         }
     }
 
-    /// Stores to RAM or a device the low bytes of a number.
+    /// Stores as `write` does, and notes what it touches.
     ///
     /// # Errors
     ///
     /// `AllocError` where memory for a page that is shared, for the output or for a note cannot be had; memory and devices
     /// are then as they were. `BusError`, as an answer, as for `read`.
     #[inline]
-    pub fn write<T: Touches>(
+    pub fn write_noted<T: Touches>(
         &mut self,
         pa: u64,
         size: Size,
@@ -65,6 +104,7 @@ impl<const PAGES: usize> Phys<PAGES> {
             (outside_of self.old bytes) (outside_of self.new bytes) (record { answer = r; timer = self.new.timer }) (T.noted notes.old) (T.noted notes.new)) }
         ensures taken { self.new.taken ≡ self.old.taken }
         ensures err { OnErr result (self.new ≡ self.old) }
+        ensures growth { OnErr result (store_grows T.KEEPS (ram_size PAGES) size pa ≡ true) }
     {
         if pa < self.ram_size() {
             self.write_ram(pa, size, value, notes)?;
@@ -177,7 +217,7 @@ fn note_store<T: Touches>(pa: u32, size: Size, notes: &mut T) -> Result<(), Allo
 
 /// Takes two notes, one behind the other.
 #[inline(always)]
-#[tactic(auto, using(sv8_model::proofs::Deeds::kept_append))]
+#[tactic(auto, using(sv8_model::proofs::Common::kept_append))]
 fn note_both<T: Touches>(first: Touch, second: Touch, notes: &mut T) -> Result<(), AllocError>
     ensures ok { OnOk result (T.noted notes.new ≡ T.noted notes.old ++ kept T.KEEPS (first ∷ second ∷ [])) }
     ensures err { OnErr result (T.KEEPS ≡ true) }

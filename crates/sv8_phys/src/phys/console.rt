@@ -1,24 +1,51 @@
 //! The console's input.
 
-ghost use Rattle.std.specs.Prelude.{◌≡◌, ◌≤◌, true, IfOk, OnErr};
+ghost use Rattle.std.specs.Prelude.{◌≡◌, ◌≤◌, true, length, IfOk, OnErr};
 ghost use Rattle.sv8_model.specs.Action as model;
 ghost use Rattle.sv8_model.specs.Does.{Does};
+ghost use Rattle.sv8_model.specs.Outside.{oldest};
 ghost use Rattle.sv8_time.specs.Schedule.{bytes_below};
 ghost use Rattle.sv8_phys.specs.Contents.{arrived, outside_of};
+ghost use Rattle.sv8_phys.specs.Calls.{waiting_bytes, after_take};
 
 use crate::phys::Phys;
-use crate::touch::Touches;
+use crate::touch::{NoTouches, Touches};
 use std::alloc::AllocError;
 use sv8_model::Touch;
 use sv8_time::Timeline;
 
 impl<const PAGES: usize> Phys<PAGES> {
-    /// Takes the oldest of the bytes that came in at the steps below `before` and wait; 0 if none does.
+    /// Takes the oldest of the bytes that came in at the steps below `before` and wait, as a load of `INPUT` does; 0 if none
+    /// waits. It takes no memory.
+    pub fn take_input(&mut self, before: u32, timeline: &Timeline) -> u8
+        requires { self.old.taken ≤ bytes_below before timeline.now.inputs }
+        ensures byte { result ≡ oldest (waiting_bytes self.old (arrived before timeline.now)) }
+        ensures memory { self.new ≡ after_take self.old (waiting_bytes self.old (arrived before timeline.now)) }
+        ensures delivered { self.new.taken ≤ bytes_below before timeline.now.inputs }
+    {
+        match self.take_input_noted(before, timeline, &mut NoTouches) {
+            Ok(byte) => byte,
+            Err(_) => unreachable!(),
+        }
+    }
+
+    /// The number of bytes that came in at the steps below `before` and wait, as a load of `WAITING` tells. It takes no memory.
+    pub fn waiting(&self, before: u32, timeline: &Timeline) -> u32
+        requires { self.now.taken ≤ bytes_below before timeline.now.inputs }
+        ensures { result ≡ length (waiting_bytes self.now (arrived before timeline.now)) }
+    {
+        match self.waiting_noted(before, timeline, &mut NoTouches) {
+            Ok(count) => count,
+            Err(_) => unreachable!(),
+        }
+    }
+
+    /// Takes a byte as `take_input` does, and notes that.
     ///
     /// # Errors
     ///
     /// `AllocError` where memory for the note cannot be had; nothing is then taken.
-    pub fn take_input<T: Touches>(
+    pub fn take_input_noted<T: Touches>(
         &mut self,
         before: u32,
         timeline: &Timeline,
@@ -42,12 +69,12 @@ impl<const PAGES: usize> Phys<PAGES> {
         Ok(0)
     }
 
-    /// The number of bytes that came in at the steps below `before` and wait.
+    /// Counts the waiting bytes as `waiting` does, and notes that.
     ///
     /// # Errors
     ///
     /// `AllocError` where memory for the note cannot be had.
-    pub fn waiting<T: Touches>(
+    pub fn waiting_noted<T: Touches>(
         &self,
         before: u32,
         timeline: &Timeline,

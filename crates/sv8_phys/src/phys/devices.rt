@@ -5,12 +5,14 @@ ghost use Rattle.sv8_model.specs.Action as model;
 ghost use Rattle.sv8_model.specs.Does.{Does};
 ghost use Rattle.sv8_phys.specs.Contents.{outside_of};
 ghost use Rattle.sv8_phys.specs.Devices.{tick, outside_load, outside_store, device_load, device_store, stored_with};
+ghost use Rattle.sv8_phys.specs.Growths.{outside_load_grows, outside_store_grows};
+ghost use Rattle.sv8_phys.specs.Calls.{ticked};
 
 use crate::fault::BusError;
 use crate::phys::Phys;
 use crate::size::Size;
 use crate::timer::Timer;
-use crate::touch::Touches;
+use crate::touch::{NoTouches, Touches};
 use std::alloc::AllocError;
 use sv8_model::Touch;
 
@@ -40,18 +42,28 @@ const TIMER_LEVEL: u32 = 10;
 
 impl<const PAGES: usize> Phys<PAGES> {
     /// A step of the timer: a count above 0 falls by one; where it thereby reaches 0, level 10 becomes pending, and the
-    /// count starts again from the reload.
+    /// count starts again from the reload. It takes no memory.
+    pub fn tick(&mut self)
+        ensures { self.new ≡ ticked self.old }
+    {
+        match self.tick_noted(&mut NoTouches) {
+            Ok(()) => {}
+            Err(_) => unreachable!(),
+        }
+    }
+
+    /// A step of the timer, as `tick`, which notes an expiry.
     ///
     /// # Errors
     ///
     /// `AllocError` where memory for the note of an expiry cannot be had; the timer is then as it was.
     #[inline]
-    pub fn tick<T: Touches>(&mut self, notes: &mut T) -> Result<(), AllocError>
+    pub fn tick_noted<T: Touches>(&mut self, notes: &mut T) -> Result<(), AllocError>
         ensures ok { IfOk result (λ _. (bytes : List ℕ) → Does T.KEEPS (tick self.old.timer)
             (outside_of self.old bytes) (outside_of self.new bytes) self.new.timer (T.noted notes.old) (T.noted notes.new)) }
         ensures taken { self.new.taken ≡ self.old.taken }
         ensures err { OnErr result (self.new ≡ self.old) }
-        ensures quiet { OnErr result (T.KEEPS ≡ true) }
+        ensures growth { OnErr result ((T.KEEPS ≡ true) × (self.old.timer.count ≡ 1)) }
     {
         match self.timer.count {
             0 => {}
@@ -86,7 +98,7 @@ impl<const PAGES: usize> Phys<PAGES> {
     ) -> Result<Result<u64, BusError>, AllocError>
         ensures ok { IfOk result (λ r. (bytes : List ℕ) → Does T.KEEPS (outside_load self.now.timer size pa)
             (outside_of self.now bytes) (outside_of self.now bytes) r (T.noted notes.old) (T.noted notes.new)) }
-        ensures err { OnErr result (T.KEEPS ≡ true) }
+        ensures growth { OnErr result (outside_load_grows T.KEEPS size pa ≡ true) }
     {
         match size {
             Size::Word => {
@@ -106,7 +118,7 @@ impl<const PAGES: usize> Phys<PAGES> {
     ) -> Result<Result<u64, BusError>, AllocError>
         ensures ok { IfOk result (λ r. (bytes : List ℕ) → Does T.KEEPS (device_load self.now.timer pa)
             (outside_of self.now bytes) (outside_of self.now bytes) r (T.noted notes.old) (T.noted notes.new)) }
-        ensures err { OnErr result (T.KEEPS ≡ true) }
+        ensures growth { OnErr result (outside_load_grows T.KEEPS Size.Word pa ≡ true) }
     {
         match pa {
             OUTPUT => Ok(Ok(0)),
@@ -133,6 +145,7 @@ impl<const PAGES: usize> Phys<PAGES> {
             (outside_of self.old bytes) (outside_of self.new bytes) (record { answer = r; timer = self.new.timer }) (T.noted notes.old) (T.noted notes.new)) }
         ensures taken { self.new.taken ≡ self.old.taken }
         ensures err { OnErr result (self.new ≡ self.old) }
+        ensures growth { OnErr result (outside_store_grows T.KEEPS size pa ≡ true) }
     {
         match size {
             Size::Word => {
@@ -155,6 +168,7 @@ impl<const PAGES: usize> Phys<PAGES> {
             (outside_of self.old bytes) (outside_of self.new bytes) (record { answer = r; timer = self.new.timer }) (T.noted notes.old) (T.noted notes.new)) }
         ensures taken { self.new.taken ≡ self.old.taken }
         ensures err { OnErr result (self.new ≡ self.old) }
+        ensures growth { OnErr result (outside_store_grows T.KEEPS Size.Word pa ≡ true) }
     {
         match pa {
             OUTPUT => self.output.push((value % 0x100) as u8)?,
@@ -173,6 +187,7 @@ impl<const PAGES: usize> Phys<PAGES> {
             (outside_of self.old bytes) (outside_of self.new bytes) (stored_with timer) (T.noted notes.old) (T.noted notes.new)) }
         ensures others { self.new ≡ record self.old { pending = self.new.pending } }
         ensures err { OnErr result (self.new ≡ self.old) }
+        ensures quiet { OnErr result (T.KEEPS ≡ true) }
     {
         notes.note(Touch::Levels(EVERY_LEVEL))?;
         self.pending.clear(levels);

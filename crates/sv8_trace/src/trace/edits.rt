@@ -1,12 +1,12 @@
 //! What an edit of past inputs makes of a trace: a cut by the first step that reads what was changed, and patches.
 
-ghost use Rattle.std.specs.Prelude.{◌≡◌, ℕ, ◌*◌, ◌<◌, [], length, ⊤, MatchOption, IfOk};
+ghost use Rattle.std.specs.Prelude.{◌≡◌, ℕ, ◌*◌, ◌<◌, [], length, ⊤, true, MatchOption, IfOk};
 ghost use Rattle.std.specs.List.{All};
 ghost use Rattle.sv8_history.specs.Reads.{first_of_change, first_of_each, earlier};
 ghost use Rattle.sv8_history.specs.Patches.{count_after, edited};
 ghost use Rattle.sv8_history.specs.Input.{edited_input};
 ghost use Rattle.sv8_cpu.specs.Recorded.{machine};
-ghost use Rattle.sv8_trace.specs.Patch.{change_of, changes_of, IsPatch};
+ghost use Rattle.sv8_trace.specs.Patch.{change_of, changes_of, AreReadAlike, BeginAlike, IsPatch};
 ghost use Rattle.sv8_trace.specs.Recording.{recorded, trace_of};
 ghost use Rattle.sv8_trace.specs.Prepared.{prepared_trace, IsPreparedFor, Near};
 
@@ -27,6 +27,28 @@ fn earlier(first: Option<u32>, second: Option<u32>) -> Option<u32>
     }
 }
 
+/// Whether the same steps read what two patches have changed, as both are of one word from one step on and below another.
+fn is_read_alike(one: Patch, other: Patch) -> bool
+    ensures { result ≡ true → AreReadAlike one other }
+{
+    match (one.cell, other.cell) {
+        (Cell::Byte(address), Cell::Byte(next)) => {
+            address / 4 == next / 4 && one.from == other.from && one.to == other.to
+        }
+        _ => false,
+    }
+}
+
+/// Whether the first two of some patches are read by the same steps.
+fn begins_alike(patches: &[Patch]) -> bool
+    ensures { result ≡ true → BeginAlike patches.now }
+{
+    match patches {
+        [one, other, ..] => is_read_alike(*one, *other),
+        _ => false,
+    }
+}
+
 impl<const NW: usize, const PAGES: usize, const K: u32> Trace<NW, PAGES, K> {
     /// The first recorded step that reads what a patch has changed.
     fn first_of(&self, patch: Patch) -> Option<u32>
@@ -43,8 +65,12 @@ impl<const NW: usize, const PAGES: usize, const K: u32> Trace<NW, PAGES, K> {
         ensures { result ≡ first_of_each (machine NW PAGES) K (trace_of NW PAGES K self.now) (changes_of NW PAGES patches.now) }
     {
         let mut first = None;
-        for patch in patches {
-            first = earlier(first, self.first_of(*patch));
+        let mut rest = patches;
+        while let [patch, after @ ..] = rest {
+            if !begins_alike(rest) {
+                first = earlier(first, self.first_of(*patch));
+            }
+            rest = after;
         }
         first
     }

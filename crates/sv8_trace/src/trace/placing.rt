@@ -16,7 +16,7 @@ use crate::column::{LevelColumn, PageColumn};
 use crate::interval::Interval;
 use crate::kept::KeptList;
 use crate::patch::Patch;
-use crate::prepared::{Prepared, Staged};
+use crate::prepared::Prepared;
 use crate::trace::Trace;
 use std::alloc::{AllocError, Global};
 use sv8_cpu::Machine;
@@ -177,12 +177,12 @@ impl<const NW: usize, const PAGES: usize, const K: u32> Trace<NW, PAGES, K> {
         requires { IsPreparedFor PAGES self.old prepared }
         ensures { Agrees (machine NW PAGES) K (prepared_trace NW PAGES K self.old prepared) (trace_of NW PAGES K self.new) }
     {
-        let Staged {
+        let Prepared {
             count,
             pages,
             levels,
             kept,
-        } = prepared.staged;
+        } = prepared;
         self.points.truncate(count + 1);
         self.intervals.truncate(count);
         place_all_pages(&mut self.points, pages);

@@ -17,16 +17,15 @@ ghost use Rattle.sv8_trace.specs.Prepared.{list_at, placed, prepared_trace, IsPr
 ghost use Rattle.sv8_trace.specs.Patching.{IsFirstWrite, KeptPut, PointsSet, RaisedAt};
 
 use crate::cell::{Cell, Content};
-use crate::column::{LevelColumn, PageColumn};
+use crate::column::LevelColumn;
 use crate::kept::KeptList;
+use crate::marks::PAGE_SIZE;
 use crate::notes::Sought;
 use crate::patch::{Cause, Patch};
 use crate::prepared::{Prepared, Staged};
+use crate::runs::PageRuns;
 use crate::trace::{NO_END, Trace};
 use std::alloc::{AllocError, Global};
-
-/// How many bytes a page has.
-const PAGE_SIZE: u32 = 4096;
 
 /// How many interrupt levels there are, with level 0, which is none.
 const LEVELS: usize = 16;
@@ -52,12 +51,13 @@ fn empty_places<T: Drop>(alloc: Global, count: usize) -> Result<Vec<Option<T>>, 
 }
 
 impl<const NW: usize, const PAGES: usize, const K: u32> Trace<NW, PAGES, K> {
-    /// The first recorded step from `from` on that writes a cell, or `NO_END`.
-    fn first_write(&self, cell: Cell, from: u32) -> u32
-        ensures { IsFirstWrite (machine NW PAGES) (trace_of NW PAGES K self.now) (cell_of cell) from (recorded K self.now) result }
+    /// The first step from `from` on that writes a cell, of those in front of a checkpoint, or `NO_END`.
+    fn first_write(&self, cell: Cell, from: u32, checkpoint: usize) -> u32
+        requires { checkpoint ≤ length self.now.intervals }
+        ensures { IsFirstWrite (machine NW PAGES) (trace_of NW PAGES K self.now) (cell_of cell) from (K * checkpoint) result }
     {
         let _points = &self.points;
-        self.first_from(Sought::Write(cell), from, NO_END)
+        self.first_from(Sought::Write(cell), from, K * checkpoint as u32)
             .unwrap_or(NO_END)
     }
 
@@ -151,16 +151,16 @@ impl<const NW: usize, const PAGES: usize, const K: u32> Trace<NW, PAGES, K> {
         alloc: Global,
         address: u32,
         count: usize,
-    ) -> Result<PageColumn, AllocError>
+    ) -> Result<PageRuns, AllocError>
         requires address { address < ram_size PAGES }
         requires count { count ≤ length self.now.points }
         ensures { IfOk result (λ c. c ≡ map (λ s. page_of s.memory.ram (address / 4096)) (take count self.now.points)) }
     {
-        let mut column = PageColumn::new(alloc);
+        let mut runs = PageRuns::new(alloc);
         for point in &self.points[..count] {
-            column.push(point.page(address)?)?;
+            runs.push(point.page(address)?)?;
         }
-        Ok(column)
+        Ok(runs)
     }
 
     /// Whether a level is pending in each of the first checkpoints.
@@ -191,7 +191,7 @@ impl<const NW: usize, const PAGES: usize, const K: u32> Trace<NW, PAGES, K> {
         let point = &self.points[index];
         match cell {
             Cell::Byte(address) => match &staged.pages[(address / PAGE_SIZE) as usize] {
-                Some(column) => Content::Byte(column.byte(index, address)),
+                Some(runs) => Content::Byte(runs.byte(index, address)),
                 None => cell.content(point),
             },
             Cell::Level(level) => match &staged.levels[level as usize] {
@@ -220,12 +220,12 @@ impl<const NW: usize, const PAGES: usize, const K: u32> Trace<NW, PAGES, K> {
     {
         let _points = &self.points;
         let page = (address / PAGE_SIZE) as usize;
-        let mut column = match staged.pages[page].take() {
-            Some(column) => column,
+        let mut runs = match staged.pages[page].take() {
+            Some(runs) => runs,
             None => self.gather_pages(alloc, address, staged.count + 1)?,
         };
-        column.set(low, end, address, value)?;
-        staged.pages[page] = Some(column);
+        runs.set(low, end, address, value)?;
+        staged.pages[page] = Some(runs);
         Ok(())
     }
 
@@ -295,8 +295,7 @@ impl<const NW: usize, const PAGES: usize, const K: u32> Trace<NW, PAGES, K> {
     fn kept_below(&self, staged: &Staged, cell: Cell, reach: Reach) -> Option<Content>
         requires fits { IsPreparedFor PAGES self.now staged.now }
         requires cell { IsCell PAGES cell }
-        requires ordered { reach.from ≤ reach.to }
-        requires first { IsFirstWrite (machine NW PAGES) (trace_of NW PAGES K self.now) (cell_of cell) reach.from (recorded K self.now) reach.wrote }
+        requires first { IsFirstWrite (machine NW PAGES) (trace_of NW PAGES K self.now) (cell_of cell) reach.from (K * staged.now.count) reach.wrote }
         ensures kept { option_map content_of result ≡ kept_by_poke (machine NW PAGES) K (prepared_trace NW PAGES K self.now staged.now) (cell_of cell) reach.from reach.to }
         ensures inside { IfSome result (λ v. reach.from / K < staged.now.count) }
     {
@@ -313,7 +312,7 @@ impl<const NW: usize, const PAGES: usize, const K: u32> Trace<NW, PAGES, K> {
         if step <= reach.to && step <= reach.wrote {
             return Some(self.content(staged, next, cell));
         }
-        if reach.to < step && reach.to <= reach.wrote {
+        if reach.to < step && reach.to <= reach.wrote && reach.from <= reach.to {
             return self.kept_value(staged, reach.to, cell);
         }
         None
@@ -357,7 +356,7 @@ impl<const NW: usize, const PAGES: usize, const K: u32> Trace<NW, PAGES, K> {
     ) -> Result<(), AllocError>
         requires fits { IsPreparedFor PAGES self.now staged.old }
         requires cell { IsCell PAGES cell }
-        requires first { IsFirstWrite (machine NW PAGES) (trace_of NW PAGES K self.now) (cell_of cell) reach.from (recorded K self.now) reach.wrote }
+        requires first { IsFirstWrite (machine NW PAGES) (trace_of NW PAGES K self.now) (cell_of cell) reach.from (K * staged.old.count) reach.wrote }
         ensures fits { OnOk result (IsPreparedFor PAGES self.now staged.new) }
         ensures near { OnOk result ((first : ℕ) → ((i : ℕ) → leb first (K * i) ≡ leb low i)
             → Near (machine NW PAGES) K (prepared_trace NW PAGES K self.now staged.new) (spread (machine NW PAGES) (prepared_trace NW PAGES K self.now staged.old) (cell_of cell) (content_of content) reach.from first reach.to)) }
@@ -371,8 +370,8 @@ impl<const NW: usize, const PAGES: usize, const K: u32> Trace<NW, PAGES, K> {
         Ok(())
     }
 
-    /// The source gives the cell another content, from step 0 on.
-    fn apply_image(
+    /// The source gives the cell another content, from the checkpoint of its step on.
+    fn apply_source(
         &self,
         alloc: Global,
         staged: &mut Staged,
@@ -382,12 +381,13 @@ impl<const NW: usize, const PAGES: usize, const K: u32> Trace<NW, PAGES, K> {
     ) -> Result<(), AllocError>
         requires fits { IsPreparedFor PAGES self.now staged.old }
         requires cell { IsCell PAGES cell }
-        requires at_reset { reach.from ≡ 0 }
-        requires first { IsFirstWrite (machine NW PAGES) (trace_of NW PAGES K self.now) (cell_of cell) reach.from (recorded K self.now) reach.wrote }
+        requires first { IsFirstWrite (machine NW PAGES) (trace_of NW PAGES K self.now) (cell_of cell) reach.from (K * staged.old.count) reach.wrote }
         ensures fits { OnOk result (IsPreparedFor PAGES self.now staged.new) }
         ensures near { OnOk result (Near (machine NW PAGES) K (prepared_trace NW PAGES K self.now staged.new) (spread (machine NW PAGES) (prepared_trace NW PAGES K self.now staged.old) (cell_of cell) (content_of content) reach.from reach.from reach.to)) }
     {
-        self.spread_content(alloc, staged, cell, content, 0, reach)?;
+        let _points = &self.points;
+        let low = reach.from.div_ceil(K) as usize;
+        self.spread_content(alloc, staged, cell, content, low, reach)?;
         Ok(())
     }
 
@@ -402,8 +402,7 @@ impl<const NW: usize, const PAGES: usize, const K: u32> Trace<NW, PAGES, K> {
     ) -> Result<(), AllocError>
         requires fits { IsPreparedFor PAGES self.now staged.old }
         requires cell { IsCell PAGES cell }
-        requires ordered { reach.from ≤ reach.to }
-        requires first { IsFirstWrite (machine NW PAGES) (trace_of NW PAGES K self.now) (cell_of cell) reach.from (recorded K self.now) reach.wrote }
+        requires first { IsFirstWrite (machine NW PAGES) (trace_of NW PAGES K self.now) (cell_of cell) reach.from (K * staged.old.count) reach.wrote }
         ensures fits { OnOk result (IsPreparedFor PAGES self.now staged.new) }
         ensures near { OnOk result (Near (machine NW PAGES) K (prepared_trace NW PAGES K self.now staged.new) (set_poke (machine NW PAGES) K (prepared_trace NW PAGES K self.now staged.old) (cell_of cell) (content_of content) reach.from reach.to)) }
     {
@@ -421,7 +420,7 @@ impl<const NW: usize, const PAGES: usize, const K: u32> Trace<NW, PAGES, K> {
     }
 
     /// An event no longer sets the cell.
-    fn apply_clear(
+    fn uncover_cell(
         &self,
         alloc: Global,
         staged: &mut Staged,
@@ -430,7 +429,7 @@ impl<const NW: usize, const PAGES: usize, const K: u32> Trace<NW, PAGES, K> {
     ) -> Result<(), AllocError>
         requires fits { IsPreparedFor PAGES self.now staged.old }
         requires cell { IsCell PAGES cell }
-        requires first { IsFirstWrite (machine NW PAGES) (trace_of NW PAGES K self.now) (cell_of cell) reach.from (recorded K self.now) reach.wrote }
+        requires first { IsFirstWrite (machine NW PAGES) (trace_of NW PAGES K self.now) (cell_of cell) reach.from (K * staged.old.count) reach.wrote }
         ensures fits { OnOk result (IsPreparedFor PAGES self.now staged.new) }
         ensures near { OnOk result (Near (machine NW PAGES) K (prepared_trace NW PAGES K self.now staged.new) (uncover (machine NW PAGES) (prepared_trace NW PAGES K self.now staged.old) (cell_of cell) reach.from reach.to ((prepared_trace NW PAGES K self.now staged.old).kept reach.from (cell_of cell)))) }
     {
@@ -457,12 +456,12 @@ impl<const NW: usize, const PAGES: usize, const K: u32> Trace<NW, PAGES, K> {
         let reach = Reach {
             from: patch.from,
             to: patch.to,
-            wrote: self.first_write(cell, patch.from),
+            wrote: self.first_write(cell, patch.from, staged.count),
         };
         match patch.cause {
-            Cause::Image(content) => self.apply_image(alloc, staged, cell, content, reach),
+            Cause::Source(content) => self.apply_source(alloc, staged, cell, content, reach),
             Cause::Poke(content) => self.apply_poke(alloc, staged, cell, content, reach),
-            Cause::Clear => self.apply_clear(alloc, staged, cell, reach),
+            Cause::Uncover => self.uncover_cell(alloc, staged, cell, reach),
         }
     }
 
@@ -489,6 +488,7 @@ impl<const NW: usize, const PAGES: usize, const K: u32> Trace<NW, PAGES, K> {
         for patch in patches {
             self.apply(alloc, &mut staged, *patch)?;
         }
-        Ok(Prepared { staged })
+        let prepared = staged.finish(alloc)?;
+        Ok(prepared)
     }
 }

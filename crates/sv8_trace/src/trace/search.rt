@@ -1,6 +1,6 @@
 //! The first steps that read what an edit changes.
 
-ghost use Rattle.std.specs.Prelude.{◌≡◌, ℕ, ◌*◌, ◌<◌, ◌≤◌, min, length};
+ghost use Rattle.std.specs.Prelude.{◌≡◌, ℕ, ◌*◌, ◌<◌, ◌≤◌, false, min, length};
 ghost use Rattle.sv8_model.specs.Cells.{ram_byte, pending_level};
 ghost use Rattle.sv8_history.specs.Changes.{Clear};
 ghost use Rattle.sv8_history.specs.Reads.{first_of_change};
@@ -16,11 +16,33 @@ use crate::notes::Sought;
 use crate::trace::{NO_END, Trace};
 
 impl<const NW: usize, const PAGES: usize, const K: u32> Trace<NW, PAGES, K> {
+    /// A step at which what is sought is done no more, nor at any later one that is recorded.
+    fn end_of(&self, sought: Sought) -> u32
+        ensures end { result ≤ recorded K self.now }
+        ensures none { (n : ℕ) → result ≤ n → n < recorded K self.now → is_met sought ((trace_of NW PAGES K self.now).notes n) ≡ false }
+    {
+        let _points = &self.points;
+        match sought.word() {
+            Some(address) => {
+                let count = self.marks.mark(address) as usize;
+                K * count.min(self.intervals.len()) as u32
+            }
+            None => self.recorded(),
+        }
+    }
+
     /// The first recorded step from one step on and below another that does what is sought.
     pub(crate) fn first_from(&self, sought: Sought, from: u32, to: u32) -> Option<u32>
         ensures { IsFirstBelow (λ n. is_met sought ((trace_of NW PAGES K self.now).notes n)) from (min to (recorded K self.now)) result }
     {
-        let end = to.min(self.recorded());
+        self.first_between(sought, from, to.min(self.end_of(sought)))
+    }
+
+    /// The same below a step that is not above the recorded ones.
+    fn first_between(&self, sought: Sought, from: u32, end: u32) -> Option<u32>
+        requires { end ≤ recorded K self.now }
+        ensures { IsFirstBelow (λ n. is_met sought ((trace_of NW PAGES K self.now).notes n)) from end result }
+    {
         let mut start = from;
         while start < end {
             let index = (start / K) as usize;

@@ -1,4 +1,4 @@
-use Rattle.std.proofs.Common.{◌<◌, arith}
+use Rattle.std.proofs.Common.{arith}
 use Rattle.sv8_cpu.proofs.Late.{late_arrived, late_below}
 use Rattle.sv8_cpu.proofs.events.end_of.Goals as goal
 

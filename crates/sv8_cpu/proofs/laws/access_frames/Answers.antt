@@ -1,4 +1,4 @@
-use Rattle.sv8_model.proofs.Frames.{framed}
+use Rattle.sv8_model.proofs.Common.{framed}
 use Rattle.sv8_cpu.specs.Access.{access}
 use Rattle.sv8_cpu.proofs.laws.access_frames.Goals as goal
 

@@ -8,8 +8,8 @@ use Rattle.sv8_phys.specs.Devices.{tick}
 use Rattle.sv8_trap.specs.Processor.{advanced, transferred, with_result, slot_skipped}
 use Rattle.sv8_mmu.specs.Translation.{translate}
 use Rattle.sv8_cpu.specs.Access.{access, at_virtual, fetched_from}
-use Rattle.sv8_cpu.specs.Arithmetic.{finished, operated}
-use Rattle.sv8_cpu.specs.Control.{branched, holds}
+use Rattle.sv8_iu.specs.Arithmetic.{finished, operated}
+use Rattle.sv8_iu.specs.Control.{branched, holds}
 use Rattle.sv8_cpu.specs.Step.{action, awake, interruptible, continued, instruction, executed}
 use Rattle.sv8_cpu.proofs.laws.worked_steps.Goals as goal
 

@@ -12,10 +12,10 @@ use Rattle.sv8_trap.specs.Table.{row_of}
 use Rattle.sv8_trap.specs.Processor.{advanced, transferred, with_result}
 use Rattle.sv8_mmu.specs.Translation.{translate}
 use Rattle.sv8_cpu.specs.Access.{access, at_virtual, fetched_from}
-use Rattle.sv8_cpu.specs.Arithmetic.{finished, operated, tagged_of}
-use Rattle.sv8_cpu.specs.Control.{holds, return_traps, number_traps}
-use Rattle.sv8_cpu.specs.Operands.{sum_of_sources}
-use Rattle.sv8_cpu.specs.StateRegisters.{written_word, state_written}
+use Rattle.sv8_iu.specs.Arithmetic.{finished, operated, tagged_of}
+use Rattle.sv8_iu.specs.Control.{holds, return_traps, number_traps}
+use Rattle.sv8_iu.specs.Operands.{sum_of_sources}
+use Rattle.sv8_iu.specs.StateRegisters.{written_word, state_written}
 use Rattle.sv8_cpu.specs.Step.{action, awake, interruptible, requested, continued, instruction, executed}
 use Rattle.sv8_cpu.proofs.laws.worked_traps.Goals as goal
 

@@ -10,9 +10,9 @@ use Rattle.sv8_trap.specs.Processor.{advanced, with_result}
 use Rattle.sv8_trap.specs.Table.{row_of}
 use Rattle.sv8_cpu.specs.Step.{action, awake, interruptible, continued, instruction, executed}
 use Rattle.sv8_cpu.specs.Access.{access, at_virtual, fetched_from}
-use Rattle.sv8_cpu.specs.Operands.{sum_of_sources}
-use Rattle.sv8_cpu.specs.Windows.{moved}
-use Rattle.sv8_cpu.specs.Arithmetic.{finished, operated}
+use Rattle.sv8_iu.specs.Operands.{sum_of_sources}
+use Rattle.sv8_iu.specs.Windows.{moved}
+use Rattle.sv8_iu.specs.Arithmetic.{finished, operated}
 use Rattle.sv8_cpu.proofs.laws.worked_windows.Goals as goal
 
 pub returns-clause-window : goal.returns-clause-window

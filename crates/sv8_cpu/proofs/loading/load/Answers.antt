@@ -1,4 +1,3 @@
-use Rattle.std.proofs.Common.{refl, sym}
 use Rattle.sv8_cpu.proofs.LoadedImage.{all_placed}
 use Rattle.sv8_cpu.proofs.loading.load.Goals as goal
 

@@ -1,4 +1,3 @@
-use Rattle.std.proofs.Common.{refl, sym}
 use Rattle.sv8_source.specs.Listing.{listing}
 use Rattle.sv8_source.specs.View.{shown_of}
 use Rattle.sv8_phys.specs.Memory.{ram_size}

@@ -1,5 +1,5 @@
-use Rattle.std.proofs.Common.{refl, sym}
-use Rattle.sv8_phys.proofs.Arrivals.{length-arrived}
+use Rattle.std.proofs.Common.{refl}
+use Rattle.sv8_phys.proofs.Common.{length-arrived}
 use Rattle.sv8_cpu.specs.Whole.{inner_of_parts}
 use Rattle.sv8_cpu.proofs.Leaving.{left}
 use Rattle.sv8_cpu.proofs.machine.act_noted.Goals as goal

@@ -1,5 +1,4 @@
-use Rattle.std.proofs.Common.{refl, sym, ap, arith, ◌≡◌, ◌≤◌, ℕ}
-use Rattle.sv8_time.specs.Schedule.{bytes_below}
+use Rattle.std.proofs.Common.{ap, arith, ◌≡◌}
 use Rattle.sv8_cpu.specs.Events.{with_events}
 use Rattle.sv8_cpu.proofs.Late.{below_grows}
 use Rattle.sv8_cpu.proofs.machine.begin.Goals as goal

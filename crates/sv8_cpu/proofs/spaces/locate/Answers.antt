@@ -5,12 +5,12 @@ use Rattle.sv8_cpu.proofs.spaces.locate.Goals as goal
 
 pub returns-in-At-clause-ok : goal.returns-in-At-clause-ok
 returns-in-At-clause-ok g c = λ bytes use_address o s ts made.
-    made_at _ _ _ _ _ _ _ _ use_address _ _ _ _ _ _ _ _ _ (ap (λ m. record { mmu = c.args.physical.now.mmu; timer = m.timer }) c.translate.ensures.others) (c.in_ok-pa.ensures.ok bytes) _ c.in-At.is made
+    made_at _ _ _ _ _ _ _ _ use_address _ _ _ _ _ _ _ _ _ (ap (λ m. record { mmu = c.args.physical.now.mmu; timer = m.timer }) c.resolve.ensures.others) (c.in_ok-pa.ensures.ok bytes) _ c.in-At.is made
 
 pub returns-in-Refused-clause-ok : goal.returns-in-Refused-clause-ok
 returns-in-Refused-clause-ok g c = λ bytes use_address o s ts made.
-    refused_at _ _ _ _ _ _ _ _ use_address _ _ _ _ _ _ _ _ _ (ap (λ m. record { mmu = c.args.physical.now.mmu; timer = m.timer }) c.translate.ensures.others) (c.in_ok-pa.ensures.ok bytes)
+    refused_at _ _ _ _ _ _ _ _ use_address _ _ _ _ _ _ _ _ _ (ap (λ m. record { mmu = c.args.physical.now.mmu; timer = m.timer }) c.resolve.ensures.others) (c.in_ok-pa.ensures.ok bytes)
     c.in-Refused.kind c.in-Refused.level _ _ c.in-Refused.is (ap (λ m. outside_of m bytes) c.refuse-response.ensures.memory) c.refuse-response.ensures.served made
 
 pub returns-in-Refused-clause-serves : goal.returns-in-Refused-clause-serves
-returns-in-Refused-clause-serves g c = stand_on _ _ _ _ _ _ (ap (λ m. m.ram) c.refuse-response.ensures.memory) c.refuse-response.ensures.pointer c.translate.ensures.stand
+returns-in-Refused-clause-serves g c = stand_on _ _ _ _ _ _ (ap (λ m. m.ram) c.refuse-response.ensures.memory) c.refuse-response.ensures.pointer c.resolve.ensures.stand

@@ -1,5 +1,5 @@
 use Rattle.std.proofs.Common.{sym, ap}
-use Rattle.sv8_model.proofs.Deeds.{does_map}
+use Rattle.sv8_model.proofs.Common.{does_map}
 use Rattle.sv8_mmu.specs.Probe.{page_or_zero}
 use Rattle.sv8_mmu.proofs.probing.probe_entire.Goals as goal
 

@@ -1,9 +1,11 @@
-use Rattle.std.proofs.Common.{◌≡◌, ◌++◌, drop, filter}
+use Rattle.std.proofs.Common.{◌≡◌, ◌++◌, drop, filter, bit_or}
 use Rattle.sv8_model.specs.Does.{kept}
-use Rattle.sv8_phys.specs.Notes.{is_told}
+use Rattle.sv8_phys.specs.Notes.{is_told, levels_in}
 use Rattle.sv8_phys.proofs.step_touches.tell_standing.Given as goal
 
 abbrev pub invariant-loop-note : goal.invariant-loop-note
-invariant-loop-note g l =
-    g.T.Touches.noted l.notes ++ kept g.T.Touches.KEEPS (filter (is_told l.from) (drop l.note-index l.from))
-    ≡ g.T.Touches.noted l.initial.notes ++ kept g.T.Touches.KEEPS (filter (is_told l.from) l.from)
+invariant-loop-note g l = record {
+  handed : g.T.Touches.noted l.notes ++ kept g.T.Touches.KEEPS (filter (is_told l.from) (drop l.note-index l.from))
+      ≡ g.T.Touches.noted l.initial.notes ++ kept g.T.Touches.KEEPS (filter (is_told l.from) l.from);
+  gathered : bit_or l.levels (levels_in (drop l.note-index l.from)) ≡ levels_in l.from;
+}

@@ -1,7 +1,4 @@
-use Rattle.std.proofs.Common.{◌≡◌, ◌++◌, ap, ◌∙◌}
-use Rattle.sv8_phys.specs.Memory.{ram_size}
-use Rattle.sv8_time.specs.Order.{Each}
-use Rattle.sv8_time.specs.Words.{IsWordIn}
+use Rattle.std.proofs.Common.{◌++◌, ap, ◌∙◌}
 use Rattle.sv8_cpu.specs.Recorded.{event_at}
 use Rattle.sv8_trace.specs.Kept.{kept_in}
 use Rattle.sv8_trace.specs.Recorder.{below_requests}

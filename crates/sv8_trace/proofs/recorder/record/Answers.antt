@@ -1,9 +1,7 @@
-use Rattle.std.proofs.Common.{◌≡◌, ◌≤◌, ◌+◌, ◌∙◌, ap, ap₂, refl, sym, arith, add-one, subst, suc, zero, ℕ}
+use Rattle.std.proofs.Common.{◌≤◌, ◌∙◌, ap, refl, arith, add-one, subst}
 use Rattle.sv8_time.specs.Schedule.{bytes_below}
 use Rattle.sv8_cpu.specs.Work.{counted}
-use Rattle.sv8_cpu.specs.Run.{step}
-use Rattle.sv8_trace.specs.Recorder.{counted_by, steps_on, IsRecorded, RaisedUpTo}
-use Rattle.sv8_trace.proofs.Recorded.{recorded_none, recorded_more, kept_free, up_to_one, one_more}
+use Rattle.sv8_trace.proofs.Recorded.{recorded_none, up_to_one, one_more}
 use Rattle.sv8_trace.proofs.recorder.record.Goals as goal
 
 pub loop-offset-init : goal.loop-offset-init
@@ -11,7 +9,7 @@ loop-offset-init g c =
     record {
       state = refl;
       delivered = subst (λ x. c.args.machine.memory.taken ≤ bytes_below x c.args.timeline.now.inputs) (omega arith) c.requires.delivered;
-      recorded = rw (c.new.ensures, c.new-2.ensures) (recorded_none g.row.NW g.row.PAGES c.args.timeline.now c.args.n c.args.machine);
+      recorded = rw c.clear.ensures (recorded_none g.row.NW g.row.PAGES c.args.timeline.now c.args.n c.args.machine);
       counted = refl;
     }
 
@@ -22,7 +20,7 @@ returns-in_err-machine-clause-raised g c =
 pub loop-offset-preserved : goal.loop-offset-preserved
 loop-offset-preserved g c =
     let inv = c.loop-offset.invariant in
-    let both = one_more g.row.NW g.row.PAGES c.args.timeline.now c.args.n c.args.machine c.loop-offset.machine c.in_ok-machine.machine c.loop-offset.offset c.loop-offset.interval c.record_step.new.interval inv.state c.in_ok-machine.ensures.state inv.recorded c.in_ok-machine.ensures.gained c.in_ok-machine.ensures.kept in
+    let both = one_more g.row.NW g.row.PAGES c.args.timeline.now c.args.n c.args.machine c.loop-offset.machine c.in_ok-machine.machine c.loop-offset.offset c.loop-offset.draft c.record_step.new.interval inv.state c.in_ok-machine.ensures.state inv.recorded c.in_ok-machine.ensures.gained c.in_ok-machine.ensures.kept in
     record {
       state = both.0;
       delivered = subst (λ x. c.in_ok-machine.machine.memory.taken ≤ bytes_below x c.args.timeline.now.inputs) (omega arith) c.in_ok-machine.ensures.delivered;
@@ -32,3 +30,6 @@ loop-offset-preserved g c =
 
 pub returns-clause-raised : goal.returns-clause-raised
 returns-clause-raised g c = (c.loop-offset.offset, omega (arith, c.loop-offset.auto.offset-end), c.loop-offset.invariant.counted)
+
+pub returns-in_err-copy-clause-raised : goal.returns-in_err-copy-clause-raised
+returns-in_err-copy-clause-raised g c = (c.loop-offset.offset, omega (arith, c.loop-offset.auto.offset-end), c.loop-offset.invariant.counted)

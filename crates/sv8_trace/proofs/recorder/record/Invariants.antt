@@ -7,6 +7,6 @@ abbrev pub invariant-loop-offset : goal.invariant-loop-offset
 invariant-loop-offset g l = record {
   state : l.machine ≡ steps_on g.row.NW g.row.PAGES l.timeline l.n l.initial.machine l.offset;
   delivered : l.machine.memory.taken ≤ bytes_below (l.n + l.offset) l.timeline.inputs;
-  recorded : IsRecorded g.row.NW g.row.PAGES l.timeline l.n l.initial.machine l.offset l.interval;
+  recorded : IsRecorded g.row.NW g.row.PAGES l.timeline l.n l.initial.machine l.offset l.draft;
   counted : l.work ≡ counted_by l.offset l.fn.work;
 }

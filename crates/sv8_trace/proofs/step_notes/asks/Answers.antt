@@ -1,4 +1,4 @@
-use Rattle.std.proofs.Common.{◌≡◌, ◌/◌, ◌%◌, ◌^◌, ◌<◌, ◌≤◌, ◌==◌, ◌*◌, false, sym, ap, ◌∙◌, arith, div-lt_iff_lt-mul, le-ltb}
+use Rattle.std.proofs.Common.{◌≡◌, ◌/◌, ◌%◌, ◌^◌, ◌<◌, ◌≤◌, ◌==◌, ◌*◌, sym, ap, ◌∙◌, arith, div-lt_iff_lt-mul, le-ltb}
 use Rattle.std.proofs.Math.Pow.{pow_mono}
 use Rattle.sv8_trace.proofs.step_notes.asks.Goals as goal
 

@@ -1,8 +1,8 @@
-use Rattle.std.proofs.Common.{◌≡◌, ◌∙◌, sym, ap, subst}
+use Rattle.std.proofs.Common.{Some, ◌∙◌, sym, ap, subst}
 use Rattle.sv8_time.specs.Schedule.{Schedule, without_input}
-use Rattle.sv8_edits.proofs.EditedInput.{clear_input_edits}
+use Rattle.sv8_edits.proofs.Common.{clear_input_edits}
 use Rattle.sv8_bench.specs.Kept.{with_timeline}
-use Rattle.sv8_bench.specs.Workbench.{Workbench, IsRun, IsRefed}
+use Rattle.sv8_bench.specs.Workbench.{IsRun, IsRefed}
 use Rattle.sv8_bench.proofs.Edited.{old, can, refed_run, refed_is}
 use Rattle.sv8_bench.proofs.bench.Bench.clear_input.Goals as goal
 
@@ -32,7 +32,7 @@ returns-clause-edited g c =
     let s = c.self.inside in
     let is = c.in_ok-clear_input.ensures.value in
     let law = clear_input_edits g.row.NW g.row.PAGES s.source s.timeline (can g.row.NW g.row.PAGES k inv.4 s.source s.timeline s.trace s.work inv.8 inv.3 c.limit-limit.ensures.timeline inv.7) c.args.step in
-    subst (λ w. IsRefed k c.args.step (with_timeline (without_input c.args.step w.kept.timeline) w.kept) w (record { kept = record { windows = g.row.NW; pages = g.row.PAGES; source = s.source; timeline = c.clear_input.new.self }; recording = c.commit.new.self; worked = s.work })) c.self.view_is
-    (subst (λ t. IsRefed k c.args.step (record { windows = g.row.NW; pages = g.row.PAGES; source = s.source; timeline = without_input c.args.step s.timeline }) (old g.row.NW g.row.PAGES k inv.4 s.source s.timeline s.trace s.work)
+    subst (λ w. IsRefed k (Some c.args.step) (with_timeline (without_input c.args.step w.kept.timeline) w.kept) w (record { kept = record { windows = g.row.NW; pages = g.row.PAGES; source = s.source; timeline = c.clear_input.new.self }; recording = c.commit.new.self; worked = s.work })) c.self.view_is
+    (subst (λ t. IsRefed k (Some c.args.step) (record { windows = g.row.NW; pages = g.row.PAGES; source = s.source; timeline = without_input c.args.step s.timeline }) (old g.row.NW g.row.PAGES k inv.4 s.source s.timeline s.trace s.work)
     (record { kept = record { windows = g.row.NW; pages = g.row.PAGES; source = s.source; timeline = t }; recording = c.commit.new.self; worked = s.work })) (sym is)
     (refed_is g.row.NW g.row.PAGES k inv.4 s.source s.timeline s.trace s.work inv.8 inv.3 c.limit-limit.ensures.timeline inv.7 c.args.step _ law c.in_ok-prepared.prepared c.commit.new.self c.in_ok-prepared.ensures.prepared c.commit.ensures))

@@ -1,17 +1,17 @@
 use Rattle.std.specs.List.{All}
-use Rattle.std.proofs.Common.{rules, ◌≡◌, ℕ, ◌+◌, ◌*◌, ◌<◌, ◌≤◌, ◌∙◌, get_or, sym, ap, subst, arith}
+use Rattle.std.proofs.Common.{rules, ◌≡◌, ℕ, ◌+◌, ◌<◌, ◌≤◌, ◌∙◌, get_or, sym, ap, subst, arith}
 use Rattle.sv8_phys.specs.Memory.{ram_size}
 use Rattle.sv8_phys.specs.Contents.{AreContents}
 use Rattle.sv8_source.specs.Text.{Text, texts, replaced}
-use Rattle.sv8_source.specs.Image.{changes, image_bytes}
+use Rattle.sv8_source.specs.Image.{image_bytes}
 use Rattle.sv8_source.specs.declared.image.Change.{Change}
 use Rattle.sv8_cpu.specs.State.{State, reset_state}
 use Rattle.sv8_edits.specs.Changes.{image_changes}
-use Rattle.sv8_edits.proofs.EditedImage.{image_edits}
+use Rattle.sv8_edits.proofs.Common.{image_edits}
 use Rattle.sv8_trace.specs.Patch.{changes_of}
 use Rattle.sv8_trace.specs.Recording.{recorded}
 use Rattle.sv8_bench.specs.Kept.{edited}
-use Rattle.sv8_bench.specs.Workbench.{Workbench, IsRun, IsEdited}
+use Rattle.sv8_bench.specs.Workbench.{IsRun, IsEdited}
 use Rattle.sv8_bench.proofs.ImageWords.{changes_inside}
 use Rattle.sv8_bench.proofs.Edited.{old, can, edited_run, edited_is}
 use Rattle.sv8_bench.proofs.bench.Bench.replace_lines.Goals as goal

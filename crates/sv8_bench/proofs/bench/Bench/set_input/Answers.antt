@@ -1,38 +1,16 @@
-use Rattle.std.proofs.Common.{◌≡◌, ◌∙◌, sym, ap, subst}
-use Rattle.sv8_time.specs.Schedule.{Schedule, with_input}
-use Rattle.sv8_edits.proofs.EditedInput.{input_edits}
+use Rattle.std.proofs.Common.{◌∙◌, sym, subst}
+use Rattle.std.proofs.lemmas.Slice.Eq.{bytes_eq-Decides}
+use Rattle.sv8_time.specs.Schedule.{with_input}
+use Rattle.sv8_edits.specs.Changes.{input_change}
 use Rattle.sv8_bench.specs.Kept.{with_timeline}
-use Rattle.sv8_bench.specs.Workbench.{Workbench, IsRun, IsRefed}
-use Rattle.sv8_bench.proofs.Edited.{old, can, refed_run, refed_is}
+use Rattle.sv8_bench.specs.Workbench.{IsRefed}
+use Rattle.sv8_bench.proofs.Edited.{old, standing_is}
 use Rattle.sv8_bench.proofs.bench.Bench.set_input.Goals as goal
 
-pub invariant_of-self-2 : goal.invariant_of-self-2
-invariant_of-self-2 g c =
-    let inv = c.self.invariant in
-    let k = g.row.K in
+pub returns-then-eq-clause-edited : goal.returns-then-eq-clause-edited
+returns-then-eq-clause-edited g c =
     let s = c.self.inside in
-    let is = c.in_ok-set_input.ensures.value in
-    let law = input_edits g.row.NW g.row.PAGES s.source s.timeline (can g.row.NW g.row.PAGES k inv.4 s.source s.timeline s.trace s.work inv.8 inv.3 c.limit-limit.ensures.timeline inv.7) c.args.step c.args.bytes.now in (
-      inv.0,
-      inv.1,
-      inv.2,
-      inv.3,
-      inv.4,
-      inv.5,
-      inv.6,
-      ap (λ (t : Schedule). t.limit) is ∙ inv.7,
-      subst (λ t. IsRun k (record { kept = record { windows = g.row.NW; pages = g.row.PAGES; source = s.source; timeline = t }; recording = c.commit.new.self; worked = s.work })) (sym is)
-          (refed_run g.row.NW g.row.PAGES k inv.4 s.source s.timeline s.trace s.work inv.8 inv.3 c.limit-limit.ensures.timeline inv.7 c.args.step _ law c.in_ok-prepared.prepared c.commit.new.self c.in_ok-prepared.ensures.prepared c.commit.ensures),
-    )
-
-pub returns-clause-edited : goal.returns-clause-edited
-returns-clause-edited g c =
-    let inv = c.self.invariant in
-    let k = g.row.K in
-    let s = c.self.inside in
-    let is = c.in_ok-set_input.ensures.value in
-    let law = input_edits g.row.NW g.row.PAGES s.source s.timeline (can g.row.NW g.row.PAGES k inv.4 s.source s.timeline s.trace s.work inv.8 inv.3 c.limit-limit.ensures.timeline inv.7) c.args.step c.args.bytes.now in
-    subst (λ w. IsRefed k c.args.step (with_timeline (with_input c.args.step c.args.bytes.now w.kept.timeline) w.kept) w (record { kept = record { windows = g.row.NW; pages = g.row.PAGES; source = s.source; timeline = c.set_input.new.self }; recording = c.commit.new.self; worked = s.work })) c.self.view_is
-    (subst (λ t. IsRefed k c.args.step (record { windows = g.row.NW; pages = g.row.PAGES; source = s.source; timeline = with_input c.args.step c.args.bytes.now s.timeline }) (old g.row.NW g.row.PAGES k inv.4 s.source s.timeline s.trace s.work)
-    (record { kept = record { windows = g.row.NW; pages = g.row.PAGES; source = s.source; timeline = t }; recording = c.commit.new.self; worked = s.work })) (sym is)
-    (refed_is g.row.NW g.row.PAGES k inv.4 s.source s.timeline s.trace s.work inv.8 inv.3 c.limit-limit.ensures.timeline inv.7 c.args.step _ law c.in_ok-prepared.prepared c.commit.new.self c.in_ok-prepared.ensures.prepared c.commit.ensures))
+    let same = (bytes_eq-Decides c.events-events.result.bytes.now c.args.bytes.now).0 (sym c.eq.ensures ∙ c.if-eq.true) in
+    subst (λ w. IsRefed g.row.K (input_change c.args.step c.args.bytes.now w.kept.timeline) (with_timeline (with_input c.args.step c.args.bytes.now w.kept.timeline) w.kept) w w) c.self.view_is
+    (standing_is g.row.K (old g.row.NW g.row.PAGES g.row.K c.self.invariant.4 s.source s.timeline s.trace s.work) c.args.step c.args.bytes.now c.events-events.ensures.timeline c.requires
+    (sym c.events-events.ensures.bytes ∙ same))

@@ -1,11 +1,11 @@
-use Rattle.std.proofs.Common.{rules, ◌≡◌, ◌+◌, ◌*◌, ◌≤◌, ◌<◌, ◌∙◌, sym, ap, subst, arith}
+use Rattle.std.proofs.Common.{rules, ◌≡◌, ◌≤◌, ◌∙◌, sym, ap, subst, arith}
 use Rattle.sv8_time.specs.Schedule.{Schedule, with_poke_byte}
 use Rattle.sv8_edits.specs.Changes.{poke_byte_changes}
-use Rattle.sv8_edits.proofs.EditedPokes.{poke_byte_edits}
+use Rattle.sv8_edits.proofs.Common.{poke_byte_edits}
 use Rattle.sv8_trace.specs.Patch.{changes_of}
 use Rattle.sv8_trace.specs.Recording.{recorded}
 use Rattle.sv8_bench.specs.Kept.{with_timeline}
-use Rattle.sv8_bench.specs.Workbench.{Workbench, IsRun, IsEdited}
+use Rattle.sv8_bench.specs.Workbench.{IsRun, IsEdited}
 use Rattle.sv8_bench.proofs.Places.{poke_byte_step, poke_byte_place}
 use Rattle.sv8_bench.proofs.Edited.{old, can, edited_run, edited_is}
 use Rattle.sv8_bench.proofs.bench.Bench.set_poke_byte.Goals as goal

@@ -1,11 +1,11 @@
-use Rattle.std.proofs.Common.{rules, ◌≡◌, ◌+◌, ◌*◌, ◌≤◌, ◌<◌, ◌∙◌, sym, ap, subst, arith}
+use Rattle.std.proofs.Common.{rules, ◌≡◌, ◌≤◌, ◌∙◌, sym, ap, subst, arith}
 use Rattle.sv8_time.specs.Schedule.{Schedule, with_request}
 use Rattle.sv8_edits.specs.Changes.{request_changes}
-use Rattle.sv8_edits.proofs.EditedRequests.{request_edits}
+use Rattle.sv8_edits.proofs.Common.{request_edits}
 use Rattle.sv8_trace.specs.Patch.{changes_of}
 use Rattle.sv8_trace.specs.Recording.{recorded}
 use Rattle.sv8_bench.specs.Kept.{with_timeline}
-use Rattle.sv8_bench.specs.Workbench.{Workbench, IsRun, IsEdited}
+use Rattle.sv8_bench.specs.Workbench.{IsRun, IsEdited}
 use Rattle.sv8_bench.proofs.Places.{request_step, request_level}
 use Rattle.sv8_bench.proofs.Edited.{old, can, edited_run, edited_is}
 use Rattle.sv8_bench.proofs.bench.Bench.set_request.Goals as goal

@@ -1,4 +1,4 @@
-use Rattle.std.proofs.Common.{◌≡◌, ◌∙◌, ◌+◌, ◌-◌, ◌*◌, ◌/◌, ◌<◌, ◌≤◌, max, length, refl, sym, ap, arith, subst}
+use Rattle.std.proofs.Common.{◌≡◌, ◌∙◌, ◌+◌, ◌-◌, ◌*◌, ◌/◌, ◌<◌, ◌≤◌, length, refl, sym, ap, arith, subst}
 use Rattle.sv8_history.specs.Trace.{IsTraceOf}
 use Rattle.sv8_cpu.specs.Recorded.{machine, event_at}
 use Rattle.sv8_trace.specs.Recorder.{counted_by}

@@ -1,6 +1,5 @@
-use Rattle.std.proofs.Common.{◌≡◌, ◌∙◌, ◌+◌, ◌-◌, ◌≤◌, refl, sym, ap, arith}
-use Rattle.sv8_trace.specs.Recorder.{steps_on, counted_by}
-use Rattle.sv8_bench.proofs.Queried.{steps_more, counted_more, raised_more}
+use Rattle.std.proofs.Common.{◌≡◌, ◌∙◌, ◌+◌, ◌-◌, refl, arith}
+use Rattle.sv8_bench.proofs.Queried.{steps_more, counted_more}
 use Rattle.sv8_bench.proofs.bench.queries.run_on.Goals as goal
 
 pub loop-n-init : goal.loop-n-init

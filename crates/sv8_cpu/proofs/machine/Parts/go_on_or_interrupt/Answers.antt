@@ -1,4 +1,3 @@
-use Rattle.std.proofs.Common.{refl, sym, ap, ◌∙◌}
 use Rattle.sv8_cpu.proofs.Steps.{interruptible_by}
 use Rattle.sv8_cpu.proofs.machine.Parts.go_on_or_interrupt.Goals as goal
 

@@ -1,4 +1,4 @@
-use Rattle.std.proofs.Common.{refl, sym}
+use Rattle.std.proofs.Common.{refl}
 use Rattle.sv8_cpu.proofs.Steps.{access_answered}
 use Rattle.sv8_cpu.proofs.machine.Parts.make_access.Goals as goal
 

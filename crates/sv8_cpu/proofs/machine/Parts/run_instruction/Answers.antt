@@ -1,4 +1,4 @@
-use Rattle.std.proofs.Common.{refl, sym}
+use Rattle.std.proofs.Common.{refl}
 use Rattle.sv8_cpu.proofs.Steps.{instruction_by}
 use Rattle.sv8_cpu.proofs.machine.Parts.run_instruction.Goals as goal
 

@@ -1,4 +1,4 @@
-use Rattle.std.proofs.Common.{ap, subst}
+use Rattle.std.proofs.Common.{subst}
 use Rattle.sv8_model.specs.Action.{done, ask_levels}
 use Rattle.sv8_model.specs.Does.{Does}
 use Rattle.sv8_phys.specs.Contents.{outside_of}

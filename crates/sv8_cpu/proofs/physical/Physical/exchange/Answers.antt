@@ -1,4 +1,4 @@
-use Rattle.std.proofs.Common.{refl, sym, subst, ◌/◌, []}
+use Rattle.std.proofs.Common.{refl, sym, []}
 use Rattle.sv8_cpu.proofs.Accesses.{exchanged_word}
 use Rattle.sv8_cpu.proofs.Pages.{ram_stored_in_page}
 use Rattle.sv8_cpu.proofs.physical.Physical.exchange.Goals as goal

@@ -1,4 +1,4 @@
-use Rattle.std.proofs.Common.{◌≡◌, ◌<◌, ◌≤◌, sym, subst}
+use Rattle.std.proofs.Common.{◌<◌, ◌≤◌, subst}
 use Rattle.sv8_cpu.proofs.Accesses.{loaded_from_ram}
 use Rattle.sv8_cpu.proofs.physical.Physical.load.Goals as goal
 

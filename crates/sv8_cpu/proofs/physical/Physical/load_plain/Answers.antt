@@ -1,4 +1,4 @@
-use Rattle.std.proofs.Common.{refl, sym}
+use Rattle.std.proofs.Common.{refl}
 use Rattle.sv8_cpu.proofs.Accesses.{plain_load}
 use Rattle.sv8_cpu.proofs.physical.Physical.load_plain.Goals as goal
 

@@ -1,4 +1,4 @@
-use Rattle.std.proofs.Common.{◌≡◌, sym, ap, ◌∙◌, ◌*◌, ◌^◌, ◌%◌, ◌<◌, length, arith}
+use Rattle.std.proofs.Common.{◌≡◌, sym, ap, ◌∙◌, length, arith}
 use Rattle.sv8_model.specs.Levels.{cleared}
 use Rattle.sv8_phys.proofs.PendingLevels.{level_count, shifted_word, withdrawn}
 use Rattle.sv8_phys.proofs.levels.Pending.withdraw.Goals as goal

@@ -1,7 +1,6 @@
-use Rattle.std.proofs.Common.{◌≡◌, ◌/◌, ap, ◌∙◌, ◌-◌, arith}
+use Rattle.std.proofs.Common.{◌/◌, ap, ◌∙◌, ◌-◌, arith}
 use borrow.Rule.Slice.PartMut.{put_mid}
 use Rattle.byteorder.specs.Endian.{big_bytes}
-use Rattle.sv8_model.specs.Outside.{with_word}
 use Rattle.sv8_phys.proofs.ByteLemmas.{word_fits}
 use Rattle.sv8_phys.proofs.Numbers.{put_sets, word_sets}
 use Rattle.sv8_phys.proofs.page.PageBytes.set_word.Goals as goal

@@ -1,5 +1,5 @@
-use Rattle.std.proofs.Common.{◌<◌, length, get_or, sym, ap, subst, ◌∙◌}
-use Rattle.sv8_phys.specs.Contents.{Contents, AreContents}
+use Rattle.std.proofs.Common.{subst}
+use Rattle.sv8_phys.specs.Contents.{AreContents}
 use Rattle.sv8_phys.proofs.phys.Phys.ram_size.Goals as goal
 
 pub returns-clause-contents : goal.returns-clause-contents

@@ -1,5 +1,5 @@
 use Rattle.std.proofs.Common.{length, get_or, sym, ap, subst, ◌∙◌}
-use Rattle.sv8_model.proofs.Lists.{IsByte}
+use Rattle.sv8_model.proofs.Common.{IsByte}
 use Rattle.sv8_phys.specs.Pages.{pages_of}
 use Rattle.sv8_phys.proofs.AllBytes.{length-all, each-all}
 use Rattle.sv8_phys.proofs.ram.Ram.len.Goals as goal

@@ -1,5 +1,5 @@
-use Rattle.std.proofs.Common.{◌≡◌, ap, sym, ◌∙◌, subst, replicate, arith}
-use Rattle.sv8_phys.specs.Pages.{all_bytes, pages_of}
+use Rattle.std.proofs.Common.{◌≡◌, ap, ◌∙◌, replicate, arith}
+use Rattle.sv8_phys.specs.Pages.{all_bytes}
 use Rattle.sv8_phys.proofs.AllBytes.{zeros-all}
 use Rattle.sv8_phys.proofs.ram.Ram.new.Goals as goal
 

@@ -1,10 +1,7 @@
-use Rattle.std.proofs.Common.{ℕ, List, [], ◌<◌, ◌/◌, sym, ap, ◌∙◌, length, arith}
-use Rattle.std.proofs.lemmas.List.{get_or-map}
-use Rattle.std.specs.declared.rc.Rc.{Rc}
-use Rattle.std.specs.declared.alloc.Global.{Global}
+use Rattle.std.proofs.Common.{◌<◌, ◌/◌, sym, ap, ◌∙◌, length, arith}
 use Rattle.sv8_phys.specs.declared.page.PageBytes.{PageBytes}
 use Rattle.sv8_phys.specs.Memory.{page_of}
-use Rattle.sv8_phys.specs.Pages.{pages_of, page_at}
+use Rattle.sv8_phys.specs.Pages.{pages_of}
 use Rattle.sv8_phys.proofs.AllBytes.{page_of-all, page_long, page_behind}
 use Rattle.sv8_phys.proofs.ram.Ram.page.Goals as goal
 

@@ -1,4 +1,4 @@
-use Rattle.std.proofs.Common.{◌≡◌, ◌<◌, ◌/◌, [], ap, ◌∙◌, length, arith}
+use Rattle.std.proofs.Common.{◌<◌, ◌/◌, ap, ◌∙◌, length, arith}
 use Rattle.std.proofs.lemmas.List.{length-map, map-set}
 use Rattle.sv8_phys.specs.Memory.{with_page}
 use Rattle.sv8_phys.specs.Pages.{pages_of, all_bytes}

@@ -1,4 +1,4 @@
-use Rattle.std.proofs.Common.{arith, ◌∙◌, sym}
+use Rattle.std.proofs.Common.{arith, sym}
 use Rattle.sv8_time.specs.Schedule.{word_of}
 use Rattle.sv8_time.proofs.BytePlaces.{value_whole}
 use Rattle.sv8_time.proofs.pokes.Pokes.byte.Goals as goal

@@ -1,4 +1,4 @@
-use Rattle.std.proofs.Common.{◌≡◌, ◌<◌, ◌≤◌, ℕ, false, length, get_or, cond, leb, ltb, ◌&&◌}
+use Rattle.std.proofs.Common.{◌≡◌, ℕ, false, length, get_or, cond, leb, ltb, ◌&&◌}
 use Rattle.sv8_trace.proofs.column.LevelColumn.set.Given as goal
 
 abbrev pub invariant-loop-index : goal.invariant-loop-index

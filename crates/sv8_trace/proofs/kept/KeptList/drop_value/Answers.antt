@@ -1,4 +1,4 @@
-use Rattle.std.proofs.Common.{◌≡◌, rules, not, refl, ap, ◌∙◌, filter}
+use Rattle.std.proofs.Common.{rules, not, ap, ◌∙◌, filter}
 use Rattle.std.proofs.lemmas.Fn.{filter_same}
 use Rattle.sv8_trace.specs.Cells.{cell_of}
 use Rattle.sv8_trace.specs.Kept.{is_kept_of}

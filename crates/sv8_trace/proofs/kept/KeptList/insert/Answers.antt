@@ -1,4 +1,4 @@
-use Rattle.std.proofs.Common.{◌≡◌, ◌++◌, ◌∷◌, [], ap, ◌∙◌}
+use Rattle.std.proofs.Common.{◌++◌, ◌∷◌, [], ap, ◌∙◌}
 use Rattle.sv8_trace.specs.Kept.{kept_in}
 use Rattle.sv8_trace.proofs.KeptLists.{kept_in-with}
 use Rattle.sv8_trace.proofs.kept.KeptList.insert.Goals as goal

@@ -1,4 +1,4 @@
-use Rattle.std.proofs.Common.{◌≡◌, sym, subst}
+use Rattle.std.proofs.Common.{sym, subst}
 use Rattle.sv8_trace.specs.Cells.{cell_of}
 use Rattle.sv8_trace.specs.Steps.{IsFirstBelow, footprint_in}
 use Rattle.sv8_trace.specs.Sought.{is_met}

@@ -1,4 +1,4 @@
-use Rattle.std.proofs.Common.{◌≡◌, take_all}
+use Rattle.std.proofs.Common.{take_all}
 use Rattle.sv8_trace.proofs.Gaining.{gains_nothing, gains_taken}
 use Rattle.sv8_trace.proofs.notes.Notes.note_step.Goals as goal
 

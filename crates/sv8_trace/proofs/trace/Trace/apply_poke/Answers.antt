@@ -1,6 +1,6 @@
-use Rattle.std.proofs.Common.{◌≡◌, suc, Some, None, option_map, refl, sym, ap, ◌∙◌}
+use Rattle.std.proofs.Common.{suc, Some, option_map, refl, sym, ap, ◌∙◌}
 use Rattle.sv8_cpu.specs.Recorded.{machine}
-use Rattle.sv8_cpu.proofs.RecordedCells.{same_is}
+use Rattle.sv8_cpu.proofs.Common.{same_is}
 use Rattle.sv8_trace.specs.declared.prepared.Staged.{Staged}
 use Rattle.sv8_trace.specs.Cells.{cell_of, content_of}
 use Rattle.sv8_trace.specs.Prepared.{prepared_trace}

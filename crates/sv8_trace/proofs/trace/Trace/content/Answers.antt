@@ -1,4 +1,4 @@
-use Rattle.std.proofs.Common.{◌≡◌, ◌+◌, ◌/◌, ◌<◌, ◌≤◌, Some, None, length, get_or, ap, ap₂, sym, ◌∙◌, arith}
+use Rattle.std.proofs.Common.{◌/◌, ◌<◌, Some, None, length, get_or, ap, sym, ◌∙◌, arith}
 use Rattle.std.proofs.lemmas.List.{get_or_default}
 use Rattle.sv8_model.specs.Cells.{ram_byte, byte, pending_level, held}
 use Rattle.sv8_cpu.specs.Recorded.{get}
@@ -19,9 +19,9 @@ returns-in-Some g c =
     let cell = c.requires.cell in
     let inside = rw c.in-Byte.is at cell in
     let place : c.in-Byte.address / 4096 < length c.args.staged.now.pages.items = omega (arith, fits.pages_count, inside) in
-    let slot = slot_is c.args.staged.now.pages.items (c.in-Byte.address / 4096) c.index.result.now (Some c.in-Some.column) place c.index.ensures c.in-Some.is in
+    let slot = slot_is c.args.staged.now.pages.items (c.in-Byte.address / 4096) c.index.result.now (Some c.in-Some.runs) place c.index.ensures c.in-Some.is in
     ap byte c.byte.ensures
-    ∙ sym (byte_at g.row.PAGES c.args.index c.args.self.now c.args.staged.now fits c.requires.index (get_or c.args.self.now.points c.args.index blank) contents c.in-Byte.address (Some c.in-Some.column) slot)
+    ∙ sym (byte_at g.row.PAGES c.args.index c.args.self.now c.args.staged.now fits c.requires.index (get_or c.args.self.now.points c.args.index blank) contents c.in-Byte.address (Some c.in-Some.runs) slot)
     ∙ ap (λ x. get (cell_of x) (placed c.args.staged.now c.args.index (get_or c.args.self.now.points c.args.index blank))) (sym c.in-Byte.is)
 
 pub returns-in-None : goal.returns-in-None

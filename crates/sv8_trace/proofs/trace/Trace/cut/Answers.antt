@@ -1,4 +1,4 @@
-use Rattle.std.proofs.Common.{◌≡◌, ◌/◌}
+use Rattle.std.proofs.Common.{◌/◌}
 use Rattle.sv8_history.specs.Patches as history
 use Rattle.sv8_cpu.specs.Recorded.{machine}
 use Rattle.sv8_trace.specs.Recording.{trace_of}

@@ -1,41 +1,7 @@
-use Rattle.std.proofs.Common.{◌≡◌, ◌≤◌, ◌<◌, ◌+◌, ◌-◌, ◌*◌, ◌/◌, ◌%◌, arith, ap, sym, ◌∙◌, length, min, None}
-use Rattle.std.proofs.Math.Nat.{div-add-mod, mod-lt}
-use Rattle.sv8_trace.specs.Steps.{IsFirstBelow, footprint_in}
-use Rattle.sv8_trace.specs.Sought.{is_met}
-use Rattle.sv8_trace.specs.Recording.{Recording, recorded}
-use Rattle.sv8_trace.proofs.Searching.{none_here, found_here, notes_of}
+use Rattle.sv8_trace.proofs.Marking.{first_below}
 use Rattle.sv8_trace.proofs.trace.Trace.first_from.Goals as goal
 
-pub returns-in-Some : goal.returns-in-Some
-returns-in-Some g c =
-    let k = g.row.K in
-    let xs = c.self.inside.intervals.items in
-    let inv = c.self.invariant in
-    let pos : 0 < k = inv.3 in
-    let same = ap (λ (r : Recording). r.intervals) c.self.view_is in
-    let count : k * length c.args.self.now.intervals ≡ k * length xs = ap (λ ys. k * length ys) (sym same) in
-    let most : c.min-end.result ≡ min c.args.to (k * length c.args.self.now.intervals) = c.min-end.ensures ∙ ap (min c.args.to) c.recorded.ensures.steps in
-    let end_is : c.min-end.result ≤ k * length xs = omega (arith, most, count) in
-    let is = notes_of k c.loop-start.start c.min-end.result xs c.args.self.now c.index.result.now _ pos same c.loop-start-test.true end_is c.index.ensures in
-    let split = div-add-mod c.loop-start.start k in
-    let few : c.min-stop.result ≤ k = omega (arith, c.min-stop.ensures) in
-    let fits : k * (c.loop-start.start / k) + c.min-stop.result ≤ min c.args.to (recorded k c.args.self.now) = omega (arith, split, c.min-stop.ensures, most, c.loop-start-test.true) in
-    found_here g.row.NW g.row.PAGES k pos c.args.self.now c.args.sought c.loop-start.start c.min-stop.result c.index.result.now.notes is few c.args.from (min c.args.to (recorded k c.args.self.now)) c.in-Some.offset c.loop-start.invariant.behind fits c.loop-start.invariant.none c.in-Some.ensures
-
-pub loop-start-preserved : goal.loop-start-preserved
-loop-start-preserved g c =
-    let k = g.row.K in
-    let xs = c.self.inside.intervals.items in
-    let inv = c.self.invariant in
-    let pos : 0 < k = inv.3 in
-    let same = ap (λ (r : Recording). r.intervals) c.self.view_is in
-    let count : k * length c.args.self.now.intervals ≡ k * length xs = ap (λ ys. k * length ys) (sym same) in
-    let most : c.min-end.result ≡ min c.args.to (k * length c.args.self.now.intervals) = c.min-end.ensures ∙ ap (min c.args.to) c.recorded.ensures.steps in
-    let end_is : c.min-end.result ≤ k * length xs = omega (arith, most, count) in
-    let is = notes_of k c.loop-start.start c.min-end.result xs c.args.self.now c.index.result.now _ pos same c.loop-start-test.true end_is c.index.ensures in
-    let split = div-add-mod c.loop-start.start k in
-    let few : c.min-stop.result ≤ k = omega (arith, c.min-stop.ensures) in
-    record {
-      behind = omega (arith, split, mod-lt c.loop-start.start pos, c.min-stop.ensures, c.loop-start.invariant.behind, c.loop-start-test.true);
-      none = none_here g.row.NW g.row.PAGES k pos c.args.self.now c.args.sought c.loop-start.start c.min-stop.result c.index.result.now.notes is few c.args.from c.loop-start.invariant.none c.in-None.ensures;
-    }
+pub returns : goal.returns
+returns g c =
+    let found = c.first_between.ensures in
+    first_below _ c.args.from c.args.to c.end_of.result _ c.first_between.result c.end_of.ensures.end c.end_of.ensures.none (rw c.min.ensures at found)

@@ -1,4 +1,4 @@
-use Rattle.std.proofs.Common.{◌≡◌, ◌*◌, ◌≤◌, ◌-◌, min, length, arith, ap, sym, ◌∙◌}
+use Rattle.std.proofs.Common.{◌*◌, length, arith, ap}
 use Rattle.sv8_cpu.specs.Recorded.{machine}
 use Rattle.sv8_trace.specs.Recording.{Recording, trace_of}
 use Rattle.sv8_trace.proofs.Searching.{first_taken}

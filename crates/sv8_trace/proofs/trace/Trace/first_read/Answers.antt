@@ -1,4 +1,4 @@
-use Rattle.std.proofs.Common.{◌≡◌, refl, sym}
+use Rattle.std.proofs.Common.{refl}
 use Rattle.sv8_model.specs.Cells.{ram_byte}
 use Rattle.sv8_history.specs.Changes.{Clear}
 use Rattle.sv8_cpu.specs.Recorded.{machine}

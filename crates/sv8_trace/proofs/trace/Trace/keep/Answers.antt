@@ -1,4 +1,4 @@
-use Rattle.std.proofs.Common.{◌≡◌, ◌==◌, ◌&&◌, ◌/◌, ◌%◌, cond, Some, None, ap, ◌∙◌, refl}
+use Rattle.std.proofs.Common.{◌==◌, ◌&&◌, ◌%◌, cond, Some, ap, ◌∙◌, refl}
 use Rattle.sv8_model.specs.Cells.{same_cell}
 use Rattle.sv8_trace.specs.declared.prepared.Staged.{Staged}
 use Rattle.sv8_trace.specs.Cells.{cell_of, content_of}

@@ -1,4 +1,4 @@
-use Rattle.std.proofs.Common.{◌≡◌, ◌/◌, drop}
+use Rattle.std.proofs.Common.{◌/◌, drop}
 use Rattle.sv8_history.specs.Patches.{cut, patch_all}
 use Rattle.sv8_cpu.specs.Recorded.{machine}
 use Rattle.sv8_trace.specs.Patch.{changes_of}

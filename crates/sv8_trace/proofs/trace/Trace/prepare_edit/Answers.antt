@@ -1,8 +1,8 @@
-use Rattle.std.proofs.Common.{◌≡◌, ◌*◌, ◌/◌, ◌≤◌, ◌∙◌, sym, ap, subst, length, IfOk, arith}
+use Rattle.std.proofs.Common.{◌≡◌, ◌*◌, ◌/◌, ◌∙◌, sym, ap, subst, length, IfOk, arith}
 use Rattle.std.proofs.Math.Nat.{mul-div_cancel_left}
 use Rattle.sv8_history.specs.Reads.{reads_edit}
 use Rattle.sv8_history.specs.Patches.{count_after, cut, patch_all}
-use Rattle.sv8_history.proofs.Words.{of_each}
+use Rattle.sv8_history.proofs.Common.{of_each}
 use Rattle.sv8_cpu.specs.Recorded.{machine}
 use Rattle.sv8_trace.specs.Patch.{changes_of}
 use Rattle.sv8_trace.specs.Recording.{trace_of}

@@ -1,7 +1,5 @@
-use Rattle.std.proofs.Common.{◌≡◌, ℕ, ◌+◌, ◌<◌, ◌≤◌, ◌&&◌, Bool, false, cond, leb, ltb, Some, None, List, length, map, take, get_or, set, suc, ap, ap₂, sym, ◌∙◌, arith, refl}
+use Rattle.std.proofs.Common.{◌≡◌, ℕ, ◌+◌, ◌<◌, ◌≤◌, ◌&&◌, false, cond, leb, ltb, Some, None, length, get_or, set, ap, sym, ◌∙◌, arith, refl}
 use Rattle.std.specs.Vec.{with_item}
-use Rattle.sv8_cpu.specs.State.{State}
-use Rattle.sv8_trace.specs.declared.prepared.Staged.{Staged}
 use Rattle.sv8_trace.specs.Recording.{Recording, blank}
 use Rattle.sv8_trace.specs.Prepared.{placed_levels}
 use Rattle.sv8_trace.proofs.Preparing.{contents_at, slot_is, gathered_level, level_of, level_set}

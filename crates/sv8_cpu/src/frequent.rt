@@ -1,0 +1,266 @@
+//! A way of its own for the frequent loads and stores, beside that of other frequent instructions (`sv8_iu`).
+//!
+//! `carry_out_word` of the machine carries out every instruction. What is here carries out some of them by a shorter way, tells
+//! whether it has, and leaves all others as they are.
+
+ghost use Rattle.std.specs.Prelude.{◌≡◌, ℕ, ◌%◌, ◌≤◌, ◌<◌, None, true, false, MatchBool, MatchOption, IfOk, OnOk};
+ghost use Rattle.sv8_isa.specs.Registers.{OperandHasRegister};
+ghost use Rattle.sv8_isa.specs.Table.{meaning};
+ghost use Rattle.sv8_mmu.specs.Registers.{translates};
+ghost use Rattle.sv8_phys.specs.Contents.{arrived};
+ghost use Rattle.sv8_phys.specs.Memory.{bytes_in, ram_size};
+ghost use Rattle.sv8_time.specs.Schedule.{bytes_below};
+ghost use Rattle.sv8_cpu.specs.Access.{access};
+ghost use Rattle.sv8_iu.specs.Instruction.{data_space};
+ghost use Rattle.sv8_iu.specs.Memory.{size_of, access_of};
+ghost use Rattle.sv8_cpu.specs.Step.{answered};
+ghost use Rattle.sv8_cpu.specs.View.{MemoryDoes, units_of};
+ghost use Rattle.sv8_cpu.specs.Whole.{MayCarryOut};
+
+use crate::machine::Parts;
+use crate::memory::Memory;
+use std::alloc::AllocError;
+use sv8_isa::{Group, Instr, MemoryOp, Operand, decode_memory, group};
+use sv8_iu::{Response, carry_out_plainly, data_space, finish_access, memory_trap, sum_of_sources};
+use sv8_phys::{Size, Touches};
+use sv8_time::Timeline;
+use sv8_trap::Processor;
+
+/// Makes the access of a load or a store of a word or a byte.
+#[inline(always)]
+#[tactic(auto, unfolding(sv8_iu::specs::Memory::access_of))]
+fn make_access<const NW: usize, const PAGES: usize, const TRANSLATED: bool, T: Touches>(
+    p: &Processor<NW>,
+    memory: &mut Memory<PAGES>,
+    op: MemoryOp,
+    rd: u8,
+    at: u32,
+    before: u32,
+    timeline: &Timeline,
+    notes: &mut T,
+) -> Result<Option<Response>, AllocError>
+    requires translated { translates memory.old.mmu ≡ TRANSLATED }
+    requires rd { rd < 32 }
+    requires aligned { at % bytes_in (size_of op) ≡ 0 }
+    requires delivered { memory.old.phys.taken ≤ bytes_below before timeline.now.inputs }
+    ensures ok { IfOk result (λ found. MatchOption found (memory.new ≡ memory.old)
+        (λ r. MemoryDoes T.KEEPS (arrived before timeline.now) (access (ram_size PAGES) (units_of memory.old) (access_of NW p.now op (data_space p.now) rd at))
+        memory.old memory.new r (T.noted notes.old) (T.noted notes.new))) }
+    ensures quiet { OnOk result (result ≡ Ok None → T.noted notes.new ≡ T.noted notes.old) }
+    ensures taken { OnOk result (memory.new.phys.taken ≤ bytes_below before timeline.now.inputs) }
+{
+    let asi = data_space(p);
+    let response = match op {
+        MemoryOp::Ld => memory.load_data::<TRANSLATED, T>(
+            Size::Word,
+            asi,
+            at,
+            before,
+            timeline,
+            notes,
+        )?,
+        MemoryOp::Ldub => memory.load_data::<TRANSLATED, T>(
+            Size::Byte,
+            asi,
+            at,
+            before,
+            timeline,
+            notes,
+        )?,
+        MemoryOp::St => {
+            let value = u64::from(p.registers().get(u32::from(rd)));
+            memory.store_data::<TRANSLATED, T>(Size::Word, asi, at, value, notes)?
+        }
+        MemoryOp::Stb => {
+            let value = u64::from(p.registers().get(u32::from(rd)));
+            memory.store_data::<TRANSLATED, T>(Size::Byte, asi, at, value, notes)?
+        }
+        _ => return Ok(None),
+    };
+    Ok(Some(response))
+}
+
+/// The end of a load or a store whose access was answered.
+#[inline(always)]
+fn finish<const NW: usize>(p: &mut Processor<NW>, op: MemoryOp, rd: u8, response: Response)
+    requires { rd < 32 }
+    ensures { (rs1 : ℕ) (operand : Operand) → p.new ≡ answered NW p.old (Instr.Memory op rd rs1 operand) response }
+{
+    match response {
+        Response::Value(value) => finish_access(p, op, rd, value),
+        Response::Refused(trap) => p.take(trap),
+    }
+}
+
+impl<const NW: usize, const PAGES: usize> Parts<NW, PAGES> {
+    /// Makes the access of a load or a store with these fields and completes it, if it is one of a word or a byte and raises no trap before its access.
+    #[inline(always)]
+    #[tactic(auto, using(sv8_iu::proofs::Choices::aligned_access))]
+    fn complete_transfer<const TRANSLATED: bool, T: Touches>(
+        &mut self,
+        op: MemoryOp,
+        rd: u8,
+        rs1: u8,
+        operand: Operand,
+        before: u32,
+        timeline: &Timeline,
+        notes: &mut T,
+    ) -> Result<bool, AllocError>
+        requires translated { translates self.old.memory.mmu ≡ TRANSLATED }
+        requires rd { rd < 32 }
+        requires rs1 { rs1 < 32 }
+        requires operand { OperandHasRegister operand }
+        requires delivered { self.old.memory.phys.taken ≤ bytes_below before timeline.now.inputs }
+        ensures ok { IfOk result (λ found. (word : ℕ) → Instr.Memory op rd rs1 operand ≡ meaning word
+            → MayCarryOut T.KEEPS (arrived before timeline.now) word self.old self.new (T.noted notes.old) (T.noted notes.new) found) }
+        ensures taken { OnOk result (self.new.memory.phys.taken ≤ bytes_below before timeline.now.inputs) }
+    {
+        let at = sum_of_sources(&self.processor, rs1, operand);
+        match memory_trap(op, rd, at) {
+            Some(_) => Ok(false),
+            None => {
+                let p = &self.processor;
+                let memory = &mut self.memory;
+                match make_access::<NW, PAGES, TRANSLATED, T>(
+                    p, memory, op, rd, at, before, timeline, notes,
+                )? {
+                    None => Ok(false),
+                    Some(response) => {
+                        finish(&mut self.processor, op, rd, response);
+                        Ok(true)
+                    }
+                }
+            }
+        }
+    }
+
+    /// The same, with an arm for each operation: so the built program asks once which one it is, and has code for each.
+    #[inline(always)]
+    fn transfer<T: Touches>(
+        &mut self,
+        op: MemoryOp,
+        rd: u8,
+        rs1: u8,
+        operand: Operand,
+        before: u32,
+        timeline: &Timeline,
+        notes: &mut T,
+    ) -> Result<bool, AllocError>
+        requires untranslated { translates self.old.memory.mmu ≡ false }
+        requires rd { rd < 32 }
+        requires rs1 { rs1 < 32 }
+        requires operand { OperandHasRegister operand }
+        requires delivered { self.old.memory.phys.taken ≤ bytes_below before timeline.now.inputs }
+        ensures ok { IfOk result (λ found. (word : ℕ) → Instr.Memory op rd rs1 operand ≡ meaning word
+            → MayCarryOut T.KEEPS (arrived before timeline.now) word self.old self.new (T.noted notes.old) (T.noted notes.new) found) }
+        ensures taken { OnOk result (self.new.memory.phys.taken ≤ bytes_below before timeline.now.inputs) }
+    {
+        match op {
+            MemoryOp::Ld => {
+                let op = MemoryOp::Ld;
+                self.complete_transfer::<false, T>(op, rd, rs1, operand, before, timeline, notes)
+            }
+            MemoryOp::Ldub => {
+                let op = MemoryOp::Ldub;
+                self.complete_transfer::<false, T>(op, rd, rs1, operand, before, timeline, notes)
+            }
+            MemoryOp::St => {
+                let op = MemoryOp::St;
+                self.complete_transfer::<false, T>(op, rd, rs1, operand, before, timeline, notes)
+            }
+            MemoryOp::Stb => {
+                let op = MemoryOp::Stb;
+                self.complete_transfer::<false, T>(op, rd, rs1, operand, before, timeline, notes)
+            }
+            _ => Ok(false),
+        }
+    }
+
+    /// Carries out a load or a store of a word or a byte that raises no trap before its access, where addresses are translated
+    /// (Appendices B.1 and B.4).
+    #[inline(never)]
+    fn carry_out_translated<T: Touches>(
+        &mut self,
+        word: u32,
+        before: u32,
+        timeline: &Timeline,
+        notes: &mut T,
+    ) -> Result<bool, AllocError>
+        requires translated { translates self.old.memory.mmu ≡ true }
+        requires delivered { self.old.memory.phys.taken ≤ bytes_below before timeline.now.inputs }
+        ensures ok { IfOk result (MayCarryOut T.KEEPS (arrived before timeline.now) word self.old self.new (T.noted notes.old) (T.noted notes.new)) }
+        ensures taken { OnOk result (self.new.memory.phys.taken ≤ bytes_below before timeline.now.inputs) }
+    {
+        match decode_memory(word) {
+            Some(
+                Instr::Memory {
+                    op,
+                    rd,
+                    rs1,
+                    operand,
+                },
+            ) => {
+                let found = self.complete_transfer::<true, T>(
+                    op, rd, rs1, operand, before, timeline, notes,
+                )?;
+                Ok(found)
+            }
+            _ => Ok(false),
+        }
+    }
+
+    /// Carries out a load or a store of a word or a byte that raises no trap before its access (Appendices B.1 and B.4).
+    #[inline(never)]
+    fn carry_out_access<T: Touches>(
+        &mut self,
+        word: u32,
+        before: u32,
+        timeline: &Timeline,
+        notes: &mut T,
+    ) -> Result<bool, AllocError>
+        requires delivered { self.old.memory.phys.taken ≤ bytes_below before timeline.now.inputs }
+        ensures ok { IfOk result (MayCarryOut T.KEEPS (arrived before timeline.now) word self.old self.new (T.noted notes.old) (T.noted notes.new)) }
+        ensures taken { OnOk result (self.new.memory.phys.taken ≤ bytes_below before timeline.now.inputs) }
+    {
+        if self.memory.translates() {
+            return self.carry_out_translated(word, before, timeline, notes);
+        }
+        match decode_memory(word) {
+            Some(
+                Instr::Memory {
+                    op,
+                    rd,
+                    rs1,
+                    operand,
+                },
+            ) => {
+                let found = self.transfer(op, rd, rs1, operand, before, timeline, notes)?;
+                Ok(found)
+            }
+            _ => Ok(false),
+        }
+    }
+
+    /// Carries out a word, if it is one of a frequent instruction that has a way of its own. Tells whether it has; where it has not,
+    /// nothing has changed.
+    #[inline(always)]
+    pub fn carry_out_frequent<T: Touches>(
+        &mut self,
+        word: u32,
+        before: u32,
+        timeline: &Timeline,
+        notes: &mut T,
+    ) -> Result<bool, AllocError>
+        requires delivered { self.old.memory.phys.taken ≤ bytes_below before timeline.now.inputs }
+        ensures ok { IfOk result (MayCarryOut T.KEEPS (arrived before timeline.now) word self.old self.new (T.noted notes.old) (T.noted notes.new)) }
+        ensures taken { OnOk result (self.new.memory.phys.taken ≤ bytes_below before timeline.now.inputs) }
+    {
+        match group(word) {
+            Group::Memory => {
+                let found = self.carry_out_access(word, before, timeline, notes)?;
+                Ok(found)
+            }
+            _ => Ok(carry_out_plainly(&mut self.processor, word)),
+        }
+    }
+}

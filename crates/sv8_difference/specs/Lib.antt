@@ -1,0 +1,2 @@
+-- What it means to compare texts.
+pub mod Difference

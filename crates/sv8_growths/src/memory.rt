@@ -1,0 +1,184 @@
+//! Writes to a memory whose pages and output are shared with snapshots, with notes of what is touched: each write that is refused memory
+//! leaves the memory as it was, each other one does what it should, and notes that could not be told are still there.
+
+use std::alloc::{AllocError, Global};
+use sv8_phys::{Phys, Size, StepTouches, Touch, Touches};
+
+/// Memory of 66 pages, in two groups.
+type Memory = Phys<66>;
+
+/// Words that are looked at: two of the first page, one of another in its group, one of the other group.
+const PLACES: [u32; 4] = [0x300, 0x304, 0x5000, 0x4_1ffc];
+
+/// Those words, and what was put out, which is unknown where no memory is left for it.
+#[derive(Drop)]
+struct Seen {
+    words: [u32; 4],
+    output: Option<Vec<u8>>,
+}
+
+/// What a step has told.
+#[derive(Drop)]
+struct Told {
+    notes: Vec<Touch>,
+}
+
+impl Touches for Told {
+    ghost use Rattle.std.specs.Prelude.{Bool, true, List};
+    ghost use Rattle.sv8_model.specs.declared.touch.Touch.{Touch};
+
+    const KEEPS: bool = true;
+
+    ghost KEEPS = { true };
+
+    ghost noted = { λ t. t.notes.items };
+
+    fn note(&mut self, touch: Touch) -> Result<(), AllocError> {
+        self.notes.push(touch)?;
+        Ok(())
+    }
+}
+
+fn words(memory: &Memory) -> [u32; 4] {
+    [
+        memory.word(0x300),
+        memory.word(0x304),
+        memory.word(0x5000),
+        memory.word(0x4_1ffc),
+    ]
+}
+
+fn look_at(alloc: Global, memory: &Memory) -> Seen {
+    Seen {
+        words: words(memory),
+        output: memory.output(alloc).ok(),
+    }
+}
+
+fn is_same(before: &Seen, after: &Seen) -> bool {
+    let output = match (&before.output, &after.output) {
+        (Some(first), Some(second)) => first.as_slice() == second.as_slice(),
+        _ => true,
+    };
+    before.words == after.words && output
+}
+
+/// Whether a word was put out behind the bytes from before, of which it is only the low byte.
+fn is_put_out(before: &Seen, after: &Seen, value: u64) -> bool {
+    match (&before.output, &after.output) {
+        (Some(first), Some(second)) => {
+            second.len() == first.len().saturating_add(1)
+                && second.starts_with(first.as_slice())
+                && second.last().copied().map(u64::from) == Some(value % 256)
+        }
+        _ => true,
+    }
+}
+
+/// Stores a word of RAM with its note, and tells whether the memory is then as it should be.
+fn stores(
+    alloc: Global,
+    memory: &mut Memory,
+    place: usize,
+    value: u32,
+    notes: &mut StepTouches,
+) -> bool {
+    let Some(pa) = PLACES.get(place).copied() else {
+        return false;
+    };
+    if pa % 4 != 0 {
+        return false;
+    }
+    let before = look_at(alloc, memory);
+    let answer = memory.write_noted(u64::from(pa), Size::Word, u64::from(value), notes);
+    let after = look_at(alloc, memory);
+    match answer {
+        Ok(Ok(())) => after.words.get(place).copied() == Some(value),
+        Ok(Err(_)) => false,
+        Err(_) => is_same(&before, &after),
+    }
+}
+
+/// Pokes the first byte of a word of RAM, and tells whether the memory is then as it should be.
+fn pokes(alloc: Global, memory: &mut Memory, byte: u8) -> bool {
+    let before = look_at(alloc, memory);
+    let answer = memory.poke(PLACES[2], byte);
+    let after = look_at(alloc, memory);
+    match answer {
+        Ok(()) => after.words[2] / 0x100_0000 == u32::from(byte),
+        Err(_) => is_same(&before, &after),
+    }
+}
+
+/// Puts a byte out, and tells whether the memory is then as it should be.
+fn puts_out(alloc: Global, memory: &mut Memory, value: u64) -> bool {
+    let before = look_at(alloc, memory);
+    let answer = memory.write(0x8000_0008, Size::Word, value);
+    let after = look_at(alloc, memory);
+    match answer {
+        Ok(Ok(())) => is_put_out(&before, &after, value),
+        Ok(Err(_)) => false,
+        Err(_) => is_same(&before, &after),
+    }
+}
+
+/// Puts the first page in the place of another, and tells whether the memory is then as it should be.
+fn moves_page(alloc: Global, memory: &mut Memory) -> bool {
+    let Ok(page) = memory.page(0) else {
+        return true;
+    };
+    memory.put_page(0x4_1000, page);
+    look_at(alloc, memory).words[3] == 0
+}
+
+/// Takes a snapshot, changes the memory, and tells whether both are as they should be.
+fn changes(alloc: Global, memory: &mut Memory, turn: u32, notes: &mut StepTouches) -> bool {
+    let Ok(snapshot) = memory.snapshot() else {
+        return true;
+    };
+    let before = look_at(alloc, &snapshot);
+    let mut kept = true;
+    for place in 0..4usize {
+        kept = stores(alloc, memory, place, turn.wrapping_add(7), notes) && kept;
+    }
+    kept = puts_out(alloc, memory, u64::from(turn)) && kept;
+    kept = pokes(alloc, memory, (turn.wrapping_add(3) % 256) as u8) && kept;
+    kept = moves_page(alloc, memory) && kept;
+    kept && is_same(&before, &look_at(alloc, &snapshot))
+}
+
+/// Tells the notes, and tells whether they are still there where that was refused, and gone where it was not.
+fn tells(alloc: Global, notes: &mut StepTouches) -> bool {
+    let mut told = Told {
+        notes: Vec::new(alloc),
+    };
+    let first = notes.tell(&mut told);
+    let mut again = Told {
+        notes: Vec::new(alloc),
+    };
+    let second = notes.tell(&mut again);
+    match (first, second) {
+        (Ok(()), Ok(())) => !told.notes.is_empty() && again.notes.is_empty(),
+        (Err(_), Ok(())) => !again.notes.is_empty(),
+        _ => false,
+    }
+}
+
+pub fn keeps(alloc: Global) -> Result<bool, AllocError> {
+    let mut memory = Memory::new(alloc)?;
+    let mut notes = StepTouches::new(alloc);
+    let mut kept = true;
+    for turn in 0..6u32 {
+        kept = changes(alloc, &mut memory, turn, &mut notes) && kept;
+    }
+    kept = tells(alloc, &mut notes) && kept;
+    // Up to the end of a chunk of the output, and over it.
+    for turn in 0..4_070u64 {
+        let _ = memory.write(0x8000_0008, Size::Word, turn);
+    }
+    for turn in 0..40u64 {
+        kept = puts_out(alloc, &mut memory, turn) && kept;
+    }
+    kept = changes(alloc, &mut memory, 9, &mut notes) && kept;
+    Ok(kept)
+}

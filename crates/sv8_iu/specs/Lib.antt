@@ -1,0 +1,8 @@
+pub mod Operands
+pub mod Arithmetic
+pub mod Control
+pub mod Windows
+pub mod StateRegisters
+pub mod Requests
+pub mod Memory
+pub mod Instruction

@@ -1,0 +1,19 @@
+//! The integer unit without its memory: what each instruction raises, the access that it asks for, and what it makes of the processor.
+//! The SPARC Architecture Manual, Version 8, chapter 5 and Appendix B.
+#![tactic(auto)]
+
+mod arithmetic;
+mod control;
+mod instruction;
+mod memory;
+mod operands;
+mod plain;
+mod request;
+mod state_registers;
+mod windows;
+
+pub use instruction::{asked, complete, data_space, raised_by, take_trap};
+pub use memory::{finish_access, low_word, memory_trap};
+pub use operands::sum_of_sources;
+pub use plain::carry_out_plainly;
+pub use request::{AccessRequest, Response, Space, space_of};

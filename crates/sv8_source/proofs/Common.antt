@@ -1,0 +1,2 @@
+-- The lemmas that proofs of the crates above cite, passed on from one place. Declares nothing.
+pub use Rattle.sv8_source.proofs.SourceLaws.{lines_rise}

@@ -1,0 +1,2 @@
+-- The lemmas that proofs of the crates above cite, passed on from one place. Declares nothing.
+pub use Rattle.sv8_trace.proofs.Nearness.{agrees_along, near_agrees}

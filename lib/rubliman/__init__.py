@@ -1,0 +1,1 @@
+"""What stands around the proved workbench: the importer of real programs, and the runtime for C programs."""
