@@ -1,12 +1,14 @@
 //! Tests of the calls of crates below the commands: lines, statements and sources, translations and probes, which instructions have a way of their
-//! own, and the workbench with its edits and its recorded run. These stand here, and not in the crates that they test, as each crate with tests is
-//! proved twice.
+//! own, what a machine has put out, and the workbench with its edits and its recorded run. These stand here, and not in the crates that they test, as
+//! each crate with tests is proved twice.
 #![tactic(auto)]
 
 #[cfg(test)]
 mod frequent;
 #[cfg(test)]
 mod lines;
+#[cfg(test)]
+mod output;
 #[cfg(test)]
 mod recorded;
 #[cfg(test)]

@@ -3,7 +3,8 @@
 use std::alloc::{AllocError, Global};
 use std::test::*;
 use sv8_mmu::{
-    AccessType, Buffer, Fault, FaultType, Mmu, Reach, VirtualAccess, probe_by_address, translate,
+    AccessType, Buffer, Fault, FaultType, Mmu, Reach, TableLevel, VirtualAccess, probe_by_address,
+    translate,
 };
 use sv8_phys::{NoTouches, Phys, Size};
 
@@ -55,7 +56,7 @@ fn is_refused_and_recorded(alloc: Global) -> Result<bool, AllocError> {
         &mut NoTouches,
     )?;
     let fault = Fault {
-        level: 3,
+        level: TableLevel::Level3,
         access_type: AccessType::UserStore,
         fault_type: FaultType::Protection,
         address: 0x3000,

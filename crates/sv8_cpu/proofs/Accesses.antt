@@ -14,6 +14,7 @@ use Rattle.sv8_phys.specs.declared.size.Size.TheVariants.{Byte, Half, Word, Doub
 use Rattle.sv8_phys.specs.Devices.{input_address, waiting_address, Stored, load, store, ram_load, ram_store}
 use Rattle.sv8_mmu.specs.declared.access_type.AccessType.{AccessType}
 use Rattle.sv8_mmu.specs.declared.fault_type.FaultType.{FaultType}
+use Rattle.sv8_mmu.specs.declared.table_level.TableLevel.{TableLevel}
 use Rattle.sv8_mmu.specs.declared.translation.Reach.{Reach}
 use Rattle.sv8_mmu.specs.declared.translation.Translated.{Translated}
 use Rattle.sv8_mmu.specs.declared.translation.Translated.TheVariants as translated
@@ -141,7 +142,7 @@ module _ (keeps : Keeps) (limit : ℕ) (u : Units) (trap : Trap) (asi : ℕ) (ac
         (rw e (subst (λ v. Does keeps (use_address v pa) o1 o2 s ns1 ns2) same made))
 
     -- its translation meets a fault, and nothing more is done
-    pub refused_at : (kind : FaultType) (level : ℕ) (answer : Served) (o3 : Outside) → t ≡ translated.Refused kind level → o3 ≡ o1
+    pub refused_at : (kind : FaultType) (level : TableLevel) (answer : Served) (o3 : Outside) → t ≡ translated.Refused kind level → o3 ≡ o1
         → answer ≡ failed u1 trap asi (record { level = level; access_type = access_type; fault_type = kind; address = va }) → Does keeps (done answer) o3 o2 s ns1 ns2
         → Does keeps (at_virtual limit u trap asi access_type reach va (use_address u)) o o2 s ns ns2
     unfolding at_virtual

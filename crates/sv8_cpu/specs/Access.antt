@@ -15,6 +15,7 @@ use Rattle.sv8_mmu.specs.declared.access_type.AccessType.{AccessType}
 use Rattle.sv8_mmu.specs.declared.access_type.AccessType.TheVariants.{UserLoad, SupervisorLoad, UserFetch, SupervisorFetch, UserStore, SupervisorStore, UserInstructionStore, SupervisorInstructionStore}
 use Rattle.sv8_mmu.specs.declared.fault_type.FaultType.TheVariants.{AccessBus}
 use Rattle.sv8_mmu.specs.declared.registers.Fault.{Fault}
+use Rattle.sv8_mmu.specs.declared.table_level.TableLevel.TheVariants.{Context}
 use Rattle.sv8_mmu.specs.declared.translation.Reach.{Reach}
 use Rattle.sv8_mmu.specs.declared.translation.Reach.TheVariants.{Ram, RamOrDevices}
 use Rattle.sv8_mmu.specs.declared.translation.Translated.{Translated}
@@ -54,9 +55,9 @@ unfoldable pub store_type : ℕ → AccessType
 store_type asi =
     if asi == 0x08 then UserInstructionStore else (if asi == 0x09 then SupervisorInstructionStore else (if asi == 0x0a then UserStore else SupervisorStore))
 
--- nothing serves the physical address, a fault that has no level
+-- nothing serves the physical address, a fault that has no level: its number is 0
 abbrev pub bus_fault : AccessType → ℕ → Fault
-bus_fault access_type va = record { level = 0; access_type = access_type; fault_type = AccessBus; address = va }
+bus_fault access_type va = record { level = Context; access_type = access_type; fault_type = AccessBus; address = va }
 
 -- a space that is not assigned, or an access or a register that it does not have, is no fault of the unit: nothing is recorded, and NF hides nothing
 abbrev pub no_such_access : Units → Served

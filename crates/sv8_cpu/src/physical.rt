@@ -13,7 +13,7 @@ ghost use Rattle.sv8_cpu.specs.View.{MemoryDoes, units_of};
 
 use std::alloc::AllocError;
 use sv8_iu::{Response, low_word};
-use sv8_mmu::{AccessType, Fault, FaultType, Mmu};
+use sv8_mmu::{AccessType, Fault, FaultType, Mmu, TableLevel};
 use sv8_phys::{AccessKind, BusError, INPUT, Observation, Phys, Size, Touches, WAITING};
 use sv8_time::Timeline;
 use sv8_trap::Trap;
@@ -120,7 +120,6 @@ impl<const PAGES: usize> Physical<PAGES> {
     #[cold]
     #[tactic(auto, unfolding(crate::specs::Units::failed, sv8_mmu::specs::Registers::recorded))]
     pub fn fail(&mut self, trap: Trap, asi: u8, fault: Fault) -> Response
-        requires level { fault.level ≤ 3 }
         ensures served { record { response = result; units = units_of self.new } ≡ failed (units_of self.old) trap asi fault }
         ensures memory { self.new.phys ≡ self.old.phys }
         ensures pointer { self.new.mmu.table_pointer ≡ self.old.mmu.table_pointer }
@@ -142,7 +141,7 @@ impl<const PAGES: usize> Physical<PAGES> {
         ensures pointer { self.new.mmu.table_pointer ≡ self.old.mmu.table_pointer }
     {
         let fault = Fault {
-            level: 0,
+            level: TableLevel::Context,
             access_type,
             fault_type: FaultType::AccessBus,
             address: va,

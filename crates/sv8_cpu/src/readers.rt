@@ -1,11 +1,12 @@
 //! What is read of a machine, and what its keeper does with its state.
 
-ghost use Rattle.std.specs.Prelude.{◌≡◌, ◌<◌, ◌≤◌, ◌%◌, ◌/◌, length, drop, false, IfOk, slice_index_or, slice_set};
+ghost use Rattle.std.specs.Prelude.{◌≡◌, ◌<◌, ◌≤◌, ◌%◌, ◌/◌, length, drop, false, option_map, IfOk, slice_index_or, slice_set};
 ghost use Rattle.sv8_model.specs.Levels.{levels_word};
 ghost use Rattle.sv8_model.specs.Outside.{word_of};
 ghost use Rattle.sv8_time.specs.Schedule.{bytes_below};
 ghost use Rattle.sv8_phys.specs.Memory.{ram_size, page_of, with_page};
 ghost use Rattle.sv8_phys.specs.Contents.{AreContents};
+ghost use Rattle.sv8_phys.specs.Pieces.{piece_of};
 ghost use Rattle.sv8_cpu.specs.State.{waiting};
 
 use crate::machine::{Machine, Parts};
@@ -99,6 +100,14 @@ impl<const NW: usize, const PAGES: usize> Machine<NW, PAGES> {
         ensures { IfOk result (λ v. v.items ≡ self.now.memory.output) }
     {
         self.parts.memory.phys().output(alloc)
+    }
+
+    /// The bytes put out at the console so far, read where they lie: those from 4,096 * `index` on, at most 4,096 of them. `None`
+    /// where there are none. The pieces from index 0 up to the first `None` are the whole output.
+    pub fn output_piece(&self, index: usize) -> Option<&[u8]>
+        ensures { option_map (λ s. s.now) result ≡ piece_of self.now.memory.output index }
+    {
+        self.parts.memory.phys().output_piece(index)
     }
 
     /// The word of RAM at a physical address, the byte at the lowest address being its most significant one.

@@ -17,7 +17,8 @@ use crate::physical::{Physical, is_word, load_type, store_type};
 use std::alloc::AllocError;
 use sv8_iu::{AccessRequest, Response, Space, space_of};
 use sv8_mmu::{
-    Buffer, Fault, FaultType, Reach, Translated, VirtualAccess, probe_by_address, resolve,
+    Buffer, Fault, FaultType, Reach, TableLevel, Translated, VirtualAccess, probe_by_address,
+    resolve,
 };
 use sv8_phys::{Size, Touches};
 use sv8_time::Timeline;
@@ -70,9 +71,8 @@ fn refuse<const PAGES: usize>(
     asi: u8,
     access: VirtualAccess,
     kind: FaultType,
-    level: u8,
+    level: TableLevel,
 ) -> Response
-    requires level { level ≤ 3 }
     ensures served { record { response = result; units = units_of physical.new }
         ≡ failed (units_of physical.old) trap asi (record { level = level; access_type = access.access_type; fault_type = kind; address = access.address }) }
     ensures memory { physical.new.phys ≡ physical.old.phys }

@@ -6,8 +6,11 @@ use Rattle.sv8_model.specs.Outside.{Outside, word_of}
 use Rattle.sv8_model.specs.Action.{Action, done, load_word, result_of, after, touches, observations}
 use Rattle.sv8_model.specs.Does.{Does, keeping, noting, touching}
 use Rattle.sv8_model.proofs.Common.{does_if_true, noting_then}
+use Rattle.sv8_mmu.specs.declared.table_level.TableLevel.{TableLevel}
+use Rattle.sv8_mmu.specs.declared.table_level.TableLevel.TheVariants.{Context}
+use Rattle.sv8_mmu.specs.declared.walk.TableIndex.{TableIndex}
 use Rattle.sv8_mmu.specs.Kept.{reads_of}
-use Rattle.sv8_mmu.specs.Walk.{is_pointer, table_of, entry_at, looked_up, below_pointer}
+use Rattle.sv8_mmu.specs.Walk.{index_at, is_pointer, table_of, entry_at, looked_up, below_pointer}
 use Rattle.sv8_mmu.specs.Probe.{sought}
 
 -- an entry is read, and what it leads to
@@ -28,37 +31,37 @@ entry_read limit at outside use_entry e o r before now later inside aligned is t
     whole = omega arith
 
 -- what is left of the indices behind the first one
-pub indices_left : (index : ℕ) (below : List ℕ) → take (length (index ∷ below) - 1) (drop 1 (index ∷ below)) ≡ below
-indices_left index below = take_all (length (index ∷ below) - 1) below (omega arith)
+pub indices_left : {A : Type 0} (to : A) (below : List A) → take (length (to ∷ below) - 1) (drop 1 (to ∷ below)) ≡ below
+indices_left to below = take_all (length (to ∷ below) - 1) below (omega arith)
 
 -- a pointer above level 3 leads to an entry of the next table
-pub next_level : (limit level e table : ℕ) (below : List ℕ) → 1 ≤ length below → table ≡ table_of e
-    → below_pointer limit level below e ≡ looked_up limit (level + 1) (table + 4 * get_or below 0 0) (below_pointer limit (level + 1) (take (length below - 1) (drop 1 below)))
+pub next_level : (limit : ℕ) (level : TableLevel) (e table : ℕ) (below : List TableIndex) → 1 ≤ length below → table ≡ table_of e
+    → below_pointer limit level below e ≡ looked_up limit (get_or below 0 (index_at Context 0)).level (table + 4 * (get_or below 0 (index_at Context 0)).index) (below_pointer limit (get_or below 0 (index_at Context 0)).level (take (length below - 1) (drop 1 below)))
 unfolding below_pointer
 next_level limit level e table [] h t = absurd (omega arith)
-next_level limit level e table (index ∷ below) h t = rw (t, indices_left index below) refl
+next_level limit level e table (to ∷ below) h t = rw (t, indices_left to below) refl
 
 -- a probe goes one level deeper
-pub next_sought : (limit depth e table : ℕ) (below : List ℕ) → 1 ≤ depth → 1 ≤ length below → table ≡ table_of e → e % 4 ≡ 1
-    → sought limit depth below e ≡ entry_at limit (table + 4 * get_or below 0 0) 0 (sought limit (depth - 1) (take (length below - 1) (drop 1 below)))
+pub next_sought : (limit depth e table : ℕ) (below : List TableIndex) → 1 ≤ depth → 1 ≤ length below → table ≡ table_of e → e % 4 ≡ 1
+    → sought limit depth below e ≡ entry_at limit (table + 4 * (get_or below 0 (index_at Context 0)).index) 0 (sought limit (depth - 1) (take (length below - 1) (drop 1 below)))
 unfolding sought
 next_sought limit zero e table below d h t p = absurd (omega arith)
 next_sought limit (suc depth) e table [] d h t p = absurd (omega arith)
-next_sought limit (suc depth) e table (index ∷ below) d h t p = rw (t, p, indices_left index below) (ap (λ n. entry_at limit (table_of e + 4 * index) 0 (sought limit n below)) less)
+next_sought limit (suc depth) e table (to ∷ below) d h t p = rw (t, p, indices_left to below) (ap (λ n. entry_at limit (table_of e + 4 * to.index) 0 (sought limit n below)) less)
   where
     less : depth ≡ suc depth - 1
     less = omega arith
 
 -- what is no pointer leads no deeper
-pub none_sought : (limit depth e : ℕ) (below : List ℕ) → 1 ≤ depth → is_pointer e ≡ false → sought limit depth below e ≡ done 0
+pub none_sought : (limit depth e : ℕ) (below : List TableIndex) → 1 ≤ depth → is_pointer e ≡ false → sought limit depth below e ≡ done 0
 unfolding sought
 none_sought limit zero e below d p = absurd (omega arith)
 none_sought limit (suc depth) e [] d p = refl
-none_sought limit (suc depth) e (index ∷ below) d p = rw p refl
+none_sought limit (suc depth) e (to ∷ below) d p = rw p refl
 
 -- below level 3 there is nothing
-pub nothing_below : (limit depth e : ℕ) (below : List ℕ) → 1 ≤ depth → length below ≡ 0 → sought limit depth below e ≡ done 0
+pub nothing_below : (limit depth e : ℕ) (below : List TableIndex) → 1 ≤ depth → length below ≡ 0 → sought limit depth below e ≡ done 0
 unfolding sought
 nothing_below limit zero e below d h = absurd (omega arith)
 nothing_below limit (suc depth) e [] d h = refl
-nothing_below limit (suc depth) e (index ∷ below) d h = absurd (omega arith)
+nothing_below limit (suc depth) e (to ∷ below) d h = absurd (omega arith)

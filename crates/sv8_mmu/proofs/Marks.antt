@@ -6,6 +6,9 @@ use Rattle.sv8_model.specs.declared.touch.Touch.TheVariants.{Read}
 use Rattle.sv8_model.specs.Outside.{Outside, word_of, with_word}
 use Rattle.sv8_model.specs.Action.{Action, done, load_word, result_of, touches}
 use Rattle.sv8_mmu.specs.declared.buffer.Key.{Key}
+use Rattle.sv8_mmu.specs.declared.table_level.TableLevel.{TableLevel}
+use Rattle.sv8_mmu.specs.declared.table_level.TableLevel.TheVariants.{Context}
+use Rattle.sv8_mmu.specs.declared.walk.TableIndex.{TableIndex}
 use Rattle.sv8_mmu.specs.declared.walk.Trail.{Trail}
 use Rattle.sv8_mmu.specs.declared.fault_type.FaultType.{FaultType}
 use Rattle.sv8_mmu.specs.declared.fault_type.FaultType.TheVariants as of
@@ -22,10 +25,10 @@ pub record Differs (ram now : List ℕ) (k e v : ℕ) : Type 0 where
   pub kind : e % 4 ≡ 2 → v % 4 ≡ 2
 
 -- where the one leads to the entry, the other leads to it as it is now
-abbrev pub Marks : Action Walked → Outside → Outside → ℕ → ℕ → ℕ → ℕ → Type 0
+abbrev pub Marks : Action Walked → Outside → Outside → ℕ → ℕ → TableLevel → ℕ → Type 0
 Marks a o o' e v l at = result_of a o ≡ Page e l at → (word_of o.ram (at / 4) ≡ e) × (e % 4 ≡ 2) × (result_of a o' ≡ Page v l at) × (touches a o' ≡ touches a o)
 
-fault_page : (kind : FaultType) (level e l at : ℕ) → Fault kind level ≡ Page e l at → ⊥
+fault_page : (kind : FaultType) (level : TableLevel) (e : ℕ) (l : TableLevel) (at : ℕ) → Fault kind level ≡ Page e l at → ⊥
 fault_page kind level e l at q = cc
 
 four : (x : ℕ) → x < 4 → (x ≡ 0) ⊎ ((x ≡ 1) ⊎ ((x ≡ 2) ⊎ (x ≡ 3)))
@@ -34,30 +37,30 @@ four x h = elim (cases_eq x 0) [ inl p ↦ inl p | inr a ↦ inr (elim (cases_eq
 pointer_page : (w : ℕ) {e : ℕ} → w % 4 ≡ 1 → w ≡ e → e % 4 ≡ 2 → ⊥
 pointer_page w p q r = omega arith
 
-marks_if : (b : Bool) (x y : Action Walked) (o o' : Outside) (e v l at : ℕ) → Marks x o o' e v l at → Marks y o o' e v l at → Marks (cond b x y) o o' e v l at
+marks_if : (b : Bool) (x y : Action Walked) (o o' : Outside) (e v : ℕ) (l : TableLevel) (at : ℕ) → Marks x o o' e v l at → Marks y o o' e v l at → Marks (cond b x y) o o' e v l at
 marks_if true x y o o' e v l at p q = p
 marks_if false x y o o' e v l at p q = q
 
-marks_fault : (kind : FaultType) (level : ℕ) (o o' : Outside) (e v l at : ℕ) → Marks (done (Fault kind level)) o o' e v l at
+marks_fault : (kind : FaultType) (level : TableLevel) (o o' : Outside) (e v : ℕ) (l : TableLevel) (at : ℕ) → Marks (done (Fault kind level)) o o' e v l at
 marks_fault kind level o o' e v l at h = absurd (fault_page kind level e l at h)
 
-met_invalid : (level at : ℕ) (g : ℕ → Action Walked) (w : ℕ) → w % 4 ≡ 0 → met level at g w ≡ done (Fault of.InvalidAddress level)
+met_invalid : (level : TableLevel) (at : ℕ) (g : ℕ → Action Walked) (w : ℕ) → w % 4 ≡ 0 → met level at g w ≡ done (Fault of.InvalidAddress level)
 met_invalid level at g w h = rw h refl
 
-met_pointer : (level at : ℕ) (g : ℕ → Action Walked) (w : ℕ) → w % 4 ≡ 1 → met level at g w ≡ g w
+met_pointer : (level : TableLevel) (at : ℕ) (g : ℕ → Action Walked) (w : ℕ) → w % 4 ≡ 1 → met level at g w ≡ g w
 met_pointer level at g w h = rw h refl
 
-met_page : (level at : ℕ) (g : ℕ → Action Walked) (w : ℕ) → w % 4 ≡ 2 → met level at g w ≡ done (Page w level at)
+met_page : (level : TableLevel) (at : ℕ) (g : ℕ → Action Walked) (w : ℕ) → w % 4 ≡ 2 → met level at g w ≡ done (Page w level at)
 met_page level at g w h = rw h refl
 
-met_reserved : (level at : ℕ) (g : ℕ → Action Walked) (w : ℕ) → w % 4 ≡ 3 → met level at g w ≡ done (Fault of.Translation level)
+met_reserved : (level : TableLevel) (at : ℕ) (g : ℕ → Action Walked) (w : ℕ) → w % 4 ≡ 3 → met level at g w ≡ done (Fault of.Translation level)
 met_reserved level at g w h = rw h refl
 
-page_parts : (w m j e l k : ℕ) → Page w m j ≡ Page e l k → (w ≡ e) × (m ≡ l) × (j ≡ k)
+page_parts : (w : ℕ) (m : TableLevel) (j e : ℕ) (l : TableLevel) (k : ℕ) → Page w m j ≡ Page e l k → (w ≡ e) × (m ≡ l) × (j ≡ k)
 page_parts w m j e l k h = (cc, cc, cc)
 
 -- one level of the walk, where the next one marks
-marks_load : (level here : ℕ) (g : ℕ → Action Walked) (o o' : Outside) (e v l at : ℕ) → Differs o.ram o'.ram (at / 4) e v → ((w : ℕ) → Marks (g w) o o' e v l at)
+marks_load : (level : TableLevel) (here : ℕ) (g : ℕ → Action Walked) (o o' : Outside) (e v : ℕ) (l : TableLevel) (at : ℕ) → Differs o.ram o'.ram (at / 4) e v → ((w : ℕ) → Marks (g w) o o' e v l at)
     → Marks (load_word (here / 4) (met level here g)) o o' e v l at
 marks_load level here g o o' e v l at d deeper h =
     let w = word_of o.ram (here / 4) in
@@ -90,19 +93,19 @@ marks_load level here g o o' e v l at d deeper h =
       ]
     ]
 
-module _ (limit : ℕ) (o o' : Outside) (e v l at : ℕ) (d : Differs o.ram o'.ram (at / 4) e v) where
-  marks_looked_up : (level here : ℕ) (g : ℕ → Action Walked) → ((w : ℕ) → Marks (g w) o o' e v l at) → Marks (looked_up limit level here g) o o' e v l at
+module _ (limit : ℕ) (o o' : Outside) (e v : ℕ) (l : TableLevel) (at : ℕ) (d : Differs o.ram o'.ram (at / 4) e v) where
+  marks_looked_up : (level : TableLevel) (here : ℕ) (g : ℕ → Action Walked) → ((w : ℕ) → Marks (g w) o o' e v l at) → Marks (looked_up limit level here g) o o' e v l at
   marks_looked_up level here g deeper =
       marks_if (ltb here limit) (load_word (here / 4) (met level here g)) (done (Fault of.Translation level)) o o' e v l at (marks_load level here g o o' e v l at d deeper) (marks_fault of.Translation level o o' e v l at)
 
-  marks_below : (level : ℕ) (below : List ℕ) (w : ℕ) → Marks (below_pointer limit level below w) o o' e v l at
+  marks_below : (level : TableLevel) (below : List TableIndex) (w : ℕ) → Marks (below_pointer limit level below w) o o' e v l at
   unfolding below_pointer
   marks_below level [] w = marks_fault of.Translation level o o' e v l at
-  marks_below level (index ∷ below) w = marks_looked_up (level + 1) _ _ (marks_below (level + 1) below)
+  marks_below level (to ∷ below) w = marks_looked_up to.level _ _ (marks_below to.level below)
 
   pub walk_marks : (table_pointer context va : ℕ) → Marks (walk limit table_pointer context va) o o' e v l at
   unfolding walk
-  walk_marks table_pointer context va = marks_looked_up 0 _ _ (marks_below 0 (indices_of va))
+  walk_marks table_pointer context va = marks_looked_up Context _ _ (marks_below Context (indices_of va))
 
 -- a word that was stored
 pub stored_word : (ram : List ℕ) (k v : ℕ) → 4 * k + 4 ≤ length ram → v < 2 ^ 32 → word_of (with_word ram k v) k ≡ v
@@ -125,7 +128,7 @@ stored_word r k v h f =
     rw (b3, b2, b1, b0) (omega arith)
 
 -- the walk with its last entry as it is once v is stored there
-corrected : (limit : ℕ) (ram : List ℕ) (table_pointer context va : ℕ) (trail : Trail) (e l at v : ℕ) → limit ≤ length ram → (e % 4 ≡ 2 → v % 4 ≡ 2) → v < 2 ^ 32
+corrected : (limit : ℕ) (ram : List ℕ) (table_pointer context va : ℕ) (trail : Trail) (e : ℕ) (l : TableLevel) (at v : ℕ) → limit ≤ length ram → (e % 4 ≡ 2 → v % 4 ≡ 2) → v < 2 ^ 32
     → IsWalk limit ram table_pointer context va (record { trail = trail; end = Page e l at }) → IsWalk limit (with_word ram (at / 4) v) table_pointer context va (record { trail = trail; end = Page v l at })
 corrected limit ram table_pointer context va trail e l at v large kind fits s =
     let now = with_word ram (at / 4) v in
@@ -143,7 +146,7 @@ corrected limit ram table_pointer context va trail e l at v large kind fits s =
     }
 
 -- the corrected walk stands with the rest
-pub stand_corrected : (limit : ℕ) (ram now : List ℕ) (table_pointer : ℕ) (key : Key) (trail : Trail) (e l at v : ℕ) (old some new : List Kept) → limit ≤ length ram → (e % 4 ≡ 2 → v % 4 ≡ 2) → v < 2 ^ 32
+pub stand_corrected : (limit : ℕ) (ram now : List ℕ) (table_pointer : ℕ) (key : Key) (trail : Trail) (e : ℕ) (l : TableLevel) (at v : ℕ) (old some new : List Kept) → limit ≤ length ram → (e % 4 ≡ 2 → v % 4 ≡ 2) → v < 2 ^ 32
     → now ≡ with_word ram (at / 4) v → IsWalk limit ram table_pointer key.context (key.page * 4096) (record { trail = trail; end = Page e l at }) → AllStand limit ram table_pointer old → AreAmong some old → NoneReads at some
     → ((x : Kept) → Contains new x → Contains some x ⊎ (x ≡ (key, record { trail = trail; end = Page v l at }))) → AllStand limit now table_pointer new
 stand_corrected limit ram now table_pointer key trail e l at v old some new large kind fits is s stand among none kept x m =

@@ -9,6 +9,7 @@ use Rattle.sv8_model.proofs.Common.{does_done, does_then, does_if_true, does_if_
 use Rattle.sv8_mmu.specs.declared.access_type.AccessType.{AccessType}
 use Rattle.sv8_mmu.specs.declared.registers.Mmu.{Mmu}
 use Rattle.sv8_mmu.specs.declared.walk.Walk.{Walk}
+use Rattle.sv8_mmu.specs.declared.table_level.TableLevel.{TableLevel}
 use Rattle.sv8_mmu.specs.declared.walk.Walked.{Walked}
 use Rattle.sv8_mmu.specs.declared.walk.Walked.TheVariants.{Page}
 use Rattle.sv8_mmu.specs.declared.translation.Reach.{Reach}
@@ -44,7 +45,7 @@ walk_noted keeps limit ram table_pointer context va w o ns ns1 s e = noted_behin
 -- ---- what the end of a walk leads to
 
 -- the entry gets marks
-pub marks_stored : (keeps : Keeps) (limit va : ℕ) (access_type : AccessType) (reach : Reach) (w : Walked) (e level at now pa : ℕ) (o o1 : Outside) (ns ns1 : Notes) (y : Translated) → w ≡ Page e level at
+pub marks_stored : (keeps : Keeps) (limit va : ℕ) (access_type : AccessType) (reach : Reach) (w : Walked) (e : ℕ) (level : TableLevel) (at now pa : ℕ) (o o1 : Outside) (ns ns1 : Notes) (y : Translated) → w ≡ Page e level at
     → fault_type access_type e ≡ None → pa ≡ physical_address e level va → is_served limit reach pa ≡ true → now ≡ marked access_type e → now ≢ e → y ≡ At pa
     → ((z : Translated) → Does keeps (store_word (at / 4) now (done z)) o o1 z ns ns1) → Does keeps (settled limit va access_type reach w) o o1 y ns ns1
 unfolding settled

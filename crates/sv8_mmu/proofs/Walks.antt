@@ -8,6 +8,9 @@ use Rattle.sv8_model.specs.Action.{Action, done, load_word, store_word, load_byt
 use Rattle.sv8_model.specs.Does.{Notes, keeping, no_notes, noting}
 use Rattle.sv8_model.proofs.Common.{length-with_word, word_other}
 use Rattle.sv8_mmu.specs.declared.fault_type.FaultType.TheVariants as of
+use Rattle.sv8_mmu.specs.declared.table_level.TableLevel.{TableLevel}
+use Rattle.sv8_mmu.specs.declared.table_level.TableLevel.TheVariants.{Context}
+use Rattle.sv8_mmu.specs.declared.walk.TableIndex.{TableIndex}
 use Rattle.sv8_mmu.specs.declared.walk.Walk.{Walk}
 use Rattle.sv8_mmu.specs.declared.walk.Walked.{Walked}
 use Rattle.sv8_mmu.specs.declared.walk.Walked.TheVariants.{Fault}
@@ -88,21 +91,21 @@ loads_if : {R : Type 0} (b : Bool) (x y : Action R) → OnlyLoads x → OnlyLoad
 loads_if true x y p q = p
 loads_if false x y p q = q
 
-met_loads : (level at : ℕ) (deeper : ℕ → Action Walked) → ((e : ℕ) → OnlyLoads (deeper e)) → (e : ℕ) → OnlyLoads (met level at deeper e)
+met_loads : (level : TableLevel) (at : ℕ) (deeper : ℕ → Action Walked) → ((e : ℕ) → OnlyLoads (deeper e)) → (e : ℕ) → OnlyLoads (met level at deeper e)
 met_loads level at deeper h e =
     loads_if (is_pointer e) _ _ (h e) (loads_if (is_page_entry e) _ _ tt (loads_if (is_invalid e) (done (Fault of.InvalidAddress level)) (done (Fault of.Translation level)) tt tt))
 
-looked_up_loads : (limit level at : ℕ) (deeper : ℕ → Action Walked) → ((e : ℕ) → OnlyLoads (deeper e)) → OnlyLoads (looked_up limit level at deeper)
+looked_up_loads : (limit : ℕ) (level : TableLevel) (at : ℕ) (deeper : ℕ → Action Walked) → ((e : ℕ) → OnlyLoads (deeper e)) → OnlyLoads (looked_up limit level at deeper)
 looked_up_loads limit level at deeper h = loads_if (ltb at limit) (load_word (at / 4) (met level at deeper)) (done (Fault of.Translation level)) (met_loads level at deeper h) tt
 
-below_loads : (limit level : ℕ) (below : List ℕ) (e : ℕ) → OnlyLoads (below_pointer limit level below e)
+below_loads : (limit : ℕ) (level : TableLevel) (below : List TableIndex) (e : ℕ) → OnlyLoads (below_pointer limit level below e)
 unfolding below_pointer
 below_loads limit level [] e = tt
-below_loads limit level (index ∷ below) e = looked_up_loads limit (level + 1) _ _ (below_loads limit (level + 1) below)
+below_loads limit level (to ∷ below) e = looked_up_loads limit to.level _ _ (below_loads limit to.level below)
 
 pub walk_loads : (limit table_pointer context va : ℕ) → OnlyLoads (walk limit table_pointer context va)
 unfolding walk
-walk_loads limit table_pointer context va = looked_up_loads limit 0 _ _ (below_loads limit 0 (indices_of va))
+walk_loads limit table_pointer context va = looked_up_loads limit Context _ _ (below_loads limit Context (indices_of va))
 
 -- ---- the same walk in another RAM
 

@@ -6,6 +6,7 @@ use Rattle.sv8_mmu.specs.declared.access_type.AccessType.{AccessType}
 use Rattle.sv8_mmu.specs.declared.fault_type.FaultType.{FaultType}
 use Rattle.sv8_mmu.specs.declared.registers.Mmu.{Mmu}
 use Rattle.sv8_mmu.specs.declared.registers.Fault.{Fault}
+use Rattle.sv8_mmu.specs.declared.table_level.TableLevel.{TableLevel}
 use Rattle.sv8_mmu.specs.declared.walk.Walked.{Walked}
 use Rattle.sv8_mmu.specs.declared.walk.Walked.TheVariants as end
 use Rattle.sv8_mmu.specs.declared.translation.Reach.{Reach}
@@ -17,7 +18,7 @@ use Rattle.sv8_mmu.specs.Walk.{walk}
 use Rattle.sv8_mmu.specs.Translation.{fault_type, marked, physical_address, is_served, translate}
 
 -- the fault of an access of a type to a virtual address, as the registers record it
-abbrev pub fault_of : ℕ → AccessType → FaultType → ℕ → Fault
+abbrev pub fault_of : ℕ → AccessType → FaultType → TableLevel → Fault
 fault_of va access_type kind level = record { level = level; access_type = access_type; fault_type = kind; address = va }
 
 -- what a translation leads to, with its whole fault

@@ -7,6 +7,7 @@ use Rattle.sv8_mmu.specs.declared.access_type.AccessType.TheVariants.{Supervisor
 use Rattle.sv8_mmu.specs.declared.fault_type.FaultType.{FaultType}
 use Rattle.sv8_mmu.specs.declared.registers.Mmu.{Mmu}
 use Rattle.sv8_mmu.specs.declared.registers.Fault.{Fault}
+use Rattle.sv8_mmu.specs.declared.table_level.TableLevel.{TableLevel}
 
 -- the bytes of words, the most significant first
 abbrev pub bytes_of : List ℕ → List ℕ
@@ -52,5 +53,5 @@ abbrev pub leaves : {R : Type 0} → Action R → ℕ → ℕ
 leaves a k = word_of (after a tables).ram k
 
 -- a fault of a type at a level, of an access of type 3, a supervisor's fetch, to address 0x10
-abbrev pub fetch_fault : FaultType → ℕ → Fault
+abbrev pub fetch_fault : FaultType → TableLevel → Fault
 fetch_fault fault_type level = record { level = level; access_type = SupervisorFetch; fault_type = fault_type; address = 0x10 }

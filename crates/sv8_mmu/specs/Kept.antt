@@ -26,20 +26,20 @@ places_of t = take t.count t.places
 abbrev pub reads_of : List ℕ → List Touch
 reads_of places = map (λ at. Read at) places
 
--- what a walk in RAM of a size can end with
+-- what a walk in RAM of a size can end with: the entry of a page lies there
 abbrev pub IsEnd : ℕ → Walked → Type 0
-IsEnd limit (Page e level at) = (at + 4 ≤ limit) × (at / 4 * 4 ≡ at) × (level < 4)
-IsEnd limit (Fault kind level) = level < 4
+IsEnd limit (Page e level at) = (at + 4 ≤ limit) × (at / 4 * 4 ≡ at)
+IsEnd limit (Fault kind level) = Unit {0}
 
 -- what a translation can lead to: an address of 36 bits that keeps its place in its page of 4,096 bytes, or a fault
 abbrev pub IsTranslation : ℕ → Translated → Type 0
 IsTranslation va (At pa) = (pa % 4096 ≡ va % 4096) × (pa < 2 ^ 36)
-IsTranslation va (Refused kind level) = level ≤ 3
+IsTranslation va (Refused kind level) = Unit {0}
 
--- the same with the whole fault, which the registers can record
+-- the same with the whole fault, which is of that access
 abbrev pub IsAnswer : ℕ → AccessType → Result ℕ registers.Fault → Type 0
 IsAnswer va access_type (Ok pa) = (pa % 4096 ≡ va % 4096) × (pa < 2 ^ 36)
-IsAnswer va access_type (Err f) = (f.level ≤ 3) × (f.access_type ≡ access_type) × (f.address ≡ va)
+IsAnswer va access_type (Err f) = (f.access_type ≡ access_type) × (f.address ≡ va)
 
 -- w is the walk for a context and an address in that RAM, with the entries that it reads
 pub record IsWalk (limit : ℕ) (ram : List ℕ) (table_pointer context va : ℕ) (w : Walk) : Type 0 where

@@ -1,5 +1,6 @@
 pub mod AccessTypes
 pub mod FaultTypes
+pub mod TableLevels
 pub mod Registers
 pub mod Walk
 pub mod Translation

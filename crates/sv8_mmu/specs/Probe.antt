@@ -4,6 +4,7 @@ use Rattle.std.specs.Prelude.{ℕ, zero, suc, ◌+◌, ◌-◌, ◌*◌, ◌==�
 use Rattle.sv8_model.specs.Words.{field}
 use Rattle.sv8_model.specs.Action.{Action, done, ◌>>=◌}
 use Rattle.sv8_mmu.specs.declared.registers.Mmu.{Mmu}
+use Rattle.sv8_mmu.specs.declared.walk.TableIndex.{TableIndex}
 use Rattle.sv8_mmu.specs.declared.walk.Walked.{Walked}
 use Rattle.sv8_mmu.specs.declared.walk.Walked.TheVariants.{Page, Fault}
 use Rattle.sv8_mmu.specs.declared.probing.ProbeKind.{ProbeKind}
@@ -11,16 +12,16 @@ use Rattle.sv8_mmu.specs.declared.probing.ProbeKind.TheVariants as kind
 use Rattle.sv8_mmu.specs.Walk.{is_pointer, is_page_entry, table_of, entry_at, indices_of, root_of, walk}
 
 -- the entry at the level that is sought: the entry of a page, or above level 3 a pointer; else 0
-abbrev pub found : List ℕ → ℕ → ℕ
+abbrev pub found : List TableIndex → ℕ → ℕ
 found [] e = if is_page_entry e then e else 0
-found (index ∷ below) e = if is_pointer e || is_page_entry e then e else 0
+found (to ∷ below) e = if is_pointer e || is_page_entry e then e else 0
 
 -- what an entry leads to where the level that is sought is so many levels deeper, with the indices into the tables below
-unfoldable pub sought : ℕ → ℕ → List ℕ → ℕ → Action ℕ
+unfoldable pub sought : ℕ → ℕ → List TableIndex → ℕ → Action ℕ
 sought limit zero below e = done (found below e)
 sought limit (suc depth) [] e = done 0
-sought limit (suc depth) (index ∷ below) e =
-    if is_pointer e then entry_at limit (table_of e + 4 * index) 0 (sought limit depth below) else done 0
+sought limit (suc depth) (to ∷ below) e =
+    if is_pointer e then entry_at limit (table_of e + 4 * to.index) 0 (sought limit depth below) else done 0
 
 -- the entry of the page that a walk ends in, else 0
 abbrev pub page_or_zero : Walked → ℕ

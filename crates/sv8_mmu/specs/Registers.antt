@@ -5,6 +5,7 @@ use Rattle.sv8_mmu.specs.declared.registers.Mmu.{Mmu}
 use Rattle.sv8_mmu.specs.declared.registers.Fault.{Fault}
 use Rattle.sv8_mmu.specs.AccessTypes.{number_of}
 use Rattle.sv8_mmu.specs.FaultTypes.{fault_number}
+use Rattle.sv8_mmu.specs.TableLevels.{level_number}
 
 -- after reset: no translation, and nothing recorded
 abbrev pub registers_at_reset : Mmu
@@ -67,7 +68,7 @@ has_fault status = not (field status 4 2 == 0)
 
 -- the level of the table in 9:8, the access type in 7:5, the fault type in 4:2, FAV in 1, and OW in 0 where a fault stood there already
 unfoldable pub status_of : ℕ → Fault → ℕ
-status_of old f = f.level * 2 ^ 8 + number_of f.access_type * 2 ^ 5 + fault_number f.fault_type * 2 ^ 2 + 2 + (if has_fault old then 1 else 0)
+status_of old f = level_number f.level * 2 ^ 8 + number_of f.access_type * 2 ^ 5 + fault_number f.fault_type * 2 ^ 2 + 2 + (if has_fault old then 1 else 0)
 
 -- the fault status and the address at fault are recorded
 unfoldable pub recorded : Mmu → Fault → Mmu

@@ -8,6 +8,8 @@ use Rattle.sv8_mmu.specs.declared.access_type.AccessType.TheVariants.{UserLoad, 
 use Rattle.sv8_mmu.specs.declared.fault_type.FaultType.{FaultType}
 use Rattle.sv8_mmu.specs.declared.fault_type.FaultType.TheVariants as of
 use Rattle.sv8_mmu.specs.declared.registers.Mmu.{Mmu}
+use Rattle.sv8_mmu.specs.declared.table_level.TableLevel.{TableLevel}
+use Rattle.sv8_mmu.specs.declared.table_level.TableLevel.TheVariants.{Context}
 use Rattle.sv8_mmu.specs.declared.walk.Walked.{Walked}
 use Rattle.sv8_mmu.specs.declared.walk.Walked.TheVariants.{Page, Fault}
 use Rattle.sv8_mmu.specs.declared.translation.Reach.{Reach}
@@ -16,6 +18,7 @@ use Rattle.sv8_mmu.specs.declared.translation.Translated.{Translated}
 use Rattle.sv8_mmu.specs.declared.translation.Translated.TheVariants.{At, Refused}
 use Rattle.sv8_mmu.specs.AccessTypes.{is_store}
 use Rattle.sv8_mmu.specs.FaultTypes.{refused_by}
+use Rattle.sv8_mmu.specs.TableLevels.{page_size}
 use Rattle.sv8_mmu.specs.Registers.{translates}
 use Rattle.sv8_mmu.specs.Walk.{walk}
 
@@ -53,12 +56,8 @@ marked access_type e = if is_store access_type then with_bit (with_bit e 5) 6 el
 
 -- ---- physical addresses
 
--- the size of what an entry at a level maps: 4 GiB, 16 MiB, 256 KiB, 4 KiB
-abbrev pub page_size : ℕ → ℕ
-page_size level = if level == 0 then 2 ^ 32 else (if level == 1 then 2 ^ 24 else (if level == 2 then 2 ^ 18 else 2 ^ 12))
-
 -- bits 31:8 of the entry are bits 35:12 of the physical address, of which the virtual address replaces those inside the page
-unfoldable pub physical_address : ℕ → ℕ → ℕ → ℕ
+unfoldable pub physical_address : ℕ → TableLevel → ℕ → ℕ
 physical_address e level va = e / 2 ^ 8 * 2 ^ 12 / page_size level * page_size level + va % page_size level
 
 abbrev pub is_device : ℕ → Bool
@@ -76,12 +75,12 @@ is_served limit reach.RamOrDevices pa = nat_lt pa limit || is_device pa
 abbrev pub with_marks : AccessType → ℕ → ℕ → Translated → Action Translated
 with_marks access_type e at answer = if marked access_type e == e then done answer else store_word (at / 4) (marked access_type e) (done answer)
 
--- an access to what nothing serves is a fault of type 5, which has no level; one that is served leaves its marks
+-- an access to what nothing serves is a fault of type 5, which has no level (its number is 0); one that is served leaves its marks
 abbrev pub reached : ℕ → AccessType → Reach → ℕ → ℕ → ℕ → Action Translated
-reached limit access_type reach pa e at = if is_served limit reach pa then with_marks access_type e at (At pa) else done (Refused of.AccessBus 0)
+reached limit access_type reach pa e at = if is_served limit reach pa then with_marks access_type e at (At pa) else done (Refused of.AccessBus Context)
 
 -- a fault of the check, or what follows where there is none
-abbrev pub unless_refused : Option FaultType → ℕ → Action Translated → Action Translated
+abbrev pub unless_refused : Option FaultType → TableLevel → Action Translated → Action Translated
 unless_refused None level allowed = allowed
 unless_refused (Some kind) level allowed = done (Refused kind level)
 

@@ -10,6 +10,7 @@ ghost use Rattle.sv8_mmu.specs.Examples.{in_context, gives, touched, leaves, fet
 
 use crate::access_type::AccessType;
 use crate::fault_type::FaultType;
+use crate::table_level::TableLevel;
 use crate::translation::{Reach, Translated};
 use crate::walk::Walked;
 
@@ -24,35 +25,35 @@ use crate::walk::Walked;
 /// - `unread`: an entry outside RAM is not read.
 #[tactic(auto, unfolding(crate::specs::Walk::walk, crate::specs::Walk::below_pointer, sv8_model::specs::Words::field, sv8_model::specs::Outside::word_of))]
 pub fn worked_walks()
-    ensures page_0 { gives (walk 0x100 0 3 0x1234_5678) ≡ Walked.Page 0xe 0 0xc }
-    ensures page_1 { gives (walk 0x100 0 0 0x0312_3456) ≡ Walked.Page 0x1257_890e 1 0x4c }
-    ensures page_2 { gives (walk 0x100 0 0 0x000e_3456) ≡ Walked.Page 0x1257_890e 2 0x8c }
-    ensures page_3 { gives (walk 0x100 0 0 0x3456) ≡ Walked.Page 0x1257_890e 3 0xcc }
+    ensures page_0 { gives (walk 0x100 0 3 0x1234_5678) ≡ Walked.Page 0xe TableLevel.Context 0xc }
+    ensures page_1 { gives (walk 0x100 0 0 0x0312_3456) ≡ Walked.Page 0x1257_890e TableLevel.Level1 0x4c }
+    ensures page_2 { gives (walk 0x100 0 0 0x000e_3456) ≡ Walked.Page 0x1257_890e TableLevel.Level2 0x8c }
+    ensures page_3 { gives (walk 0x100 0 0 0x3456) ≡ Walked.Page 0x1257_890e TableLevel.Level3 0xcc }
     ensures reads { touched (walk 0x100 0 0 0x3456) ≡ Read 0 ∷ Read 0x40 ∷ Read 0x80 ∷ Read 0xcc ∷ [] }
     ensures reads_one { touched (walk 0x100 0 3 0x1234_5678) ≡ Read 0xc ∷ [] }
-    ensures invalid_0 { gives (walk 0x100 0 1 0) ≡ Walked.Fault FaultType.InvalidAddress 0 }
-    ensures invalid_1 { gives (walk 0x100 0 0 0x0100_0000) ≡ Walked.Fault FaultType.InvalidAddress 1 }
-    ensures invalid_2 { gives (walk 0x100 0 0 0x4_0000) ≡ Walked.Fault FaultType.InvalidAddress 2 }
-    ensures invalid_3 { gives (walk 0x100 0 0 0x1000) ≡ Walked.Fault FaultType.InvalidAddress 3 }
-    ensures reserved_0 { gives (walk 0x100 0 2 0) ≡ Walked.Fault FaultType.Translation 0 }
-    ensures reserved_1 { gives (walk 0x100 0 0 0x0200_0000) ≡ Walked.Fault FaultType.Translation 1 }
-    ensures reserved_2 { gives (walk 0x100 0 0 0x8_0000) ≡ Walked.Fault FaultType.Translation 2 }
-    ensures reserved_3 { gives (walk 0x100 0 0 0x2000) ≡ Walked.Fault FaultType.Translation 3 }
-    ensures pointer { gives (walk 0x100 0 0 0x4000) ≡ Walked.Fault FaultType.Translation 3 }
-    ensures outside_0 { gives (walk 0x100 0x10 0 0) ≡ Walked.Fault FaultType.Translation 0 }
-    ensures outside_1 { gives (walk 0x100 0 4 0) ≡ Walked.Fault FaultType.Translation 1 }
-    ensures outside_2 { gives (walk 0x100 0 0 0x0400_0000) ≡ Walked.Fault FaultType.Translation 2 }
-    ensures outside_3 { gives (walk 0x100 0 0 0x10_0000) ≡ Walked.Fault FaultType.Translation 3 }
+    ensures invalid_0 { gives (walk 0x100 0 1 0) ≡ Walked.Fault FaultType.InvalidAddress TableLevel.Context }
+    ensures invalid_1 { gives (walk 0x100 0 0 0x0100_0000) ≡ Walked.Fault FaultType.InvalidAddress TableLevel.Level1 }
+    ensures invalid_2 { gives (walk 0x100 0 0 0x4_0000) ≡ Walked.Fault FaultType.InvalidAddress TableLevel.Level2 }
+    ensures invalid_3 { gives (walk 0x100 0 0 0x1000) ≡ Walked.Fault FaultType.InvalidAddress TableLevel.Level3 }
+    ensures reserved_0 { gives (walk 0x100 0 2 0) ≡ Walked.Fault FaultType.Translation TableLevel.Context }
+    ensures reserved_1 { gives (walk 0x100 0 0 0x0200_0000) ≡ Walked.Fault FaultType.Translation TableLevel.Level1 }
+    ensures reserved_2 { gives (walk 0x100 0 0 0x8_0000) ≡ Walked.Fault FaultType.Translation TableLevel.Level2 }
+    ensures reserved_3 { gives (walk 0x100 0 0 0x2000) ≡ Walked.Fault FaultType.Translation TableLevel.Level3 }
+    ensures pointer { gives (walk 0x100 0 0 0x4000) ≡ Walked.Fault FaultType.Translation TableLevel.Level3 }
+    ensures outside_0 { gives (walk 0x100 0x10 0 0) ≡ Walked.Fault FaultType.Translation TableLevel.Context }
+    ensures outside_1 { gives (walk 0x100 0 4 0) ≡ Walked.Fault FaultType.Translation TableLevel.Level1 }
+    ensures outside_2 { gives (walk 0x100 0 0 0x0400_0000) ≡ Walked.Fault FaultType.Translation TableLevel.Level2 }
+    ensures outside_3 { gives (walk 0x100 0 0 0x10_0000) ≡ Walked.Fault FaultType.Translation TableLevel.Level3 }
     ensures unread { touched (walk 0x100 0 4 0) ≡ Read 0x10 ∷ [] }
 {}
 
 /// The physical addresses to which an entry with page 125789 leads at each level (the numbers are hexadecimal).
 #[tactic(auto, unfolding(crate::specs::Translation::physical_address))]
 pub fn worked_addresses()
-    ensures level_0 { physical_address 0x1257_890e 0 0x1234_5678 ≡ 0x1_1234_5678 }
-    ensures level_1 { physical_address 0x1257_890e 1 0x0312_3456 ≡ 0x1_2512_3456 }
-    ensures level_2 { physical_address 0x1257_890e 2 0x000e_3456 ≡ 0x1_257a_3456 }
-    ensures level_3 { physical_address 0x1257_890e 3 0x3456 ≡ 0x1_2578_9456 }
+    ensures level_0 { physical_address 0x1257_890e TableLevel.Context 0x1234_5678 ≡ 0x1_1234_5678 }
+    ensures level_1 { physical_address 0x1257_890e TableLevel.Level1 0x0312_3456 ≡ 0x1_2512_3456 }
+    ensures level_2 { physical_address 0x1257_890e TableLevel.Level2 0x000e_3456 ≡ 0x1_257a_3456 }
+    ensures level_3 { physical_address 0x1257_890e TableLevel.Level3 0x3456 ≡ 0x1_2578_9456 }
 {}
 
 /// Translations by these tables (the numbers are hexadecimal).
@@ -81,10 +82,10 @@ pub fn worked_translations()
     ensures gains_m { leaves (translate 0x100 (in_context 0) 0xd010 AccessType.UserStore Reach.Ram) 0x3d ≡ 0x6e }
     ensures large { gives (translate 0x100 (in_context 3) 0xfc AccessType.UserFetch Reach.Ram) ≡ Translated.At 0xfc }
     ensures device { gives (translate 0x100 (in_context 0) 0xc008 AccessType.SupervisorStore Reach.RamOrDevices) ≡ Translated.At 0x8000_0008 }
-    ensures no_device { gives (translate 0x100 (in_context 0) 0xc008 AccessType.UserFetch Reach.Ram) ≡ Translated.Refused FaultType.AccessBus 0 }
-    ensures nothing { gives (translate 0x100 (in_context 0) 0x3456 AccessType.UserLoad Reach.RamOrDevices) ≡ Translated.Refused FaultType.AccessBus 0 }
+    ensures no_device { gives (translate 0x100 (in_context 0) 0xc008 AccessType.UserFetch Reach.Ram) ≡ Translated.Refused FaultType.AccessBus TableLevel.Context }
+    ensures nothing { gives (translate 0x100 (in_context 0) 0x3456 AccessType.UserLoad Reach.RamOrDevices) ≡ Translated.Refused FaultType.AccessBus TableLevel.Context }
     ensures unmarked { leaves (translate 0x100 (in_context 0) 0x3456 AccessType.UserStore Reach.Ram) 0x33 ≡ 0x1257_890e }
-    ensures invalid { gives (translate 0x100 (in_context 0) 0x1000 AccessType.UserStore Reach.Ram) ≡ Translated.Refused FaultType.InvalidAddress 3 }
+    ensures invalid { gives (translate 0x100 (in_context 0) 0x1000 AccessType.UserStore Reach.Ram) ≡ Translated.Refused FaultType.InvalidAddress TableLevel.Level3 }
 {}
 
 /// Accesses that the field ACC of an entry allows or refuses, at pages of level 3: a fault of type 2 is of protection, one of
@@ -98,19 +99,19 @@ pub fn worked_translations()
 /// - `supervisor_reads`: ACC 6 allows a supervisor's load, and `not_users` refuses a user's.
 /// - `supervisor_all`: ACC 7 allows a store to a supervisor's instructions, and `not_users_fetch` refuses a user's fetch.
 pub fn worked_permissions()
-    ensures read_only { gives (translate 0x100 (in_context 0) 0x5000 AccessType.SupervisorStore Reach.Ram) ≡ Translated.Refused FaultType.Protection 3 }
-    ensures read_only_fetch { gives (translate 0x100 (in_context 0) 0x5000 AccessType.SupervisorFetch Reach.Ram) ≡ Translated.Refused FaultType.Protection 3 }
-    ensures no_fetch { gives (translate 0x100 (in_context 0) 0x6000 AccessType.UserFetch Reach.Ram) ≡ Translated.Refused FaultType.Protection 3 }
+    ensures read_only { gives (translate 0x100 (in_context 0) 0x5000 AccessType.SupervisorStore Reach.Ram) ≡ Translated.Refused FaultType.Protection TableLevel.Level3 }
+    ensures read_only_fetch { gives (translate 0x100 (in_context 0) 0x5000 AccessType.SupervisorFetch Reach.Ram) ≡ Translated.Refused FaultType.Protection TableLevel.Level3 }
+    ensures no_fetch { gives (translate 0x100 (in_context 0) 0x6000 AccessType.UserFetch Reach.Ram) ≡ Translated.Refused FaultType.Protection TableLevel.Level3 }
     ensures written { gives (translate 0x100 (in_context 0) 0x6000 AccessType.UserStore Reach.Ram) ≡ Translated.At 0 }
-    ensures no_store { gives (translate 0x100 (in_context 0) 0x7000 AccessType.UserStore Reach.Ram) ≡ Translated.Refused FaultType.Protection 3 }
-    ensures fetch_only { gives (translate 0x100 (in_context 0) 0x8000 AccessType.SupervisorLoad Reach.Ram) ≡ Translated.Refused FaultType.Protection 3 }
+    ensures no_store { gives (translate 0x100 (in_context 0) 0x7000 AccessType.UserStore Reach.Ram) ≡ Translated.Refused FaultType.Protection TableLevel.Level3 }
+    ensures fetch_only { gives (translate 0x100 (in_context 0) 0x8000 AccessType.SupervisorLoad Reach.Ram) ≡ Translated.Refused FaultType.Protection TableLevel.Level3 }
     ensures fetched { gives (translate 0x100 (in_context 0) 0x8000 AccessType.UserFetch Reach.Ram) ≡ Translated.At 0 }
-    ensures user_reads { gives (translate 0x100 (in_context 0) 0x9000 AccessType.UserStore Reach.Ram) ≡ Translated.Refused FaultType.Protection 3 }
+    ensures user_reads { gives (translate 0x100 (in_context 0) 0x9000 AccessType.UserStore Reach.Ram) ≡ Translated.Refused FaultType.Protection TableLevel.Level3 }
     ensures supervisor_writes { gives (translate 0x100 (in_context 0) 0x9000 AccessType.SupervisorStore Reach.Ram) ≡ Translated.At 0 }
     ensures supervisor_reads { gives (translate 0x100 (in_context 0) 0xa000 AccessType.SupervisorLoad Reach.Ram) ≡ Translated.At 0 }
-    ensures not_users { gives (translate 0x100 (in_context 0) 0xa000 AccessType.UserLoad Reach.Ram) ≡ Translated.Refused FaultType.Privilege 3 }
+    ensures not_users { gives (translate 0x100 (in_context 0) 0xa000 AccessType.UserLoad Reach.Ram) ≡ Translated.Refused FaultType.Privilege TableLevel.Level3 }
     ensures supervisor_all { gives (translate 0x100 (in_context 0) 0xb000 AccessType.SupervisorInstructionStore Reach.Ram) ≡ Translated.At 0 }
-    ensures not_users_fetch { gives (translate 0x100 (in_context 0) 0xb000 AccessType.UserFetch Reach.Ram) ≡ Translated.Refused FaultType.Privilege 3 }
+    ensures not_users_fetch { gives (translate 0x100 (in_context 0) 0xb000 AccessType.UserFetch Reach.Ram) ≡ Translated.Refused FaultType.Privilege TableLevel.Level3 }
 {}
 
 /// Probes of these tables (the numbers are hexadecimal).
@@ -159,13 +160,13 @@ pub fn worked_probes()
 /// - `status`, `address`: both registers are recorded.
 #[tactic(auto, unfolding(crate::specs::Registers::status_of, crate::specs::Registers::recorded, sv8_model::specs::Words::field))]
 pub fn worked_faults()
-    ensures level_3 { status_of 0 (fetch_fault FaultType.Translation 3) ≡ 0x372 }
-    ensures level_0 { status_of 0 (fetch_fault FaultType.Translation 0) ≡ 0x72 }
-    ensures no_level { status_of 0 (fetch_fault FaultType.AccessBus 0) ≡ 0x76 }
-    ensures overwritten { status_of 0x372 (fetch_fault FaultType.AccessBus 0) ≡ 0x77 }
-    ensures over_none { status_of 0x362 (fetch_fault FaultType.AccessBus 0) ≡ 0x76 }
-    ensures status { (recorded registers_at_reset (fetch_fault FaultType.Translation 3)).fault_status ≡ 0x372 }
-    ensures address { (recorded registers_at_reset (fetch_fault FaultType.Translation 3)).fault_address ≡ 0x10 }
+    ensures level_3 { status_of 0 (fetch_fault FaultType.Translation TableLevel.Level3) ≡ 0x372 }
+    ensures level_0 { status_of 0 (fetch_fault FaultType.Translation TableLevel.Context) ≡ 0x72 }
+    ensures no_level { status_of 0 (fetch_fault FaultType.AccessBus TableLevel.Context) ≡ 0x76 }
+    ensures overwritten { status_of 0x372 (fetch_fault FaultType.AccessBus TableLevel.Context) ≡ 0x77 }
+    ensures over_none { status_of 0x362 (fetch_fault FaultType.AccessBus TableLevel.Context) ≡ 0x76 }
+    ensures status { (recorded registers_at_reset (fetch_fault FaultType.Translation TableLevel.Level3)).fault_status ≡ 0x372 }
+    ensures address { (recorded registers_at_reset (fetch_fault FaultType.Translation TableLevel.Level3)).fault_address ≡ 0x10 }
 {}
 
 /// Registers by their addresses (the numbers are hexadecimal).
@@ -183,9 +184,9 @@ pub fn worked_registers()
     ensures fault_status { after_write registers_at_reset 0x300 0xffff_ffff ≡ registers_at_reset }
     ensures fault_address { after_write registers_at_reset 0x400 0xffff_ffff ≡ registers_at_reset }
     ensures read_pointer { register_at (after_write registers_at_reset 0x100 0x13) 0x100 ≡ Some 0x10 }
-    ensures read_status { register_at (recorded registers_at_reset (fetch_fault FaultType.Translation 3)) 0x300 ≡ Some 0x372 }
-    ensures read_address { register_at (recorded registers_at_reset (fetch_fault FaultType.Translation 3)) 0x400 ≡ Some 0x10 }
-    ensures cleared { (after_read (recorded registers_at_reset (fetch_fault FaultType.Translation 3)) 0x300).fault_status ≡ 0 }
-    ensures kept { (after_read (recorded registers_at_reset (fetch_fault FaultType.Translation 3)) 0x300).fault_address ≡ 0x10 }
+    ensures read_status { register_at (recorded registers_at_reset (fetch_fault FaultType.Translation TableLevel.Level3)) 0x300 ≡ Some 0x372 }
+    ensures read_address { register_at (recorded registers_at_reset (fetch_fault FaultType.Translation TableLevel.Level3)) 0x400 ≡ Some 0x10 }
+    ensures cleared { (after_read (recorded registers_at_reset (fetch_fault FaultType.Translation TableLevel.Level3)) 0x300).fault_status ≡ 0 }
+    ensures kept { (after_read (recorded registers_at_reset (fetch_fault FaultType.Translation TableLevel.Level3)) 0x300).fault_address ≡ 0x10 }
     ensures none { register_at registers_at_reset 0x104 ≡ None }
 {}

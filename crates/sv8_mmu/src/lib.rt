@@ -8,6 +8,7 @@ mod faulting;
 pub mod laws;
 mod probing;
 mod registers;
+mod table_level;
 #[cfg(test)]
 mod tests;
 mod translation;
@@ -19,4 +20,5 @@ pub use fault_type::FaultType;
 pub use faulting::translate;
 pub use probing::{ProbeKind, probe, probe_by_address};
 pub use registers::{Fault, Mmu};
+pub use table_level::TableLevel;
 pub use translation::{Reach, Translated, VirtualAccess, resolve};

@@ -11,7 +11,7 @@ ghost use Rattle.sv8_mmu.specs.Kept.{places_of, reads_of};
 
 use crate::registers::Mmu;
 use crate::translation::note_reads;
-use crate::walk::{Trail, Walked, entry_at, indices_of, table_of, walk_for};
+use crate::walk::{TableIndex, Trail, Walked, entry_at, indices_of, table_of, walk_for};
 use std::alloc::AllocError;
 use sv8_phys::{Phys, Touches};
 
@@ -31,7 +31,7 @@ pub enum ProbeKind {
 }
 
 /// The entry at the level that is sought, or 0, with the indices into the tables below.
-fn found(below: &[u32], entry: u32) -> u32
+fn found(below: &[TableIndex], entry: u32) -> u32
     ensures { result ≡ found below.now entry }
 {
     match below {
@@ -49,7 +49,7 @@ fn found(below: &[u32], entry: u32) -> u32
 fn sought<const PAGES: usize>(
     phys: &Phys<PAGES>,
     depth: u32,
-    below: &[u32],
+    below: &[TableIndex],
     entry: u32,
     trail: &mut Trail,
 ) -> u32
@@ -62,11 +62,11 @@ fn sought<const PAGES: usize>(
     }
     match below {
         [] => 0,
-        [index, after @ ..] => {
+        [to, after @ ..] => {
             if entry % 4 != 1 {
                 return 0;
             }
-            match entry_at(phys, table_of(entry) + 4 * (*index as u64), trail) {
+            match entry_at(phys, table_of(entry) + 4 * (to.index as u64), trail) {
                 None => 0,
                 Some(next) => sought(phys, depth - 1, after, next, trail),
             }

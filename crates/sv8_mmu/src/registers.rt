@@ -1,10 +1,11 @@
 //! The registers of the memory management unit, and the faults that they record.
 
-ghost use Rattle.std.specs.Prelude.{◌≡◌, ◌≢◌, ◌≤◌, false, None};
+ghost use Rattle.std.specs.Prelude.{◌≡◌, ◌≢◌, false, None};
 ghost use Rattle.sv8_mmu.specs.Registers.{registers_at_reset, translates, has_no_fault, table_pointer_address, register_at, after_read, is_register, after_write, has_fault, status_of, recorded};
 
 use crate::access_type::AccessType;
 use crate::fault_type::FaultType;
+use crate::table_level::TableLevel;
 
 /// The registers of the reference memory management unit.
 #[derive(Clone, Copy, PartialEq, Eq, Debug)]
@@ -24,8 +25,8 @@ pub struct Mmu {
 /// A fault of an access, as the fault status and fault address registers tell it.
 #[derive(Clone, Copy, PartialEq, Eq, Debug)]
 pub struct Fault {
-    /// The level of the table entry at fault, 0 to 3; 0 where nothing serves the physical address.
-    pub level: u8,
+    /// The level of the table entry at fault; `Context`, whose number is 0, where nothing serves the physical address.
+    pub level: TableLevel,
     /// The access type.
     pub access_type: AccessType,
     /// The fault type.
@@ -56,10 +57,9 @@ fn has_fault(status: u32) -> bool
 /// The fault status of a fault over the status before it.
 #[tactic(auto, unfolding(crate::specs::Registers::status_of))]
 fn status_of(old: u32, fault: Fault) -> u32
-    requires level { fault.level ≤ 3 }
     ensures { result ≡ status_of old fault }
 {
-    let valid = u32::from(fault.level) * 0x100
+    let valid = u32::from(fault.level.number()) * 0x100
         + u32::from(fault.access_type.number()) * 0x20
         + u32::from(fault.fault_type.number()) * 4
         + 2;
@@ -139,7 +139,6 @@ impl Mmu {
     /// Records a fault.
     #[tactic(auto, unfolding(crate::specs::Registers::recorded))]
     pub fn record(&mut self, fault: Fault)
-        requires level { fault.level ≤ 3 }
         ensures { self.new ≡ recorded self.old fault }
     {
         self.fault_status = status_of(self.fault_status, fault);

@@ -203,7 +203,7 @@ fn stores_count(
     let at = Ok(0x1010);
     let first = answers(buffer, memory, 0, AccessType::UserLoad, at, &MARKED, told)?;
     let none = Fault {
-        level: 0,
+        level: TableLevel::Context,
         access_type: AccessType::UserLoad,
         fault_type: FaultType::InvalidAddress,
         address: 0x3010,

@@ -16,6 +16,7 @@ use crate::access_type::AccessType;
 use crate::buffer::{Buffer, Key, Purpose};
 use crate::fault_type::FaultType;
 use crate::registers::Mmu;
+use crate::table_level::TableLevel;
 use crate::walk::{Trail, Walk, Walked, walk_for};
 use std::alloc::AllocError;
 use sv8_model::Touch;
@@ -40,11 +41,11 @@ pub struct VirtualAccess {
     pub reach: Reach,
 }
 
-/// What a translation leads to: a physical address of 36 bits, or a fault of a type and a level (0 to 3).
+/// What a translation leads to: a physical address of 36 bits, or a fault of a type and a level.
 #[derive(Clone, Copy, PartialEq, Eq, Debug)]
 pub enum Translated {
     At(u64),
-    Refused { kind: FaultType, level: u8 },
+    Refused { kind: FaultType, level: TableLevel },
 }
 
 /// The fault types of an access type, for each value of ACC.
@@ -129,7 +130,7 @@ fn marked(access_type: AccessType, entry: u32) -> u32
 /// The physical address: bits 35:12 are those of the entry, but for the bits inside the page.
 #[inline(always)]
 #[tactic(auto, unfolding(crate::specs::Translation::physical_address))]
-fn physical_address(entry: u32, level: u8, va: u32) -> u64
+fn physical_address(entry: u32, level: TableLevel, va: u32) -> u64
     ensures value { result ≡ physical_address entry level va }
     ensures offset { result % 4096 ≡ va % 4096 }
     ensures small { result < 2 ^ 36 }
@@ -137,10 +138,10 @@ fn physical_address(entry: u32, level: u8, va: u32) -> u64
     let page = entry as u64 / 0x100 * 0x1000;
     let inside = va as u64;
     match level {
-        0 => page / 0x1_0000_0000 * 0x1_0000_0000 + inside % 0x1_0000_0000,
-        1 => page / 0x100_0000 * 0x100_0000 + inside % 0x100_0000,
-        2 => page / 0x4_0000 * 0x4_0000 + inside % 0x4_0000,
-        _ => page / 0x1000 * 0x1000 + inside % 0x1000,
+        TableLevel::Context => page / 0x1_0000_0000 * 0x1_0000_0000 + inside % 0x1_0000_0000,
+        TableLevel::Level1 => page / 0x100_0000 * 0x100_0000 + inside % 0x100_0000,
+        TableLevel::Level2 => page / 0x4_0000 * 0x4_0000 + inside % 0x4_0000,
+        TableLevel::Level3 => page / 0x1000 * 0x1000 + inside % 0x1000,
     }
 }
 
@@ -218,7 +219,7 @@ fn store_marks<const PAGES: usize, T: Touches>(
     key: Key,
     trail: Trail,
     old: u32,
-    level: u8,
+    level: TableLevel,
     at: u32,
     entry: u32,
     notes: &mut T,
@@ -269,8 +270,10 @@ fn settle<const PAGES: usize, T: Touches>(
             }
             let pa = physical_address(entry, level, access.address);
             if !is_served(phys, access.reach, pa) {
-                let kind = FaultType::AccessBus;
-                return Ok(Translated::Refused { kind, level: 0 });
+                return Ok(Translated::Refused {
+                    kind: FaultType::AccessBus,
+                    level: TableLevel::Context,
+                });
             }
             let now = marked(access.access_type, entry);
             if now != entry {

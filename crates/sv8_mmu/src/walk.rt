@@ -8,13 +8,28 @@ ghost use Rattle.sv8_mmu.specs.Walk.{table_of, indices_of, root_of, met, looked_
 ghost use Rattle.sv8_mmu.specs.Kept.{places_of, reads_of, IsEnd, IsWalk};
 
 use crate::fault_type::FaultType;
+use crate::table_level::TableLevel;
 use sv8_phys::Phys;
 
 /// The end of a walk: the entry of a page with its level and its address, or a fault.
 #[derive(Clone, Copy)]
 pub enum Walked {
-    Page { entry: u32, level: u8, at: u32 },
-    Fault { kind: FaultType, level: u8 },
+    Page {
+        entry: u32,
+        level: TableLevel,
+        at: u32,
+    },
+    Fault {
+        kind: FaultType,
+        level: TableLevel,
+    },
+}
+
+/// An index into a table of a level.
+#[derive(Clone, Copy)]
+pub struct TableIndex {
+    pub level: TableLevel,
+    pub index: u32,
 }
 
 /// The addresses of the entries that a walk read, the first `count` of these.
@@ -65,13 +80,22 @@ pub fn table_of(word: u32) -> u64
 
 /// The indices into the tables of levels 1, 2 and 3.
 #[tactic(auto, unfolding(sv8_model::specs::Words::field))]
-pub fn indices_of(va: u32) -> [u32; 3]
+pub fn indices_of(va: u32) -> [TableIndex; 3]
     ensures { result ≡ indices_of va }
 {
     [
-        va / 0x100_0000 % 0x100,
-        va / 0x4_0000 % 0x40,
-        va / 0x1000 % 0x40,
+        TableIndex {
+            level: TableLevel::Level1,
+            index: va / 0x100_0000 % 0x100,
+        },
+        TableIndex {
+            level: TableLevel::Level2,
+            index: va / 0x4_0000 % 0x40,
+        },
+        TableIndex {
+            level: TableLevel::Level3,
+            index: va / 0x1000 % 0x40,
+        },
     ]
 }
 
@@ -99,12 +123,11 @@ pub fn entry_at<const PAGES: usize>(phys: &Phys<PAGES>, at: u64, trail: &mut Tra
 #[tactic(auto, unfolding(crate::specs::Walk::below_pointer))]
 fn below_pointer<const PAGES: usize>(
     phys: &Phys<PAGES>,
-    level: u8,
-    below: &[u32],
+    level: TableLevel,
+    below: &[TableIndex],
     entry: u32,
     trail: &mut Trail,
 ) -> Walked
-    requires levels { level + length below.now ≤ 3 }
     requires room { trail.old.count + length below.now ≤ 4 }
     ensures end { IsEnd (ram_size PAGES) result }
     ensures walk { (o : Outside) → Does (keeping true true) (below_pointer (ram_size PAGES) level below.now entry)
@@ -115,11 +138,11 @@ fn below_pointer<const PAGES: usize>(
             kind: FaultType::Translation,
             level,
         },
-        [index, after @ ..] => look_up(
+        [to, after @ ..] => look_up(
             phys,
-            level + 1,
+            to.level,
             after,
-            table_of(entry) + 4 * (*index as u64),
+            table_of(entry) + 4 * (to.index as u64),
             trail,
         ),
     }
@@ -129,13 +152,12 @@ fn below_pointer<const PAGES: usize>(
 #[cycle(levels)]
 fn look_up<const PAGES: usize>(
     phys: &Phys<PAGES>,
-    level: u8,
-    below: &[u32],
+    level: TableLevel,
+    below: &[TableIndex],
     at: u64,
     trail: &mut Trail,
 ) -> Walked
     requires aligned { at % 4 ≡ 0 }
-    requires levels { level + length below.now ≤ 3 }
     requires room { trail.old.count + length below.now ≤ 3 }
     ensures end { IsEnd (ram_size PAGES) result }
     ensures walk { (o : Outside) → Does (keeping true true) (looked_up (ram_size PAGES) level at (below_pointer (ram_size PAGES) level below.now))
@@ -178,6 +200,6 @@ pub fn walk_for<const PAGES: usize>(
     let mut trail = Trail::new();
     let indices = indices_of(va);
     let root = table_of(table_pointer) + 4 * (context as u64);
-    let end = look_up(phys, 0, &indices, root, &mut trail);
+    let end = look_up(phys, TableLevel::Context, &indices, root, &mut trail);
     Walk { trail, end }
 }

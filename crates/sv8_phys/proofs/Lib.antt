@@ -9,6 +9,7 @@ pub mod ToldLaws
 pub mod PendingWord
 pub mod PendingLevels
 pub mod ChunkLemmas
+pub mod PieceLemmas
 pub mod Access
 pub mod Arrivals
 pub mod Calls

@@ -18,7 +18,11 @@ abbrev pub output_bytes : List (Rc Chunk Global) → Option Tail → List ℕ
 output_bytes chunks None = chunk_bytes chunks
 output_bytes chunks (Some tail) = chunk_bytes chunks ++ tail_bytes tail
 
--- no more bytes are put out of the tail than it has
+-- a tail has at least one byte, and at most as many as its chunk has room for
+abbrev pub IsFilled : Tail → Type 0
+IsFilled tail = (1 ≤ tail.count) × (tail.count ≤ 4096)
+
+-- the same of the tail, if there is one
 abbrev pub IsWithin : Option Tail → Type 0
 IsWithin None = Unit {0}
-IsWithin (Some tail) = tail.count ≤ 4096
+IsWithin (Some tail) = IsFilled tail

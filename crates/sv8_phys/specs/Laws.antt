@@ -1,5 +1,5 @@
--- What is told of a step has the footprint of what was noted; and what the bits of a word of levels say.
-use Rattle.std.specs.Prelude.{◌≡◌, ℕ, Bool, false, List, slice_index_or}
+-- What is told of a step has the footprint of what was noted; what the bits of a word of levels say; and the pieces of the output.
+use Rattle.std.specs.Prelude.{◌≡◌, ℕ, Bool, false, List, length, slice_index_or, None}
 use Rattle.sv8_model.specs.declared.touch.Touch.{Touch}
 use Rattle.sv8_model.specs.Words.{bit}
 use Rattle.sv8_model.specs.Levels.{levels_word}
@@ -7,6 +7,7 @@ use Rattle.sv8_model.specs.Cells.{Cell, is_read, is_written}
 use Rattle.sv8_model.specs.Footprint.{is_write_of, writes_word}
 use Rattle.std.specs.List.{list_any}
 use Rattle.sv8_phys.specs.Notes.{told}
+use Rattle.sv8_phys.specs.Pieces.{piece_of, pieces_below}
 
 -- every cell is read, and written, by what is told exactly as by what was noted
 pub record FootprintIsTold : Type 0 where
@@ -20,3 +21,8 @@ WritesAreUnread = (ts : List Touch) (address : ℕ) → list_any (is_write_of ad
 -- the word of pending levels has the bit of each level set exactly where that level is pending
 abbrev pub BitsArePending : Type 0
 BitsArePending = (pending : List Bool) (l : ℕ) → bit (levels_word pending) l ≡ slice_index_or pending l false
+
+-- the pieces up to one that is not there, one after the other, are all the bytes; and there is one that is not there
+pub record PiecesAreTheOutput : Type 0 where
+  pub whole : (bytes : List ℕ) (index : ℕ) → piece_of bytes index ≡ None → pieces_below index bytes ≡ bytes
+  pub ends : (bytes : List ℕ) → piece_of bytes (length bytes) ≡ None

@@ -2,6 +2,7 @@ pub mod Bytes
 pub mod Memory
 pub mod Pages
 pub mod Chunks
+pub mod Pieces
 pub mod Pending
 pub mod Contents
 pub mod Devices

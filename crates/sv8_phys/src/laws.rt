@@ -5,7 +5,7 @@ ghost use Rattle.sv8_model.specs.declared.touch.Touch.TheVariants.{Read, Write, 
 ghost use Rattle.sv8_model.specs.Action.{result_of, after, touches};
 ghost use Rattle.sv8_model.specs.Levels.{asked, cleared, levels_word};
 ghost use Rattle.sv8_phys.specs.Devices.{tick, load, store, no_answer};
-ghost use Rattle.sv8_phys.specs.Laws.{FootprintIsTold, WritesAreUnread, BitsArePending};
+ghost use Rattle.sv8_phys.specs.Laws.{FootprintIsTold, WritesAreUnread, BitsArePending, PiecesAreTheOutput};
 ghost use Rattle.sv8_phys.specs.Examples.{small, timer};
 ghost use Rattle.sv8_phys.specs.Notes.{told};
 
@@ -24,6 +24,11 @@ pub fn writes_are_unread()
 /// The word of pending levels has bit l set exactly where level l is pending.
 pub fn bits_are_pending()
     ensures { BitsArePending }
+{}
+
+/// The pieces of the output, one after the other up to the first that is not there, are the output, and there is such a first.
+pub fn pieces_are_the_output()
+    ensures { PiecesAreTheOutput }
 {}
 
 /// The timer, the levels and what is told of a step, on numbers worked out by hand.

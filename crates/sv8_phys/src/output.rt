@@ -1,7 +1,8 @@
 //! The bytes that the console has put out.
 
-ghost use Rattle.std.specs.Prelude.{◌≡◌, ℕ, ◌+◌, ◌<◌, ◌≤◌, List, [], ◌∷◌, ◌++◌, IfOk, OnOk, OnErr};
-ghost use Rattle.sv8_phys.specs.Chunks.{chunk_bytes, tail_bytes, output_bytes};
+ghost use Rattle.std.specs.Prelude.{◌≡◌, ℕ, ◌+◌, ◌<◌, ◌≤◌, List, [], ◌∷◌, ◌++◌, option_map, IfOk, OnOk, OnErr};
+ghost use Rattle.sv8_phys.specs.Chunks.{chunk_bytes, tail_bytes, output_bytes, IsFilled};
+ghost use Rattle.sv8_phys.specs.Pieces.{piece_of};
 
 use crate::chunk::{CHUNK_BYTES, Chunk, write};
 use std::alloc::{AllocError, Global};
@@ -43,7 +44,7 @@ impl Model for Output {
 #[tactic(auto, using(crate::proofs::ChunkLemmas::first_byte))]
 fn tail_of(alloc: Global, byte: u8) -> Result<Tail, AllocError>
     ensures value { IfOk result (λ tail. tail_bytes tail ≡ byte ∷ []) }
-    ensures count { IfOk result (λ tail. tail.count ≤ 4096) }
+    ensures count { IfOk result IsFilled }
 {
     let chunk = Chunk::starting_with(alloc, byte)?;
     Ok(Tail { chunk, count: 1 })
@@ -51,10 +52,11 @@ fn tail_of(alloc: Global, byte: u8) -> Result<Tail, AllocError>
 
 /// Puts a byte into a tail that has room for it.
 fn put(tail: &mut Tail, byte: u8) -> Result<(), AllocError>
-    requires { tail.old.count < 4096 }
+    requires filled { IsFilled tail.old }
+    requires room { tail.old.count < 4096 }
     ensures ok { OnOk result (tail_bytes tail.new ≡ tail_bytes tail.old ++ byte ∷ []) }
     ensures err { OnErr result (tail_bytes tail.new ≡ tail_bytes tail.old) }
-    ensures count { tail.new.count ≤ 4096 }
+    ensures count { IsFilled tail.new }
 {
     write(&mut tail.chunk, tail.count, byte)?;
     tail.count += 1;
@@ -81,7 +83,7 @@ fn put_in_next(
     requires { tail.old.count ≡ 4096 }
     ensures ok { OnOk result (chunk_bytes full.new.value.items ++ tail_bytes tail.new ≡ chunk_bytes full.old.value.items ++ tail_bytes tail.old ++ byte ∷ []) }
     ensures err { OnErr result (chunk_bytes full.new.value.items ++ tail_bytes tail.new ≡ chunk_bytes full.old.value.items ++ tail_bytes tail.old) }
-    ensures count { tail.new.count ≤ 4096 }
+    ensures count { IsFilled tail.new }
 {
     let next = tail_of(alloc, byte)?;
     add(full, tail.chunk.clone()?)?;
@@ -96,10 +98,10 @@ fn put_behind(
     alloc: Global,
     byte: u8,
 ) -> Result<(), AllocError>
-    requires { tail.old.count ≤ 4096 }
+    requires { IsFilled tail.old }
     ensures ok { OnOk result (chunk_bytes full.new.value.items ++ tail_bytes tail.new ≡ chunk_bytes full.old.value.items ++ tail_bytes tail.old ++ byte ∷ []) }
     ensures err { OnErr result (chunk_bytes full.new.value.items ++ tail_bytes tail.new ≡ chunk_bytes full.old.value.items ++ tail_bytes tail.old) }
-    ensures count { tail.new.count ≤ 4096 }
+    ensures count { IsFilled tail.new }
 {
     if tail.count < CHUNK_BYTES {
         put(tail, byte)?;
@@ -131,14 +133,13 @@ fn copy_full(full: &[Rc<Chunk>], bytes: &mut Vec<u8>) -> Result<(), AllocError>
     Ok(())
 }
 
-/// Copies the bytes of a tail behind some bytes.
-fn copy_tail(tail: &Tail, bytes: &mut Vec<u8>) -> Result<(), AllocError>
+/// The bytes of a tail.
+fn filled(tail: &Tail) -> &[u8]
     requires { tail.now.count ≤ 4096 }
-    ensures { OnOk result (bytes.new.items ≡ bytes.old.items ++ tail_bytes tail.now) }
+    ensures { result.now ≡ tail_bytes tail.now }
 {
     let (filled, _) = tail.chunk.bytes.split_at(tail.count);
-    bytes.extend_from_slice(filled)?;
-    Ok(())
+    filled
 }
 
 impl Output {
@@ -207,8 +208,21 @@ impl Output {
         let mut bytes = Vec::new(alloc);
         copy_full(&self.full, &mut bytes)?;
         if let Some(tail) = &self.tail {
-            copy_tail(tail, &mut bytes)?;
+            bytes.extend_from_slice(filled(tail))?;
         }
         Ok(bytes)
+    }
+
+    /// The bytes from 4,096 * `index` on, at most 4,096 of them; `None` where there are none. It takes no memory.
+    pub(crate) fn piece(&self, index: usize) -> Option<&[u8]>
+        ensures { option_map (λ s. s.now) result ≡ piece_of self.now index }
+    {
+        if let Some(chunk) = self.full.get(index) {
+            return Some(&chunk.bytes);
+        }
+        match &self.tail {
+            Some(tail) if index == self.full.len() => Some(filled(tail)),
+            _ => None,
+        }
     }
 }

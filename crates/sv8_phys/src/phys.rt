@@ -1,11 +1,12 @@
 //! Physical memory and the devices.
 
-ghost use Rattle.std.specs.Prelude.{◌≡◌, ℕ, ◌/◌, ◌%◌, ◌≤◌, ◌<◌, true, false, slice_index_or, slice_set, nat_lt, IfOk, OnOk, OnErr};
+ghost use Rattle.std.specs.Prelude.{◌≡◌, ℕ, ◌/◌, ◌%◌, ◌≤◌, ◌<◌, true, false, slice_index_or, slice_set, nat_lt, option_map, IfOk, OnOk, OnErr};
 ghost use Rattle.sv8_model.specs.Outside.{word_of};
 ghost use Rattle.sv8_model.specs.Levels.{levels_word};
 ghost use Rattle.sv8_phys.specs.Memory.{ram_size, page_of, with_page};
 ghost use Rattle.sv8_phys.specs.Contents.{empty_contents, AreContents};
 ghost use Rattle.sv8_phys.specs.Pending.{AreLevels};
+ghost use Rattle.sv8_phys.specs.Pieces.{piece_of};
 
 mod access;
 mod console;
@@ -175,6 +176,14 @@ impl<const PAGES: usize> Phys<PAGES> {
         ensures { IfOk result (λ v. v.items ≡ self.now.output) }
     {
         self.output.bytes(alloc)
+    }
+
+    /// The bytes put out at the console so far, read where they lie: those from 4,096 * `index` on, at most 4,096 of them. `None`
+    /// where there are none. The pieces from index 0 up to the first `None` are the whole output.
+    pub fn output_piece(&self, index: usize) -> Option<&[u8]>
+        ensures { option_map (λ s. s.now) result ≡ piece_of self.now.output index }
+    {
+        self.output.piece(index)
     }
 
     /// The same memory and devices; RAM and output are shared.

@@ -106,6 +106,63 @@ fn output_is_whole(rt: HostRuntime) -> Result<(), Fail> {
     Ok(())
 }
 
+/// The byte that is put out in a place.
+fn byte_at(place: usize) -> u8 {
+    (place % 251) as u8
+}
+
+/// Puts out the bytes of the places from `from` to `to`.
+fn put_out_between(memory: &mut Phys<2>, from: usize, to: usize) -> Result<bool, Fail> {
+    for place in from..to {
+        let word = u64::from(byte_at(place));
+        if memory.write(OUTPUT, Size::Word, word)?.is_err() {
+            return Ok(false);
+        }
+    }
+    Ok(true)
+}
+
+/// Whether a piece has so many bytes, those of the places from 4,096 times its number on; none where it is not there.
+fn has_piece(memory: &Phys<2>, number: u8, count: usize) -> bool {
+    match memory.output_piece(usize::from(number)) {
+        None => count == 0,
+        Some(piece) => {
+            let places = usize::from(number) * 4096..;
+            count > 0
+                && piece.len() == count
+                && piece
+                    .iter()
+                    .zip(places)
+                    .all(|(byte, place)| *byte == byte_at(place))
+        }
+    }
+}
+
+/// Whether the first three pieces have so many bytes each.
+fn has_pieces(memory: &Phys<2>, counts: [usize; 3]) -> bool {
+    has_piece(memory, 0, counts[0])
+        && has_piece(memory, 1, counts[1])
+        && has_piece(memory, 2, counts[2])
+}
+
+/// Pieces of 0, 1, 4,095, 4,096, 4,097 and 8,192 bytes of output.
+fn pieces_grow(memory: &mut Phys<2>) -> Result<bool, Fail> {
+    let none = has_pieces(memory, [0, 0, 0]);
+    let one = put_out_between(memory, 0, 1)? && has_pieces(memory, [1, 0, 0]);
+    let less = put_out_between(memory, 1, 4095)? && has_pieces(memory, [4095, 0, 0]);
+    let full = put_out_between(memory, 4095, 4096)? && has_pieces(memory, [4096, 0, 0]);
+    let more = put_out_between(memory, 4096, 4097)? && has_pieces(memory, [4096, 1, 0]);
+    let twice = put_out_between(memory, 4097, 8192)? && has_pieces(memory, [4096, 4096, 0]);
+    Ok(none && one && less && full && more && twice)
+}
+
+#[test]
+fn pieces_are_the_output(rt: HostRuntime) -> Result<(), Fail> {
+    let mut memory = blank(rt.alloc())?;
+    assert!(rt; pieces_grow(&mut memory)?);
+    Ok(())
+}
+
 #[test]
 fn notes_are_told(rt: HostRuntime) -> Result<(), Fail> {
     let memory = blank(rt.alloc())?;
