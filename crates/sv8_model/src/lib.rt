@@ -5,6 +5,8 @@
 #![tactic(auto)]
 
 pub mod laws;
+mod level;
 mod touch;
 
+pub use level::Level;
 pub use touch::Touch;

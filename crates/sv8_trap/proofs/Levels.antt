@@ -1,7 +1,8 @@
 -- Words of levels.
-use Rattle.std.proofs.Common.{◌≡◌, ◌∙◌, ℕ, ◌-◌, ◌*◌, ◌^◌, ◌%◌, ◌<◌, ◌==◌, false, ◌≤◌, refl, ap, sym, arith, mod-eq_of_lt}
+use Rattle.std.proofs.Common.{◌≡◌, ◌∙◌, ℕ, ◌-◌, ◌*◌, ◌^◌, ◌%◌, ◌<◌, ◌==◌, false, ◌≤◌, refl, ap, sym, None, arith, mod-eq_of_lt}
 use Rattle.std.proofs.Math.Pow.{pow_mono}
 use Rattle.std.proofs.lemmas.Bool.Decides.{nat_tests}
+use Rattle.sv8_model.specs.Levels.{level_of}
 use Rattle.sv8_trap.specs.Interrupt.{unmasked, highest}
 
 -- below level 15 the power of two fits a word
@@ -13,5 +14,5 @@ unmasked_below level h far =
     ap (λ n. 65536 - n) (mod-eq_of_lt {n = 2 * 2 ^ level} {m = 4294967296} (omega (arith, power))) ∙ sym (rw apart refl)
 
 -- a word of no bits has no level
-pub no_level : (word : ℕ) → word ≡ 0 → 0 ≡ highest word
+pub no_level : (word : ℕ) → word ≡ 0 → None ≡ level_of (highest word)
 no_level word e = rw e refl

@@ -6,11 +6,11 @@ use Rattle.sv8_phys.proofs.levels.Pending.request.Goals as goal
 
 pub invariant_of-self : goal.invariant_of-self
 invariant_of-self c =
-    ap (λ n. bit (bit_or c.self.inside.levels n) 0) (shifted_one c.args.level c.requires.high) ∙ requested_zero c.self.inside.levels c.args.level c.requires.low c.self.invariant
+    ap (λ n. bit (bit_or c.self.inside.levels n) 0) (shifted_one c.args.level c.number.ensures.most) ∙ requested_zero c.self.inside.levels c.args.level c.number.ensures.some c.self.invariant
 
 pub returns-clause-value : goal.returns-clause-value
 returns-clause-value c =
-    ap (λ n. levels_of_word (bit_or c.self.inside.levels n)) (shifted_one c.args.level c.requires.high) ∙ requested c.self.inside.levels c.args.level (omega arith)
+    ap (λ n. levels_of_word (bit_or c.self.inside.levels n)) (shifted_one c.args.level c.number.ensures.most) ∙ requested c.self.inside.levels c.args.level (omega arith)
     ∙ ap (λ ps. set ps c.args.level true) c.self.view_is
 
 pub returns-clause-shape : goal.returns-clause-shape

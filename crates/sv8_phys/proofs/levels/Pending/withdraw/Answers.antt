@@ -6,4 +6,4 @@ use Rattle.sv8_phys.proofs.levels.Pending.withdraw.Goals as goal
 pub returns-clause-value : goal.returns-clause-value
 returns-clause-value c =
     let all : length c.args.self.now ≡ 16 = ap length (sym c.self.view_is) ∙ level_count c.self.inside.levels in
-    c.clear.ensures.value ∙ ap (λ n. cleared n c.args.self.now) (shifted_word c.args.level c.requires.high) ∙ withdrawn c.args.self.now c.args.level (omega (arith, c.requires.high))
+    c.clear.ensures.value ∙ ap (λ n. cleared n c.args.self.now) (shifted_word c.args.level c.number.ensures.most) ∙ withdrawn c.args.self.now c.args.level (omega (arith, c.number.ensures.most))
