@@ -101,7 +101,7 @@ fn keep_levels<const NW: usize, const PAGES: usize>(
     let mut rest = requests;
     while let [request, after @ ..] = rest {
         let content = Content::Pending(machine.is_pending(request.level));
-        kept.push(offset, Cell::Level(request.level), content)?;
+        kept.push(offset, Cell::Level(request.level.number()), content)?;
         rest = after;
     }
     Ok(())
