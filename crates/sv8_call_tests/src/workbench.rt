@@ -6,6 +6,7 @@ use std::alloc::{AllocError, Global};
 use std::test::Fail;
 use sv8_bench::{Bench, BenchFault, Shown};
 use sv8_cpu::Machine;
+use sv8_model::Level;
 use sv8_phys::Page;
 use sv8_source::Source;
 
@@ -476,19 +477,22 @@ fn is_apart(
 }
 
 /// Whether levels 3 and 15 become pending in a machine and not in its copy, and level 3 is then taken back.
-fn has_own_levels(machine: &mut Machine<8, 1>, copy: &Machine<8, 1>) -> bool {
-    machine.set_pending(3, true);
-    machine.set_pending(15, true);
+fn has_own_levels(machine: &mut Machine<8, 1>, copy: &Machine<8, 1>) -> Option<bool> {
+    let low = Level::new(3)?;
+    let high = Level::new(15)?;
+    machine.set_pending(low, true);
+    machine.set_pending(high, true);
     let both = machine.pending();
-    machine.set_pending(3, false);
-    (both, machine.pending(), copy.pending()) == (0x8008, 0x8000, 0)
+    machine.set_pending(low, false);
+    let stays = machine.is_pending(high) && !machine.is_pending(low) && !copy.is_pending(high);
+    Some(stays && (both, machine.pending(), copy.pending()) == (0x8008, 0x8000, 0))
 }
 
 /// Whether a machine and its copy are kept apart.
 fn is_copied(machine: &mut Machine<8, 1>, alloc: Global) -> Result<bool, AllocError> {
     let page = machine.page(0x100)?;
     let copy = machine.snapshot(alloc)?;
-    Ok(is_apart(machine, &copy, page, alloc)? && has_own_levels(machine, &copy))
+    Ok(is_apart(machine, &copy, page, alloc)? && has_own_levels(machine, &copy).unwrap_or(false))
 }
 
 /// A machine just reset, whose RAM is zeros.

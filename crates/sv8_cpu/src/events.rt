@@ -1,8 +1,7 @@
 //! The events of a step: poked bytes and interrupt requests.
 
 ghost use Rattle.std.specs.Prelude.{◌≡◌, ℕ, ◌+◌, ◌*◌, ◌%◌, ◌<◌, ◌≤◌, ◌∷◌, [], OnOk, length};
-ghost use Rattle.sv8_time.specs.Order.{Each};
-ghost use Rattle.sv8_time.specs.Schedule.{IsRequestPlace, bytes_below};
+ghost use Rattle.sv8_time.specs.Schedule.{bytes_below};
 ghost use Rattle.sv8_phys.specs.Memory.{ram_size};
 ghost use Rattle.sv8_phys.specs.Contents.{arrived};
 ghost use Rattle.sv8_mmu.specs.Kept.{AllStand};
@@ -64,7 +63,6 @@ fn poke_words<const PAGES: usize>(
 
 /// Makes requested levels pending.
 fn request_levels<const PAGES: usize>(phys: &mut Phys<PAGES>, requests: &[Request])
-    requires { Each IsRequestPlace requests.now }
     ensures { phys.new ≡ record phys.old { pending = marked requests.now phys.old.pending } }
 {
     let mut rest = requests;

@@ -22,6 +22,7 @@ use std::alloc::{AllocError, Global};
 use std::marker::Model;
 use sv8_iu::{AccessRequest, Response, Space};
 use sv8_mmu::{Buffer, Mmu};
+use sv8_model::Level;
 use sv8_phys::{Page, Phys, Size, Touches};
 use sv8_time::Timeline;
 
@@ -224,9 +225,7 @@ impl<const PAGES: usize> Memory<PAGES> {
     }
 
     /// Makes an interrupt level pending, or no longer pending.
-    pub fn set_pending(&mut self, level: u32, pending: bool)
-        requires some { 1 ≤ level }
-        requires most { level ≤ 15 }
+    pub fn set_pending(&mut self, level: Level, pending: bool)
         ensures { self.new ≡ record self.old { phys = record self.old.phys { pending = slice_set self.old.phys.pending level pending } } }
     {
         self.physical.phys.set_pending(level, pending);

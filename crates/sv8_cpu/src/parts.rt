@@ -224,14 +224,16 @@ impl<const NW: usize, const PAGES: usize> Parts<NW, PAGES> {
             self.old self.new (T.noted notes.old) (T.noted notes.new)) }
         ensures taken { OnOk result (self.new.memory.phys.taken ≤ bytes_below before timeline.now.inputs) }
     {
-        let level = highest_level(levels);
-        if level == 0 {
-            self.go_on(before, timeline, notes)?;
-            Ok(())
-        } else {
-            notes.observe(seen(Trap::Interrupt(level)))?;
-            self.processor.interrupt(level);
-            Ok(())
+        match highest_level(levels) {
+            None => {
+                self.go_on(before, timeline, notes)?;
+                Ok(())
+            }
+            Some(level) => {
+                notes.observe(seen(Trap::Interrupt(level.number() as u8)))?;
+                self.processor.interrupt(level);
+                Ok(())
+            }
         }
     }
 

@@ -12,6 +12,7 @@ ghost use Rattle.sv8_cpu.specs.State.{waiting};
 use crate::machine::{Machine, Parts};
 use std::alloc::{AllocError, Global};
 use sv8_mmu::Mmu;
+use sv8_model::Level;
 use sv8_phys::{Page, StepTouches, Timer};
 use sv8_regs::Regs;
 use sv8_time::Timeline;
@@ -137,17 +138,14 @@ impl<const NW: usize, const PAGES: usize> Machine<NW, PAGES> {
     }
 
     /// Whether an interrupt level is pending (section 7.3).
-    pub fn is_pending(&self, level: u32) -> bool
-        requires { level ≤ 15 }
+    pub fn is_pending(&self, level: Level) -> bool
         ensures { result ≡ slice_index_or self.now.memory.pending level false }
     {
         self.parts.memory.phys().is_pending(level)
     }
 
     /// Makes an interrupt level pending, or no longer pending; nothing else changes.
-    pub fn set_pending(&mut self, level: u32, pending: bool)
-        requires some { 1 ≤ level }
-        requires most { level ≤ 15 }
+    pub fn set_pending(&mut self, level: Level, pending: bool)
         ensures { self.new ≡ record self.old { memory = record self.old.memory { pending = slice_set self.old.memory.pending level pending } } }
     {
         self.parts.memory.set_pending(level, pending);

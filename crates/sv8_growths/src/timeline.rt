@@ -29,7 +29,7 @@ fn look_at(timeline: &Timeline) -> Seen {
         }
         let mut levels = 0u32;
         for request in events.requests {
-            levels = levels.wrapping_mul(17).wrapping_add(request.level);
+            levels = levels.wrapping_mul(17).wrapping_add(request.level.number());
         }
         all[step as usize] = (value, events.pokes.len(), bytes, levels);
     }

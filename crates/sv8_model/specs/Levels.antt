@@ -1,6 +1,6 @@
 -- Interrupt levels: which of them are pending, as a list of conditions, index l for level l from 0 to 15; and words of levels, which have bit l for level l.
 -- There is no level 0.
-use Rattle.std.specs.Prelude.{ℕ, ◌+◌, ◌*◌, ◌^◌, Bool, not, ◌&&◌, List, [], ◌∷◌}
+use Rattle.std.specs.Prelude.{ℕ, ◌+◌, ◌*◌, ◌^◌, Bool, not, ◌&&◌, List, [], ◌∷◌, Option, None, Some, nat_le, if◌then◌else◌}
 use Rattle.sv8_model.specs.Words.{bit, digit}
 
 -- the word that has a bit for each condition of a list, the first one being bit k
@@ -37,3 +37,11 @@ every_level = 0xfffe
 -- the level that the timer requests
 abbrev pub timer_level : ℕ
 timer_level = 10
+
+-- a number is that of a level
+abbrev pub is_level : ℕ → Bool
+is_level number = nat_le 1 number && nat_le number 15
+
+-- the level of a number, where it is one
+abbrev pub level_of : ℕ → Option ℕ
+level_of number = if is_level number then Some number else None

@@ -5,8 +5,10 @@
 #![tactic(auto)]
 
 pub mod laws;
+mod level;
 mod observation;
 mod touch;
 
+pub use level::Level;
 pub use observation::{AccessKind, Observation};
 pub use touch::Touch;

@@ -1,10 +1,11 @@
 //! The pending interrupt levels.
 
-ghost use Rattle.std.specs.Prelude.{◌≡◌, ◌≤◌, true, false, replicate, slice_index_or, slice_set};
+ghost use Rattle.std.specs.Prelude.{◌≡◌, true, false, replicate, slice_index_or, slice_set};
 ghost use Rattle.sv8_model.specs.Levels.{levels_word, asked, cleared};
 ghost use Rattle.sv8_phys.specs.Pending.{AreLevels};
 
 use std::marker::Model;
+use sv8_model::Level;
 
 /// Which interrupt levels from 1 to 15 are pending: a word with bit l for level l, in which bit 0 is never set.
 #[derive(Drop)]
@@ -51,27 +52,22 @@ impl Pending {
     }
 
     /// Whether a level is pending.
-    pub(crate) fn is_pending(&self, level: u32) -> bool
-        requires { level ≤ 15 }
+    pub(crate) fn is_pending(&self, level: Level) -> bool
         ensures { result ≡ slice_index_or self.now level false }
     {
-        (self.levels >> level) % 2 == 1
+        (self.levels >> level.number()) % 2 == 1
     }
 
     /// Makes a level pending.
-    pub(crate) fn request(&mut self, level: u32)
-        requires low { 1 ≤ level }
-        requires high { level ≤ 15 }
+    pub(crate) fn request(&mut self, level: Level)
         ensures value { self.new ≡ slice_set self.old level true }
         ensures shape { AreLevels self.new }
     {
-        self.levels |= 1 << level;
+        self.levels |= 1 << level.number();
     }
 
     /// Makes a level pending, or no longer pending.
-    pub(crate) fn set(&mut self, level: u32, pending: bool)
-        requires low { 1 ≤ level }
-        requires high { level ≤ 15 }
+    pub(crate) fn set(&mut self, level: Level, pending: bool)
         ensures value { self.new ≡ slice_set self.old level pending }
         ensures shape { AreLevels self.new }
     {
@@ -83,14 +79,12 @@ impl Pending {
     }
 
     /// Makes a level no longer pending.
-    fn withdraw(&mut self, level: u32)
-        requires low { 1 ≤ level }
-        requires high { level ≤ 15 }
+    fn withdraw(&mut self, level: Level)
         ensures value { self.new ≡ slice_set self.old level false }
         ensures shape { AreLevels self.new }
     {
         let _levels = self.levels;
-        self.clear(1 << level);
+        self.clear(1 << level.number());
     }
 
     /// Those levels of a word, bit l for level l, that are pending. Bit 0 is ignored.

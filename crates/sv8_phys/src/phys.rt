@@ -21,6 +21,7 @@ use crate::timer::Timer;
 pub use devices::{INPUT, OUTPUT, PENDING, TIMER_COUNT, TIMER_RELOAD, WAITING};
 use std::alloc::{AllocError, Global};
 use std::marker::Model;
+use sv8_model::Level;
 
 /// Physical memory of `PAGES` pages of 4,096 bytes of RAM (1 to 65,536) from address 0, with the devices: the console, the
 /// timer, and the pending interrupt levels.
@@ -127,9 +128,7 @@ impl<const PAGES: usize> Phys<PAGES> {
     }
 
     /// Makes an interrupt level pending.
-    pub fn request(&mut self, level: u32)
-        requires some { 1 ≤ level }
-        requires most { level ≤ 15 }
+    pub fn request(&mut self, level: Level)
         ensures { self.new ≡ record self.old { pending = slice_set self.old.pending level true } }
     {
         self.pending.request(level);
@@ -144,17 +143,14 @@ impl<const PAGES: usize> Phys<PAGES> {
     }
 
     /// Whether an interrupt level is pending.
-    pub fn is_pending(&self, level: u32) -> bool
-        requires { level ≤ 15 }
+    pub fn is_pending(&self, level: Level) -> bool
         ensures { result ≡ slice_index_or self.now.pending level false }
     {
         self.pending.is_pending(level)
     }
 
     /// Makes an interrupt level pending, or no longer pending; the other levels stay.
-    pub fn set_pending(&mut self, level: u32, pending: bool)
-        requires some { 1 ≤ level }
-        requires most { level ≤ 15 }
+    pub fn set_pending(&mut self, level: Level, pending: bool)
         ensures { self.new ≡ record self.old { pending = slice_set self.old.pending level pending } }
     {
         self.pending.set(level, pending);

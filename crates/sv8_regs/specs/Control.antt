@@ -1,5 +1,5 @@
 -- The control and status registers: chapter 4, section 4.2.
-use Rattle.std.specs.Prelude.{ℕ, ◌+◌, ◌*◌, ◌-◌, ◌%◌, ◌/◌, ◌^◌}
+use Rattle.std.specs.Prelude.{ℕ, ◌+◌, ◌*◌, ◌-◌, ◌%◌, ◌/◌, ◌^◌, Option, None, Some, nat_lt, if◌then◌else◌}
 use Rattle.sv8_model.specs.Words.{bit, digit}
 use Rattle.sv8_regs.specs.declared.Psr.{Psr}
 use Rattle.sv8_regs.specs.declared.ConditionCodes.{ConditionCodes}
@@ -21,6 +21,10 @@ unpacked_psr word = record {
   ps = bit word 6;
   et = bit word 5;
 }
+
+-- the PIL of a number, where it is one of the four bits of that field
+abbrev pub pil_of : ℕ → Option ℕ
+pil_of number = if nat_lt number 16 then Some number else None
 
 -- CWP, bits 4:0 of a PSR word
 abbrev pub window_field : ℕ → ℕ

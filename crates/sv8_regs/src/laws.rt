@@ -8,13 +8,12 @@ use crate::{Psr, Regs};
 
 /// What is packed into a PSR word is read from it again, and fits a word. Section 4.2.
 pub fn packing_keeps_fields(psr: Psr, window: u32)
-    requires level { psr.pil < 16 }
-    requires window { window < 32 }
+    requires { window < 32 }
     ensures fields { unpacked_psr (packed_psr psr window) ≡ psr }
     ensures current_window { window_field (packed_psr psr window) ≡ window }
     ensures word { packed_psr psr window < 2 ^ 32 }
 {
-    let _psr = psr;
+    let _level = psr.pil.number();
     let _window = window;
 }
 

@@ -3,6 +3,7 @@
 #![tactic(auto)]
 
 mod laws;
+mod pil;
 #[cfg(test)]
 mod tests;
 
@@ -14,6 +15,7 @@ pub use laws::{
     a_write_is_read, a_write_keeps_others, outs_are_ins_above, packing_keeps_fields,
     worked_examples,
 };
+pub use pil::Pil;
 use std::marker::Model;
 
 /// The fields of the Processor State Register, but for the current window. Section 4.2.
@@ -29,8 +31,8 @@ pub struct Psr {
     pub v: bool,
     /// Carry or borrow.
     pub c: bool,
-    /// The processor interrupt level, below 16.
-    pub pil: u8,
+    /// The processor interrupt level.
+    pub pil: Pil,
     /// Supervisor mode.
     pub s: bool,
     /// The value of S at the time of the most recent trap.
@@ -83,7 +85,7 @@ impl<const NW: usize> Model for Regs<NW> {
       y = r.y;
     } };
 
-    ghost invariant = { λ r. (r.window < NW) × (2 ≤ NW) × (NW ≤ 32) × (r.psr.pil < 16) × (r.wim < 2 ^ NW) × (r.tbr % 2 ^ 4 ≡ 0) × (length r.globals ≡ 8) };
+    ghost invariant = { λ r. (r.window < NW) × (2 ≤ NW) × (NW ≤ 32) × (r.wim < 2 ^ NW) × (r.tbr % 2 ^ 4 ≡ 0) × (length r.globals ≡ 8) };
 }
 
 impl<const NW: usize> Regs<NW> {
@@ -108,7 +110,7 @@ impl<const NW: usize> Regs<NW> {
                 z: false,
                 v: false,
                 c: false,
-                pil: 0,
+                pil: Pil::of_reset(),
                 s: true,
                 ps: false,
                 et: false,
@@ -222,8 +224,7 @@ impl<const NW: usize> Regs<NW> {
     /// The fields of the PSR, but for CWP. Section 4.2.
     #[inline(always)]
     pub fn psr(&self) -> Psr
-        ensures value { result ≡ self.now.psr }
-        ensures level { result.pil < 16 }
+        ensures { result ≡ self.now.psr }
     {
         // One field after another: as a whole it is loaded as one number, which waits for each store of a field just before.
         Psr {
@@ -241,7 +242,6 @@ impl<const NW: usize> Regs<NW> {
     /// Writes the fields of the PSR, but for CWP. Section 4.2.
     #[inline(always)]
     pub fn set_psr(&mut self, psr: Psr)
-        requires level { psr.pil < 16 }
         ensures { self.new ≡ record self.old { psr = psr } }
     {
         self.psr = psr;
@@ -389,15 +389,14 @@ fn one_bit(b: bool) -> u32
 
 /// The fields of the PSR as a word.
 fn packed(psr: Psr, window: u32) -> u32
-    requires level { psr.pil < 16 }
-    requires window { window < 32 }
+    requires { window < 32 }
     ensures { result ≡ packed_psr psr window }
 {
     one_bit(psr.n) * 0x0080_0000
         + one_bit(psr.z) * 0x0040_0000
         + one_bit(psr.v) * 0x0020_0000
         + one_bit(psr.c) * 0x0010_0000
-        + psr.pil as u32 * 0x100
+        + psr.pil.number() * 0x100
         + one_bit(psr.s) * 0x80
         + one_bit(psr.ps) * 0x40
         + one_bit(psr.et) * 0x20
@@ -406,15 +405,14 @@ fn packed(psr: Psr, window: u32) -> u32
 
 /// The fields of a PSR word, but for CWP.
 fn unpacked(word: u32) -> Psr
-    ensures value { result ≡ unpacked_psr word }
-    ensures level { result.pil < 16 }
+    ensures { result ≡ unpacked_psr word }
 {
     Psr {
         n: is_set(word, 23),
         z: is_set(word, 22),
         v: is_set(word, 21),
         c: is_set(word, 20),
-        pil: (word / 0x100 % 16) as u8,
+        pil: Pil::of_word(word),
         s: is_set(word, 7),
         ps: is_set(word, 6),
         et: is_set(word, 5),

@@ -119,7 +119,7 @@ fn psr_word_has_each_field_in_its_place(rt: HostRuntime) {
     regs.set_psr_word(0xFFFF_FFFF);
     assert_eq!(rt; regs.psr_word(), 0x00F0_0FFF);
     regs.set_psr_word(0x0000_0B11);
-    assert_eq!(rt; regs.psr().pil, 11);
+    assert_eq!(rt; regs.psr().pil.number(), 11);
     assert_eq!(rt; regs.cwp(), 17);
     assert_eq!(rt; regs.psr_word(), 0x0000_0B11);
 }
@@ -129,12 +129,16 @@ fn psr_fields_leave_the_window(rt: HostRuntime) {
     let mut regs = Regs::<8>::new();
     regs.set_psr_word(0x00F0_0FE7);
     let psr = Psr {
-        pil: 3,
+        pil: Pil::new(3).unwrap_or(regs.psr().pil),
         s: false,
         ..regs.psr()
     };
     regs.set_psr(psr);
-    assert_eq!(rt; regs.psr(), psr);
+    assert_eq!(rt; regs.psr().pil.number(), 3);
+    assert_eq!(rt;
+        flags(regs.psr()),
+        [true, true, true, true, false, true, true]
+    );
     assert_eq!(rt; regs.psr_word(), 0x00F0_0367);
 }
 

@@ -1,6 +1,7 @@
 -- The outside events of a machine, and what an edit makes of them.
 use Rattle.std.specs.Prelude.{◌≡◌, ◌⊎◌, ◌<◌, ◌≤◌, true, false, ℕ, ◌+◌, ◌*◌, ◌/◌, ◌^◌, Bool, not, nat_lt, nat_le, ◌==◌, ◌&&◌, ◌%◌, List, [], ◌∷◌, length, filter, flat_map, find, Option, Some, None, option_map, if◌then◌else◌}
 use Rattle.std.specs.List.{list_any}
+pub use Rattle.sv8_model.specs.Levels.{is_level}
 use Rattle.sv8_time.specs.declared.fault.TimeFault.{TimeFault}
 use Rattle.sv8_time.specs.declared.fault.TimeFault.TheVariants.{OutOfMemory, StepTooLarge, BadAddress, BadLevel, NothingThere, TooManyEvents, InputTooLong}
 use Rattle.sv8_time.specs.declared.requests.Request.{Request}
@@ -180,9 +181,6 @@ is_one_too_many present s = nat_le 65536 (event_count s) && not present
 
 abbrev pub is_word : ℕ → ℕ → Bool
 is_word address limit = address % 4 == 0 && nat_le (address + 4) limit
-
-abbrev pub is_level : ℕ → Bool
-is_level level = nat_le 1 level && nat_le level 15
 
 abbrev pub set_poke_fault : ℕ → ℕ → Schedule → Option TimeFault
 set_poke_fault step address s =

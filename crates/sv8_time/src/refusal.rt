@@ -1,21 +1,16 @@
 //! Why an edit of a timeline would be refused.
 
-ghost use Rattle.std.specs.Prelude.{◌≡◌, None, Some, OnOk, IfErr};
-ghost use Rattle.sv8_time.specs.Schedule.{set_poke_fault, clear_poke_fault, set_poke_byte_fault, clear_poke_byte_fault, set_input_fault, clear_input_fault, set_request_fault, clear_request_fault, is_word, is_level};
+ghost use Rattle.std.specs.Prelude.{◌≡◌, None, Some, OnOk, IfOk, IfErr};
+ghost use Rattle.sv8_time.specs.Schedule.{set_poke_fault, clear_poke_fault, set_poke_byte_fault, clear_poke_byte_fault, set_input_fault, clear_input_fault, set_request_fault, clear_request_fault, is_word};
 
 use crate::fault::TimeFault;
 use crate::timeline::{LAST_STEP, MOST_BYTES, Timeline};
+use sv8_model::Level;
 
 fn is_word(address: u32, limit: u32) -> bool
     ensures { result ≡ is_word address limit }
 {
     address % 4 == 0 && u64::from(address) + 4 <= u64::from(limit)
-}
-
-fn is_level(level: u32) -> bool
-    ensures { result ≡ is_level level }
-{
-    1 <= level && level <= 15
 }
 
 impl Timeline {
@@ -118,37 +113,39 @@ impl Timeline {
         Ok(())
     }
 
-    /// Whether a level can be requested at a step: the fault of `set_request` that wants no memory, if there is one.
-    pub fn check_set_request(&self, step: u32, level: u32) -> Result<(), TimeFault>
+    /// The level of a number that can be requested at a step, or else the fault of `set_request` that wants no memory.
+    pub fn check_set_request(&self, step: u32, level: u32) -> Result<Level, TimeFault>
         ensures ok { OnOk result (set_request_fault step level self.now ≡ None) }
+        ensures level { IfOk result (λ l. l ≡ level) }
         ensures err { IfErr result (λ e. set_request_fault step level self.now ≡ Some e) }
     {
         if step > LAST_STEP {
             return Err(TimeFault::StepTooLarge);
         }
-        if !is_level(level) {
+        let Some(level) = Level::new(level) else {
             return Err(TimeFault::BadLevel);
-        }
+        };
         if self.is_full() && !self.has_request(step, level) {
             return Err(TimeFault::TooManyEvents);
         }
-        Ok(())
+        Ok(level)
     }
 
-    /// Whether a level's request at a step can be cleared: the fault of `clear_request`, if there is one.
-    pub fn check_clear_request(&self, step: u32, level: u32) -> Result<(), TimeFault>
+    /// The level of a number whose request at a step can be cleared, or else the fault of `clear_request`.
+    pub fn check_clear_request(&self, step: u32, level: u32) -> Result<Level, TimeFault>
         ensures ok { OnOk result (clear_request_fault step level self.now ≡ None) }
+        ensures level { IfOk result (λ l. l ≡ level) }
         ensures err { IfErr result (λ e. clear_request_fault step level self.now ≡ Some e) }
     {
         if step > LAST_STEP {
             return Err(TimeFault::StepTooLarge);
         }
-        if !is_level(level) {
+        let Some(level) = Level::new(level) else {
             return Err(TimeFault::BadLevel);
-        }
+        };
         if !self.has_request(step, level) {
             return Err(TimeFault::NothingThere);
         }
-        Ok(())
+        Ok(level)
     }
 }

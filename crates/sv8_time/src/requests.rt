@@ -4,14 +4,15 @@ ghost use Rattle.std.specs.Prelude.{◌≡◌, ◌==◌, find, option_map};
 ghost use Rattle.sv8_time.specs.Schedule.{IsNextRequest};
 
 use crate::ordered::{Keyed, Ordered};
+use sv8_model::Level;
 
 /// An interrupt request from outside.
 #[derive(Debug, Drop, Clone, Copy, PartialEq, Eq)]
 pub struct Request {
     /// The step at which it happens.
     pub step: u32,
-    /// The interrupt request level, 1 to 15.
-    pub level: u32,
+    /// The interrupt request level.
+    pub level: Level,
 }
 
 impl Keyed for Request {
@@ -26,7 +27,7 @@ impl Keyed for Request {
     }
 
     fn minor(&self) -> u32 {
-        self.level
+        self.level.number()
     }
 }
 
@@ -34,14 +35,14 @@ impl Keyed for Request {
 pub(crate) type Requests = Ordered<Request>;
 
 /// The least step above one in which a level is requested.
-pub(crate) fn next_request(requests: &Requests, level: u32, after: u32) -> Option<u32>
+pub(crate) fn next_request(requests: &Requests, level: Level, after: u32) -> Option<u32>
     ensures { IsNextRequest level after requests.now result }
 {
     first_of_level(requests.behind(after), level)
 }
 
 /// The step of the first request of a level.
-fn first_of_level(requests: &[Request], level: u32) -> Option<u32>
+fn first_of_level(requests: &[Request], level: Level) -> Option<u32>
     ensures { result ≡ option_map (λ r. r.step) (find (λ r. r.level == level) requests.now) }
 {
     requests

@@ -13,6 +13,7 @@ use crate::requests::{Request, Requests, next_request};
 use crate::words::WordPoke;
 use std::alloc::{AllocError, Global};
 use std::marker::Model;
+use sv8_model::Level;
 
 /// The last step that may have events; steps are counted from 0.
 pub const LAST_STEP: u32 = 1_000_000;
@@ -108,7 +109,7 @@ impl Timeline {
     }
 
     /// Whether a level is requested at a step.
-    pub fn has_request(&self, step: u32, level: u32) -> bool
+    pub fn has_request(&self, step: u32, level: Level) -> bool
         ensures { result ≡ has_request step level self.now.requests }
     {
         self.requests.has(Request { step, level })
@@ -240,9 +241,12 @@ impl Timeline {
         ensures err { IfErr result (IsRefused (set_request_fault step level self.old)) }
         ensures kept { OnErr result (self.new ≡ self.old) }
     {
-        self.check_set_request(step, level)?;
+        let checked = self.check_set_request(step, level)?;
         self.marks.reach(step)?;
-        self.requests.put(Request { step, level })?;
+        self.requests.put(Request {
+            step,
+            level: checked,
+        })?;
         self.marks.mark(step);
         Ok(())
     }
@@ -257,8 +261,11 @@ impl Timeline {
         ensures err { IfErr result (λ e. clear_request_fault step level self.old ≡ Some e) }
         ensures kept { OnErr result (self.new ≡ self.old) }
     {
-        self.check_clear_request(step, level)?;
-        self.requests.cut(Request { step, level });
+        let checked = self.check_clear_request(step, level)?;
+        self.requests.cut(Request {
+            step,
+            level: checked,
+        });
         Ok(())
     }
 }
@@ -266,7 +273,7 @@ impl Timeline {
 impl Timeline {
     /// What happens at a step. A step that never had an event costs the read of one flag.
     ///
-    /// `inside` has what a caller needs to write the poked bytes to RAM, and `levels` to make the levels pending.
+    /// `inside` has what a caller needs to write the poked bytes to RAM.
     #[tactic(auto, using(crate::proofs::SoundEvents::no_pokes, crate::proofs::SoundEvents::no_bytes, crate::proofs::SoundEvents::no_requests))]
     #[inline(always)]
     pub fn events(&self, step: u32) -> Events<'_>
@@ -328,7 +335,7 @@ impl Timeline {
     }
 
     /// The least step above `after` at which a level is requested, at most `LAST_STEP`.
-    pub fn next_request(&self, level: u32, after: u32) -> Option<u32>
+    pub fn next_request(&self, level: Level, after: u32) -> Option<u32>
         ensures value { result ≡ request_after level after self.now.requests }
         ensures least { IsNextRequest level after self.now.requests result }
         ensures bound { IfSome result (λ n. n ≤ 1000000) }

@@ -6,6 +6,7 @@ ghost use Rattle.sv8_cpu.specs.Recorded.{get};
 ghost use Rattle.sv8_trace.specs.Cells.{cell_of, content_of, word_of_cell, IsCell};
 
 use sv8_cpu::Machine;
+use sv8_model::Level;
 
 /// A part of the state that outside events may set.
 #[derive(Clone, Copy, PartialEq, Eq, Debug)]
@@ -80,7 +81,19 @@ impl Cell {
     {
         match self {
             Cell::Byte(address) => Content::Byte(machine.byte(address)),
-            Cell::Level(level) => Content::Pending(machine.is_pending(level)),
+            Cell::Level(level) => Content::Pending(machine.is_pending(level_numbered(level))),
         }
+    }
+}
+
+/// The level of a number.
+pub(crate) fn level_numbered(number: u32) -> Level
+    requires some { 1 ≤ number }
+    requires most { number ≤ 15 }
+    ensures { result ≡ number }
+{
+    match Level::new(number) {
+        Some(level) => level,
+        None => unreachable!(),
     }
 }

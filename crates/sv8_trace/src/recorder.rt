@@ -2,8 +2,7 @@
 
 ghost use Rattle.std.specs.Prelude.{◌≡◌, ℕ, ◌+◌, ◌≤◌, ◌<◌, ◌&&◌, ◌==◌, ◌++◌, ◌⊎◌, cond, None, Some, is_some, slice_index_or, IfOk, OnOk, OnErr};
 ghost use Rattle.sv8_model.specs.Cells as model;
-ghost use Rattle.sv8_time.specs.Order.{Each};
-ghost use Rattle.sv8_time.specs.Schedule.{IsRequestPlace, bytes_below};
+ghost use Rattle.sv8_time.specs.Schedule.{bytes_below};
 ghost use Rattle.sv8_phys.specs.Memory.{ram_size};
 ghost use Rattle.sv8_phys.specs.Notes.{told};
 ghost use Rattle.sv8_cpu.specs.WordPokes.{AreInside};
@@ -94,14 +93,13 @@ fn keep_levels<const NW: usize, const PAGES: usize>(
     offset: u32,
     requests: &[Request],
 ) -> Result<(), AllocError>
-    requires few_windows { NW ≤ 32 }
-    requires places { Each IsRequestPlace requests.now }
+    requires { NW ≤ 32 }
     ensures { OnOk result (kept.new ≡ kept.old ++ below_requests offset machine.now requests.now) }
 {
     let mut rest = requests;
     while let [request, after @ ..] = rest {
         let content = Content::Pending(machine.is_pending(request.level));
-        kept.push(offset, Cell::Level(request.level), content)?;
+        kept.push(offset, Cell::Level(request.level.number()), content)?;
         rest = after;
     }
     Ok(())

@@ -2,13 +2,15 @@
 
 ghost use Rattle.std.specs.Prelude.{◌≡◌, ◌<◌, ◌≤◌, ◌%◌, ◌^◌, suc};
 ghost use Rattle.sv8_model.specs.Words.{bit};
+ghost use Rattle.sv8_model.specs.Levels.{level_of};
 ghost use Rattle.sv8_trap.specs.Table.{row_of};
 ghost use Rattle.sv8_trap.specs.Entry.{trap_registers, entered_from, entered, interrupted, stopped, with_trap, with_return_trap, returned};
 ghost use Rattle.sv8_trap.specs.Interrupt.{unmasked, highest, highest_from};
 
 use crate::processor::Processor;
 use crate::table::Trap;
-use sv8_regs::Psr;
+use sv8_model::Level;
+use sv8_regs::{Pil, Psr};
 
 impl<const NW: usize> Processor<NW> {
     /// Traps off, supervisor mode with the mode before it in PS, the window below, and the trap's type.
@@ -48,16 +50,17 @@ impl<const NW: usize> Processor<NW> {
         self.enter_from(trap, self.pc, self.npc);
     }
 
-    /// Enters the handler of an interrupt of a level from 1 to 15. In front of an annulled slot locals 1 and 2 keep the
+    /// Enters the handler of an interrupt of a level. In front of an annulled slot locals 1 and 2 keep the
     /// addresses behind the slot.
     #[tactic(auto, unfolding(crate::specs::Entry::interrupted))]
-    pub fn interrupt(&mut self, level: u8)
+    pub fn interrupt(&mut self, level: Level)
         ensures { self.new ≡ interrupted NW self.old level }
     {
+        let trap = Trap::Interrupt(level.number() as u8);
         if self.annul {
-            self.enter_from(Trap::Interrupt(level), self.npc, self.npc.wrapping_add(4));
+            self.enter_from(trap, self.npc, self.npc.wrapping_add(4));
         } else {
-            self.enter(Trap::Interrupt(level));
+            self.enter(trap);
         }
     }
 
@@ -121,10 +124,10 @@ impl<const NW: usize> Processor<NW> {
 /// The levels that a PIL does not mask.
 #[inline(always)]
 #[tactic(auto, using(crate::proofs::Levels::unmasked_below), unfolding(crate::specs::Interrupt::unmasked))]
-fn unmasked(level: u8) -> u16
-    requires { level < 16 }
-    ensures { result ≡ unmasked level }
+fn unmasked(pil: Pil) -> u16
+    ensures { result ≡ unmasked pil }
 {
+    let level = pil.number();
     if level == 15 {
         0x8000
     } else {
@@ -133,28 +136,30 @@ fn unmasked(level: u8) -> u16
 }
 
 /// Whether a level is one of a word's.
-fn has_level(word: u32, level: u8) -> bool
+fn has_level(word: u32, level: u32) -> bool
     requires { level ≤ 15 }
     ensures { result ≡ bit word level }
 {
     (word >> level) % 2 == 1
 }
 
-/// The highest of the levels of a word, bit l for level l from 1 to 15; 0 where there is none (section 7.5).
+/// The highest of the levels of a word, bit l for level l from 1 to 15; `None` where there is none (section 7.5).
 #[inline(always)]
 #[tactic(auto, using(crate::proofs::Levels::no_level))]
-pub fn highest_level(word: u32) -> u8
-    ensures value { result ≡ highest word }
-    ensures most { result ≤ 15 }
+pub fn highest_level(word: u32) -> Option<Level>
+    ensures { result ≡ level_of (highest word) }
 {
-    if word == 0 { 0 } else { highest_of(word) }
+    if word == 0 {
+        None
+    } else {
+        Level::new(highest_of(word))
+    }
 }
 
 /// The highest of the levels of a word, looked for one after the other. Nearly every step asks a word that has none.
 #[inline(never)]
-fn highest_of(word: u32) -> u8
-    ensures value { result ≡ highest word }
-    ensures most { result ≤ 15 }
+fn highest_of(word: u32) -> u32
+    ensures { result ≡ highest word }
 {
     let mut highest = 0;
     for below in 0..15 {

@@ -185,10 +185,10 @@ impl<const NW: usize, const PAGES: usize, const K: u32> Bench<NW, PAGES, K> {
         ensures refused { IfErr result (IsTimelineFault (set_request_fault step level self.old.kept.timeline)) }
         ensures unchanged { OnErr result (self.new ≡ self.old) }
     {
-        self.timeline.check_set_request(step, level)?;
+        let checked = self.timeline.check_set_request(step, level)?;
         let _limit = self.timeline.limit();
         let _recorded = self.trace.recorded();
-        let patches = request_patches::<NW, PAGES>(self.alloc, &self.timeline, step, level)?;
+        let patches = request_patches::<NW, PAGES>(self.alloc, &self.timeline, step, checked)?;
         let prepared = self.trace.prepare_edit(self.alloc, &patches)?;
         self.timeline.set_request(self.alloc, step, level)?;
         self.trace.commit(prepared);
@@ -208,10 +208,15 @@ impl<const NW: usize, const PAGES: usize, const K: u32> Bench<NW, PAGES, K> {
         ensures refused { IfErr result (IsTimelineFault (clear_request_fault step level self.old.kept.timeline)) }
         ensures unchanged { OnErr result (self.new ≡ self.old) }
     {
-        self.timeline.check_clear_request(step, level)?;
+        let checked = self.timeline.check_clear_request(step, level)?;
         let _limit = self.timeline.limit();
         let _recorded = self.trace.recorded();
-        let patches = clear_request_patches::<NW, PAGES>(self.alloc, &self.timeline, step, level)?;
+        let patches = clear_request_patches::<NW, PAGES>(
+            self.alloc,
+            &self.timeline,
+            step,
+            checked,
+        )?;
         let prepared = self.trace.prepare_edit(self.alloc, &patches)?;
         self.timeline.clear_request(step, level)?;
         self.trace.commit(prepared);

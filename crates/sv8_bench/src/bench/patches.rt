@@ -12,6 +12,7 @@ ghost use Rattle.sv8_trace.specs.Patch.{changes_of, IsPatch};
 
 use std::alloc::{AllocError, Global};
 use sv8_cpu::Machine;
+use sv8_model::Level;
 use sv8_source::Change;
 use sv8_time::Timeline;
 use sv8_trace::{Cause, Cell, Content, NO_END, Patch};
@@ -34,7 +35,7 @@ fn first_poke(timeline: &Timeline, address: u32) -> u32
 }
 
 /// The step of the next request of a level above one, or no end.
-fn next_request(timeline: &Timeline, level: u32, after: u32) -> u32
+fn next_request(timeline: &Timeline, level: Level, after: u32) -> u32
     ensures { result ≡ next_request level after timeline.now }
 {
     timeline.next_request(level, after).unwrap_or(NO_END)
@@ -204,17 +205,15 @@ pub(crate) fn request_patches<const NW: usize, const PAGES: usize>(
     alloc: Global,
     timeline: &Timeline,
     step: u32,
-    level: u32,
+    level: Level,
 ) -> Result<Vec<Patch>, AllocError>
-    requires some { 1 ≤ level }
-    requires most { level ≤ 15 }
     ensures changes { IfOk result (λ v. changes_of NW PAGES v.items ≡ request_changes NW PAGES step level timeline.now) }
     ensures patches { IfOk result (λ v. All (IsPatch PAGES) v.items) }
 {
     let mut patches = Vec::new(alloc);
     if !timeline.has_request(step, level) {
         patches.push(Patch {
-            cell: Cell::Level(level),
+            cell: Cell::Level(level.number()),
             from: step,
             to: next_request(timeline, level, step),
             cause: Cause::Poke(Content::Pending(true)),
@@ -228,17 +227,15 @@ pub(crate) fn clear_request_patches<const NW: usize, const PAGES: usize>(
     alloc: Global,
     timeline: &Timeline,
     step: u32,
-    level: u32,
+    level: Level,
 ) -> Result<Vec<Patch>, AllocError>
-    requires some { 1 ≤ level }
-    requires most { level ≤ 15 }
     ensures changes { IfOk result (λ v. changes_of NW PAGES v.items ≡ clear_request_changes NW PAGES step level timeline.now) }
     ensures patches { IfOk result (λ v. All (IsPatch PAGES) v.items) }
 {
     let mut patches = Vec::new(alloc);
     if timeline.has_request(step, level) {
         patches.push(Patch {
-            cell: Cell::Level(level),
+            cell: Cell::Level(level.number()),
             from: step,
             to: next_request(timeline, level, step),
             cause: Cause::Uncover,

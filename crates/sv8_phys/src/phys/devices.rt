@@ -14,7 +14,7 @@ use crate::size::Size;
 use crate::timer::Timer;
 use crate::touch::{NoTouches, Touches};
 use std::alloc::AllocError;
-use sv8_model::Touch;
+use sv8_model::{Level, Touch};
 
 /// The console's input, a load of which takes the oldest waiting byte.
 pub const INPUT: u64 = 0x8000_0000;
@@ -36,9 +36,6 @@ pub const PENDING: u64 = 0x8000_001c;
 
 /// The interrupt levels that there are, from 1 to 15, bit l for level l.
 const EVERY_LEVEL: u16 = 0xfffe;
-
-/// The level that the timer requests where it expires.
-const TIMER_LEVEL: u32 = 10;
 
 impl<const PAGES: usize> Phys<PAGES> {
     /// A step of the timer: a count above 0 falls by one; where it thereby reaches 0, level 10 becomes pending, and the
@@ -204,7 +201,7 @@ impl<const PAGES: usize> Phys<PAGES> {
         ensures quiet { OnErr result (T.KEEPS ≡ true) }
     {
         notes.note(Touch::Expiry)?;
-        self.pending.request(TIMER_LEVEL);
+        self.pending.request(Level::of_timer());
         self.timer.count = self.timer.reload;
         Ok(())
     }

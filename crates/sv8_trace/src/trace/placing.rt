@@ -12,6 +12,7 @@ ghost use Rattle.sv8_trace.specs.Recording.{Recording, blank, no_interval, recor
 ghost use Rattle.sv8_trace.specs.Prepared.{placed_pages, placed_levels, prepared_trace, IsPreparedFor, IsPageColumn};
 ghost use Rattle.sv8_trace.specs.Placing.{with_ram_page, with_level, placed_pages_in, placed_levels_in, with_kept, AreSound};
 
+use crate::cell::level_numbered;
 use crate::column::{LevelColumn, PageColumn};
 use crate::interval::Interval;
 use crate::kept::KeptList;
@@ -51,7 +52,7 @@ fn put_level<const NW: usize, const PAGES: usize>(
     ensures placed { point.new ≡ with_level level pending point.old }
     ensures contents { AreContents PAGES point.new.memory }
 {
-    point.set_pending(level, pending);
+    point.set_pending(level_numbered(level), pending);
     let _size = point.ram_size();
 }
 

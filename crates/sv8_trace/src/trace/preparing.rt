@@ -16,7 +16,7 @@ ghost use Rattle.sv8_trace.specs.Recording.{Recording, blank, no_interval, recor
 ghost use Rattle.sv8_trace.specs.Prepared.{list_at, placed, prepared_trace, IsPreparedFor, IsPageColumn, Near};
 ghost use Rattle.sv8_trace.specs.Patching.{IsFirstWrite, KeptPut, PointsSet, RaisedAt};
 
-use crate::cell::{Cell, Content};
+use crate::cell::{Cell, Content, level_numbered};
 use crate::column::LevelColumn;
 use crate::kept::KeptList;
 use crate::marks::PAGE_SIZE;
@@ -26,6 +26,7 @@ use crate::prepared::{Prepared, Staged};
 use crate::runs::PageRuns;
 use crate::trace::{NO_END, Trace};
 use std::alloc::{AllocError, Global};
+use sv8_model::Level;
 
 /// How many interrupt levels there are, with level 0, which is none.
 const LEVELS: usize = 16;
@@ -167,11 +168,10 @@ impl<const NW: usize, const PAGES: usize, const K: u32> Trace<NW, PAGES, K> {
     fn gather_levels(
         &self,
         alloc: Global,
-        level: u32,
+        level: Level,
         count: usize,
     ) -> Result<LevelColumn, AllocError>
-        requires level { level ≤ 15 }
-        requires count { count ≤ length self.now.points }
+        requires { count ≤ length self.now.points }
         ensures { IfOk result (λ c. c ≡ map (λ s. slice_index_or s.memory.pending level false) (take count self.now.points)) }
     {
         let mut column = LevelColumn::new(alloc);
@@ -251,7 +251,7 @@ impl<const NW: usize, const PAGES: usize, const K: u32> Trace<NW, PAGES, K> {
         let place = level as usize;
         let mut column = match staged.levels[place].take() {
             Some(column) => column,
-            None => self.gather_levels(alloc, level, staged.count + 1)?,
+            None => self.gather_levels(alloc, level_numbered(level), staged.count + 1)?,
         };
         column.set(low, end, pending);
         staged.levels[place] = Some(column);

@@ -10,4 +10,4 @@ returns g c =
     let cwp_in : c.args.regs.now.cwp < g.row.NW = rw cwp_is c.regs.invariant.0 in
     let globals_are = ap (λ (s : Registers). length s.globals) (sym c.regs.view_is) in
     let ring_is = ap (λ (s : Registers). length s.ring) (sym c.regs.view_is) in
-    read_written g.row.NW c.args.regs.now c.regs.invariant.1 cwp_in c.args.r c.args.value c.requires.not_zero c.requires.register (globals_are ∙ c.regs.invariant.6) (ring_is ∙ length-flat g.row.NW c.regs.inside.rows)
+    read_written g.row.NW c.args.regs.now c.regs.invariant.1 cwp_in c.args.r c.args.value c.requires.not_zero c.requires.register (globals_are ∙ c.regs.invariant.5) (ring_is ∙ length-flat g.row.NW c.regs.inside.rows)

@@ -20,7 +20,7 @@ invariant_of-self-2 g c =
     let steps = c.recorded-recorded.ensures.steps in
     let few : recorded k s.trace ≤ 1000000 = omega (arith, bound, steps) in
     let shown : c.deref.result.now ≡ c.in_ok-patches.patches.items = search rules in
-    let law = clear_request_edits g.row.NW g.row.PAGES s.source s.timeline (can g.row.NW g.row.PAGES k inv.4 s.source s.timeline s.trace s.work inv.8 inv.3 c.limit-limit.ensures.timeline inv.7) c.args.step c.args.level (let p = clear_request_level c.args.step s.timeline c.args.level c.in_ok-check_clear_request.ensures.ok in p.0) (let p = clear_request_level c.args.step s.timeline c.args.level c.in_ok-check_clear_request.ensures.ok in p.1) in (
+    let law = clear_request_edits g.row.NW g.row.PAGES s.source s.timeline (can g.row.NW g.row.PAGES k inv.4 s.source s.timeline s.trace s.work inv.8 inv.3 c.limit-limit.ensures.timeline inv.7) c.args.step c.args.level (let p = clear_request_level c.args.step s.timeline c.args.level c.in_ok-checked.ensures.ok in p.0) (let p = clear_request_level c.args.step s.timeline c.args.level c.in_ok-checked.ensures.ok in p.1) in (
       inv.0,
       inv.1,
       inv.2,
@@ -31,7 +31,7 @@ invariant_of-self-2 g c =
       ap (λ (t : Schedule). t.limit) is ∙ inv.7,
       subst (λ t. IsRun k (record { kept = record { windows = g.row.NW; pages = g.row.PAGES; source = s.source; timeline = t }; recording = c.commit.new.self; worked = s.work })) (sym is)
           (edited_run g.row.NW g.row.PAGES k inv.4 s.source s.timeline s.trace s.work inv.8 inv.3 c.limit-limit.ensures.timeline inv.7 few s.source (without_request c.args.step c.args.level s.timeline) (clear_request_changes g.row.NW g.row.PAGES c.args.step c.args.level s.timeline) law
-          c.deref.result.now (ap (changes_of g.row.NW g.row.PAGES) shown ∙ c.in_ok-patches.ensures.changes) c.in_ok-prepared.prepared c.commit.new.self c.in_ok-prepared.ensures.prepared c.commit.ensures),
+          c.deref.result.now (ap (changes_of g.row.NW g.row.PAGES) shown ∙ c.in_ok-patches.ensures.changes ∙ ap (λ l. clear_request_changes g.row.NW g.row.PAGES c.args.step l s.timeline) c.in_ok-checked.ensures.level) c.in_ok-prepared.prepared c.commit.new.self c.in_ok-prepared.ensures.prepared c.commit.ensures),
     )
 
 pub returns-clause-edited : goal.returns-clause-edited
@@ -44,10 +44,10 @@ returns-clause-edited g c =
     let steps = c.recorded-recorded.ensures.steps in
     let few : recorded k s.trace ≤ 1000000 = omega (arith, bound, steps) in
     let shown : c.deref.result.now ≡ c.in_ok-patches.patches.items = search rules in
-    let law = clear_request_edits g.row.NW g.row.PAGES s.source s.timeline (can g.row.NW g.row.PAGES k inv.4 s.source s.timeline s.trace s.work inv.8 inv.3 c.limit-limit.ensures.timeline inv.7) c.args.step c.args.level (let p = clear_request_level c.args.step s.timeline c.args.level c.in_ok-check_clear_request.ensures.ok in p.0) (let p = clear_request_level c.args.step s.timeline c.args.level c.in_ok-check_clear_request.ensures.ok in p.1) in
+    let law = clear_request_edits g.row.NW g.row.PAGES s.source s.timeline (can g.row.NW g.row.PAGES k inv.4 s.source s.timeline s.trace s.work inv.8 inv.3 c.limit-limit.ensures.timeline inv.7) c.args.step c.args.level (let p = clear_request_level c.args.step s.timeline c.args.level c.in_ok-checked.ensures.ok in p.0) (let p = clear_request_level c.args.step s.timeline c.args.level c.in_ok-checked.ensures.ok in p.1) in
     subst (λ w. IsEdited k (with_timeline (without_request c.args.step c.args.level w.kept.timeline) w.kept) w (record { kept = record { windows = g.row.NW; pages = g.row.PAGES; source = s.source; timeline = c.clear_request.new.self }; recording = c.commit.new.self; worked = s.work })
     (clear_request_changes w.kept.windows w.kept.pages c.args.step c.args.level w.kept.timeline)) c.self.view_is
     (subst (λ t. IsEdited k (record { windows = g.row.NW; pages = g.row.PAGES; source = s.source; timeline = without_request c.args.step c.args.level s.timeline }) (old g.row.NW g.row.PAGES k inv.4 s.source s.timeline s.trace s.work)
     (record { kept = record { windows = g.row.NW; pages = g.row.PAGES; source = s.source; timeline = t }; recording = c.commit.new.self; worked = s.work }) (clear_request_changes g.row.NW g.row.PAGES c.args.step c.args.level s.timeline)) (sym is)
     (edited_is g.row.NW g.row.PAGES k inv.4 s.source s.timeline s.trace s.work inv.8 inv.3 c.limit-limit.ensures.timeline inv.7 few s.source (without_request c.args.step c.args.level s.timeline) (clear_request_changes g.row.NW g.row.PAGES c.args.step c.args.level s.timeline) law
-    c.deref.result.now (ap (changes_of g.row.NW g.row.PAGES) shown ∙ c.in_ok-patches.ensures.changes) c.in_ok-prepared.prepared c.commit.new.self c.in_ok-prepared.ensures.prepared c.commit.ensures))
+    c.deref.result.now (ap (changes_of g.row.NW g.row.PAGES) shown ∙ c.in_ok-patches.ensures.changes ∙ ap (λ l. clear_request_changes g.row.NW g.row.PAGES c.args.step l s.timeline) c.in_ok-checked.ensures.level) c.in_ok-prepared.prepared c.commit.new.self c.in_ok-prepared.ensures.prepared c.commit.ensures))

@@ -6,12 +6,14 @@ use Rattle.sv8_phys.proofs.levels.Pending.request.Goals as goal
 
 pub invariant_of-self : goal.invariant_of-self
 invariant_of-self c =
-    ap (λ n. bit (bit_or c.self.inside.levels n) 0) (shifted_one c.args.level c.requires.high) ∙ requested_zero c.self.inside.levels c.args.level c.requires.low c.self.invariant
+    let level = c.number.result in
+    ap (λ n. bit (bit_or c.self.inside.levels n) 0) (shifted_one level c.number.ensures.most) ∙ requested_zero c.self.inside.levels level c.number.ensures.some c.self.invariant
 
 pub returns-clause-value : goal.returns-clause-value
 returns-clause-value c =
-    ap (λ n. levels_of_word (bit_or c.self.inside.levels n)) (shifted_one c.args.level c.requires.high) ∙ requested c.self.inside.levels c.args.level (omega arith)
-    ∙ ap (λ ps. set ps c.args.level true) c.self.view_is
+    let level = c.number.result in
+    ap (λ n. levels_of_word (bit_or c.self.inside.levels n)) (shifted_one level c.number.ensures.most) ∙ requested c.self.inside.levels level (omega (arith, c.number.ensures.most))
+    ∙ ap (λ ps. set ps level true) c.self.view_is ∙ ap (λ l. set c.args.self.now l true) c.number.ensures.value
 
 pub returns-clause-shape : goal.returns-clause-shape
-returns-clause-shape c = are_levels (bit_or c.self.inside.levels (1 * 2 ^ c.args.level % 65536)) (invariant_of-self c)
+returns-clause-shape c = are_levels (bit_or c.self.inside.levels (1 * 2 ^ c.number.result % 65536)) (invariant_of-self c)

@@ -1,4 +1,4 @@
-use Rattle.std.proofs.Common.{◌≡◌, ℕ, ◌+◌, ◌<◌, ◌≤◌, ◌&&◌, false, cond, leb, ltb, Some, None, length, get_or, set, ap, sym, ◌∙◌, arith, refl}
+use Rattle.std.proofs.Common.{◌≡◌, ℕ, ◌+◌, ◌<◌, ◌≤◌, ◌&&◌, false, cond, leb, ltb, Some, None, length, get_or, set, map, take, ap, sym, ◌∙◌, arith, refl}
 use Rattle.std.specs.Vec.{with_item}
 use Rattle.sv8_trace.specs.Recording.{Recording, blank}
 use Rattle.sv8_trace.specs.Prepared.{placed_levels}
@@ -21,7 +21,7 @@ has_level g c i h =
     elim c.match-take.branch [
       | in-Some w ↦ sym (level_of g.row.PAGES i c.args.level c.args.self.now c.args.staged.now (get_or c.args.self.now.points i blank) contents c.requires.level (Some c.match-take.column)
           (slot_is c.args.staged.now.levels.items c.args.level c.index_mut.result.now (Some c.match-take.column) place c.index_mut.ensures.value (sym c.take.ensures.value ∙ w.in-Some.is ∙ ap Some (sym w.column-is))))
-      | in-None+in_ok-column-in-None w ↦ gathered_level c.args.level (c.args.staged.now.count + 1) i c.args.self.now.points c.match-take.column (w.column-is ∙ w.in_ok-column-in-None.ensures) (omega arith) (omega (arith, fits.count, count, length_points, inv.5))
+      | in-None+in_ok-column-in-None w ↦ gathered_level c.args.level (c.args.staged.now.count + 1) i c.args.self.now.points c.match-take.column (w.column-is ∙ w.in_ok-column-in-None.ensures ∙ ap (λ l. map (λ s. get_or s.memory.pending l false) (take (c.args.staged.now.count + 1) c.args.self.now.points)) w.level_numbered.ensures) (omega arith) (omega (arith, fits.count, count, length_points, inv.5))
           ∙ sym (level_of g.row.PAGES i c.args.level c.args.self.now c.args.staged.now (get_or c.args.self.now.points i blank) contents c.requires.level None
           (slot_is c.args.staged.now.levels.items c.args.level c.index_mut.result.now None place c.index_mut.ensures.value (sym c.take.ensures.value ∙ w.in-None.is)))
     ]
