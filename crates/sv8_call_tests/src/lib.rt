@@ -1,6 +1,7 @@
-//! Tests of the calls of crates below the commands: lines, statements and sources, translations and probes, which instructions have a way of their
-//! own, what a machine has put out, and the workbench with its edits and its recorded run. These stand here, and not in the crates that they test, as
-//! each crate with tests is proved twice.
+//! Tests of the calls of crates below the commands: lines, statements and sources, translations and probes, which
+//! instructions have a way of their own, what a machine has put out and what is seen of its steps, and the workbench
+//! with its edits and its recorded run. These stand here, and not in the crates that they test, as each
+//! crate with tests is proved twice.
 #![tactic(auto)]
 
 #[cfg(test)]
@@ -17,5 +18,7 @@ mod sources;
 mod statements;
 #[cfg(test)]
 mod translation;
+#[cfg(test)]
+mod watching;
 #[cfg(test)]
 mod workbench;
