@@ -9,7 +9,8 @@ ghost use Rattle.sv8_phys.specs.Contents.{AreContents};
 ghost use Rattle.sv8_phys.specs.Pieces.{piece_of};
 ghost use Rattle.sv8_cpu.specs.State.{waiting};
 
-use crate::machine::{Machine, Parts};
+use crate::machine::Machine;
+use crate::parts::Parts;
 use std::alloc::{AllocError, Global};
 use sv8_mmu::Mmu;
 use sv8_model::Level;

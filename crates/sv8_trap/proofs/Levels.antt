@@ -26,13 +26,18 @@ highest_small (suc l) word = go (bit word (suc l)) (highest_small l word) where
   go true small = omega arith
   go false small = omega (arith, small)
 
+none_is_some : {l : ℕ} → None ≡ Some l → ⊥
+none_is_some e = cc
+
+suc_tells : (n : ℕ) → (suc n == 0) ≡ false
+suc_tells n = grind (arith, nat_tests)
+
 -- a number up to 15 that is of no level is 0
 zero_alone : (n : ℕ) → n ≤ 15 → None ≡ level_of n → (n == 0) ≡ true
 zero_alone zero small e = refl
 zero_alone (suc n) small e =
     let h : is_level (suc n) ≡ true = grind (arith, nat_tests) in
-    let f : None {A = ℕ} ≡ Some (suc n) = rw h at e in
-    absurd cc
+    absurd (none_is_some (rw h at e))
 
 -- where the highest level is of no level, a word has none
 pub none_is_highest : (word : ℕ) → None ≡ level_of (highest word) → (highest word == 0) ≡ true
@@ -43,7 +48,7 @@ numbered : (n l : ℕ) → Some l ≡ level_of n → ((n == 0) ≡ false) × (n 
 numbered zero l e = absurd cc
 numbered (suc n) l e = go (is_level (suc n)) e where
   go : (b : Bool) → Some l ≡ (if b then Some (suc n) else None) → ((suc n == 0) ≡ false) × (suc n ≡ l)
-  go true f = (refl, cc)
+  go true f = (suc_tells n, cc)
   go false f = absurd cc
 
 -- the level of the highest number of a word is that number
