@@ -1,5 +1,5 @@
 -- The parts of a step, one after another.
-use Rattle.std.proofs.Common.{◌≡◌, ℕ, Bool, true, false, MatchBool, MatchOption, Option, Some, None, List, [], ◌∷◌, ◌==◌, refl, ap, sym, ◌∙◌, subst}
+use Rattle.std.proofs.Common.{◌≡◌, ℕ, Bool, true, false, MatchBool, MatchOption, Option, Some, None, List, [], ◌∷◌, refl, sym, ◌∙◌, subst}
 use Rattle.sv8_isa.specs.declared.instr.Instr.{Instr}
 use Rattle.sv8_isa.specs.declared.instr.Instr.TheVariants.{Memory}
 use Rattle.sv8_isa.specs.declared.instr.MemoryOp.{MemoryOp}
@@ -7,20 +7,16 @@ use Rattle.sv8_isa.specs.declared.instr.Operand.{Operand}
 use Rattle.sv8_isa.specs.Table.{meaning}
 use Rattle.sv8_model.specs.Outside.{Outside}
 use Rattle.sv8_model.specs.Action.{done, ask_levels, observe}
-use Rattle.sv8_model.specs.Levels.{level_of}
 use Rattle.sv8_model.specs.Does.{Does, Keeps, Notes, noting}
-use Rattle.sv8_model.proofs.Common.{does_then, does_done, does_observe, does_if_true, does_if_false, noting_none}
+use Rattle.sv8_model.proofs.Common.{does_then, does_done, does_observe, does_if_true, noting_none}
 use Rattle.sv8_phys.specs.declared.timer.Timer.{Timer}
 use Rattle.sv8_phys.specs.Contents.{outside_of}
 use Rattle.sv8_phys.specs.Devices.{tick}
 use Rattle.sv8_phys.specs.Memory.{ram_size}
 use Rattle.sv8_trap.specs.declared.table.Trap.{Trap}
-use Rattle.sv8_trap.specs.declared.table.Trap.TheVariants.{Interrupt}
 use Rattle.sv8_trap.specs.Table.{taken}
 use Rattle.sv8_trap.specs.Processor.{Processor}
-use Rattle.sv8_trap.specs.Interrupt.{unmasked, highest}
-use Rattle.sv8_trap.specs.Entry.{interrupted}
-use Rattle.sv8_trap.proofs.Levels.{none_is_highest, one_is_highest}
+use Rattle.sv8_trap.specs.Interrupt.{unmasked}
 use Rattle.sv8_iu.specs.declared.request.AccessRequest.{AccessRequest}
 use Rattle.sv8_iu.specs.declared.request.AccessRequest.TheVariants.{Nothing, Fetch}
 use Rattle.sv8_iu.specs.declared.request.Response.{Response}
@@ -31,7 +27,7 @@ use Rattle.sv8_cpu.specs.Access.{access}
 use Rattle.sv8_iu.specs.Operands.{sum_of_sources}
 use Rattle.sv8_iu.specs.Memory.{memory_traps, access_of}
 use Rattle.sv8_iu.specs.Instruction.{raised, asked, trapped, data_space, IsPlain}
-use Rattle.sv8_cpu.specs.Step.{Inner, trap_seen, refusal_seen, observed_trap, answered, finished_access, executed, carried_out, fetched, instruction, continued, requested, interruptible, with_timer, awake}
+use Rattle.sv8_cpu.specs.Step.{Inner, trap_seen, refusal_seen, observed_trap, answered, finished_access, executed, carried_out, fetched, instruction, requested, interruptible, with_timer, awake}
 use Rattle.sv8_cpu.specs.Whole.{inner_of_parts, MayCarryOut}
 
 -- a trap is seen, and then something is there
@@ -103,21 +99,6 @@ module _ (keeps : Keeps) (windows limit : ℕ) (m : Inner) where
     interruptible_by levels word on e h k =
         does_if_true keeps m.processor.registers.psr.et _ _ o o2 y ns ns2 on
         (does_then keeps (ask_levels (unmasked m.processor.registers.psr.pil) (λ w. done w)) (requested windows limit m) o o1 o2 word y ns ns1 ns2 (rw (← e) h) k)
-
-    -- where none of the levels is taken, the program goes on
-    pub requested_by_none : (word : ℕ) → None ≡ level_of (highest word) → Does keeps (continued windows limit m) o o2 y ns ns2 → Does keeps (requested windows limit m word) o o2 y ns ns2
-    unfolding requested
-    requested_by_none word e h = does_if_true keeps (highest word == 0) _ _ o o2 y ns ns2 (none_is_highest word e) h
-
-    -- the highest of the levels is taken
-    pub requested_by_level : (word l : ℕ) → Some l ≡ level_of (highest word) → ns2 ≡ noting keeps ns [] (trap_seen (Interrupt l) ∷ [])
-        → y ≡ record m { processor = interrupted windows m.processor l } → Does keeps (requested windows limit m word) o o y ns ns2
-    unfolding requested
-    requested_by_level word l e see f =
-        let h = one_is_highest word l e in
-        does_if_false keeps (highest word == 0) _ _ o o y ns ns2 h.0
-        (does_trap keeps (Interrupt (highest word)) (record m { processor = interrupted windows m.processor (highest word) }) y o ns ns2
-        (see ∙ ap (λ n. noting keeps ns [] (trap_seen (Interrupt n) ∷ [])) (sym h.1)) (f ∙ ap (λ n. record m { processor = interrupted windows m.processor n }) (sym h.1)))
 
     -- the timer's step, and what follows
     pub awake_by : (timer : Timer) (next : Inner) → next ≡ with_timer m timer → Does keeps (tick m.units.timer) o o1 timer ns ns1 → Does keeps (interruptible windows limit next) o1 o2 y ns1 ns2

@@ -211,7 +211,7 @@ impl<const NW: usize, const PAGES: usize> Parts<NW, PAGES> {
 
     /// Enters the handler of the highest of these levels; where there is none, the program goes on.
     #[inline(always)]
-    #[tactic(auto, unfolding(crate::specs::Step::requested))]
+    #[tactic(auto, using(crate::proofs::Steps::does_trap), unfolding(crate::specs::Step::requested))]
     fn serve<T: Touches>(
         &mut self,
         levels: u32,

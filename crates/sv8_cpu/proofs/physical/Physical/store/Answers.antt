@@ -10,3 +10,6 @@ returns-clause-ok g c = λ bytes. plain_store _ _ _ _ _ _ _ _ _ _ _ _ _ _ _ _ (r
 pub returns-clause-page : goal.returns-clause-page
 returns-clause-page g c =
     subst (λ m. DiffersInPage (c.args.pa / 4096) c.args.self.now.phys.ram m.ram) (sym c.store_answer.ensures.memory) (stored_in_page _ _ _ _ c.args.pa _ _ _ _ _ _ c.requires (c.in_ok-answer.ensures.ok []))
+
+pub returns-in_err-show-clause-page : goal.returns-in_err-show-clause-page
+returns-in_err-show-clause-page g c = stored_in_page _ _ _ _ c.args.pa _ _ _ _ _ _ c.requires (c.in_ok-answer.ensures.ok [])
