@@ -6,6 +6,7 @@ ghost use Rattle.sv8_model.specs.Outside.{word_of};
 ghost use Rattle.sv8_time.specs.Schedule.{bytes_below};
 ghost use Rattle.sv8_phys.specs.Memory.{ram_size, page_of, with_page};
 ghost use Rattle.sv8_phys.specs.Contents.{AreContents};
+ghost use Rattle.sv8_phys.specs.Ends.{IsEnd};
 ghost use Rattle.sv8_phys.specs.Pieces.{piece_of};
 ghost use Rattle.sv8_cpu.specs.State.{waiting};
 
@@ -14,7 +15,7 @@ use crate::parts::Parts;
 use std::alloc::{AllocError, Global};
 use sv8_mmu::Mmu;
 use sv8_model::Level;
-use sv8_phys::{Page, StepTouches, Timer};
+use sv8_phys::{OutputPlace, Page, StepTouches, Timer};
 use sv8_regs::Regs;
 use sv8_time::Timeline;
 
@@ -102,6 +103,13 @@ impl<const NW: usize, const PAGES: usize> Machine<NW, PAGES> {
         ensures { IfOk result (λ v. v.items ≡ self.now.memory.output) }
     {
         self.parts.memory.phys().output(alloc)
+    }
+
+    /// The place in the output of the next byte that is put out at the console.
+    pub fn output_end(&self) -> OutputPlace
+        ensures { IsEnd self.now.memory.output result }
+    {
+        self.parts.memory.phys().output_end()
     }
 
     /// The bytes put out at the console so far, read where they lie: those from 4,096 * `index` on, at most 4,096 of them. `None`

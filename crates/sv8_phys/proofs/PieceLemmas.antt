@@ -1,5 +1,5 @@
 -- Pieces of bytes in chunks.
-use Rattle.std.proofs.Common.{inl, inr, ◌≡◌, ◌≢◌, refl, ap, ap₂, sym, ◌∙◌, arith, ℕ, zero, suc, ◌+◌, ◌-◌, ◌*◌, ◌<◌, ◌≤◌, List, [], ◌∷◌, ◌++◌, length, take, drop, get_or, Option, Some, None, length-append}
+use Rattle.std.proofs.Common.{inl, inr, ◌≡◌, ◌≢◌, refl, ap, ap₂, sym, ◌∙◌, arith, ℕ, zero, suc, ◌+◌, ◌-◌, ◌*◌, ◌<◌, ◌≤◌, List, [], ◌∷◌, ◌++◌, length, take, drop, get_or, Option, Some, None, length-append, subst}
 use Rattle.std.proofs.lemmas.Bool.{cases_lt}
 use Rattle.std.proofs.lemmas.Bool.Decides.{nat_tests}
 use Rattle.std.proofs.lemmas.List.{append_assoc, append-nil, length-take-le, take_all, drop_all}
@@ -9,6 +9,7 @@ use Rattle.std.specs.declared.alloc.Global.{Global}
 use Rattle.sv8_phys.specs.declared.chunk.Chunk.{Chunk}
 use Rattle.sv8_phys.specs.declared.output.Tail.{Tail}
 use Rattle.sv8_phys.specs.Chunks.{chunk_bytes, tail_bytes, output_bytes, IsFilled, IsWithin}
+use Rattle.sv8_phys.specs.Ends.{IsEnd}
 use Rattle.sv8_phys.specs.Pieces.{piece_of, bytes_of_piece, pieces_below}
 use Rattle.sv8_phys.specs.Laws.{PiecesAreTheOutput}
 
@@ -125,3 +126,45 @@ pieces_are_output = record {
   ];
   ends = λ bytes. piece_past bytes (length bytes) (omega arith);
 }
+
+-- ---- the end
+
+pub chunks_length : (chunks : List (Rc Chunk Global)) → length (chunk_bytes chunks) ≡ 4096 * length chunks
+chunks_length [] = refl
+chunks_length (c ∷ chunks) =
+    let rest = chunks_length chunks in
+    let whole = length-append c.value.bytes (chunk_bytes chunks) in
+    let full = c.value.full in
+    omega (arith, whole, full, rest)
+
+pub output_length : (chunks : List (Rc Chunk Global)) (tail : Tail) → IsFilled tail → length (output_bytes chunks (Some tail)) ≡ 4096 * length chunks + tail.count
+output_length chunks tail h =
+    let count = filled_length tail h in
+    let full = chunks_length chunks in
+    let whole = length-append (chunk_bytes chunks) (tail_bytes tail) in
+    omega (arith, count, full, whole)
+
+module _ (chunks : List (Rc Chunk Global)) (t : Option Tail) (size : ℕ) (bytes : List ℕ) (h : IsWithin t) (sized : size ≡ length chunks) (is : output_bytes chunks t ≡ bytes) where
+  pub end_of_chunks : t ≡ None → IsEnd bytes (record { piece = size; place = 0 })
+  end_of_chunks e =
+      let all : length (output_bytes chunks t) ≡ length (chunk_bytes chunks) = ap (λ x. length (output_bytes chunks x)) e in
+      let full = chunks_length chunks in
+      let whole = ap length is in
+      record { all = omega (arith, all, full, whole, sized); inside = omega arith }
+
+  filled : (tail : Tail) → t ≡ Some tail → IsFilled tail
+  filled tail e = subst IsWithin e h
+
+  tail_and_chunks : (tail : Tail) → t ≡ Some tail → length bytes ≡ 4096 * length chunks + tail.count
+  tail_and_chunks tail e = ap length (sym is) ∙ ap (λ x. length (output_bytes chunks x)) e ∙ output_length chunks tail (filled tail e)
+
+  pub end_of_tail : (tail : Tail) → t ≡ Some tail → tail.count < 4096 → IsEnd bytes (record { piece = size; place = tail.count })
+  end_of_tail tail e room =
+      let whole = tail_and_chunks tail e in
+      record { all = omega (arith, whole, sized); inside = room }
+
+  pub end_of_full_tail : (tail : Tail) → t ≡ Some tail → 4096 ≤ tail.count → IsEnd bytes (record { piece = size + 1; place = 0 })
+  end_of_full_tail tail e full =
+      let whole = tail_and_chunks tail e in
+      let f = filled tail e in
+      record { all = omega (arith, whole, sized, f.1, full); inside = omega arith }

@@ -3,6 +3,7 @@ pub mod Memory
 pub mod Pages
 pub mod Chunks
 pub mod Pieces
+pub mod Ends
 pub mod Pending
 pub mod Contents
 pub mod Devices

@@ -15,8 +15,10 @@ mod step_touches;
 mod tests;
 mod timer;
 mod touch;
+mod watch;
 
 pub use fault::BusError;
+pub use output::OutputPlace;
 pub use page::Page;
 pub use phys::{INPUT, OUTPUT, PENDING, Phys, TIMER_COUNT, TIMER_RELOAD, WAITING};
 pub use size::Size;
@@ -24,3 +26,4 @@ pub use step_touches::StepTouches;
 pub use sv8_model::{AccessKind, Observation, Touch};
 pub use timer::Timer;
 pub use touch::{NoTouches, Touches};
+pub use watch::Watch;

@@ -2,12 +2,20 @@
 
 ghost use Rattle.std.specs.Prelude.{◌≡◌, ℕ, ◌+◌, ◌<◌, ◌≤◌, List, [], ◌∷◌, ◌++◌, option_map, IfOk, OnOk, OnErr};
 ghost use Rattle.sv8_phys.specs.Chunks.{chunk_bytes, tail_bytes, output_bytes, IsFilled};
+ghost use Rattle.sv8_phys.specs.Ends.{IsEnd};
 ghost use Rattle.sv8_phys.specs.Pieces.{piece_of};
 
 use crate::chunk::{CHUNK_BYTES, Chunk, write};
 use std::alloc::{AllocError, Global};
 use std::marker::Model;
 use std::rc::Rc;
+
+/// A place in the console's output: the index of a piece of 4,096 bytes, and a place in it.
+#[derive(Clone, Copy, PartialEq, Eq, Debug)]
+pub struct OutputPlace {
+    pub piece: usize,
+    pub place: usize,
+}
 
 /// The chunk that is being filled, and how many of its bytes were put out.
 #[derive(Drop)]
@@ -211,6 +219,27 @@ impl Output {
             bytes.extend_from_slice(filled(tail))?;
         }
         Ok(bytes)
+    }
+
+    /// The place of the next byte.
+    pub(crate) fn end(&self) -> OutputPlace
+        ensures { IsEnd self.now result }
+    {
+        let full = self.full.len();
+        match &self.tail {
+            Some(tail) if tail.count < CHUNK_BYTES => OutputPlace {
+                piece: full,
+                place: tail.count,
+            },
+            Some(_) => OutputPlace {
+                piece: full + 1,
+                place: 0,
+            },
+            None => OutputPlace {
+                piece: full,
+                place: 0,
+            },
+        }
     }
 
     /// The bytes from 4,096 * `index` on, at most 4,096 of them; `None` where there are none. It takes no memory.

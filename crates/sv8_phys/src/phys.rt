@@ -6,6 +6,7 @@ ghost use Rattle.sv8_model.specs.Levels.{levels_word};
 ghost use Rattle.sv8_phys.specs.Memory.{ram_size, page_of, with_page};
 ghost use Rattle.sv8_phys.specs.Contents.{empty_contents, AreContents};
 ghost use Rattle.sv8_phys.specs.Pending.{AreLevels};
+ghost use Rattle.sv8_phys.specs.Ends.{IsEnd};
 ghost use Rattle.sv8_phys.specs.Pieces.{piece_of};
 
 mod access;
@@ -13,7 +14,7 @@ mod console;
 mod devices;
 
 use crate::levels::Pending;
-use crate::output::Output;
+use crate::output::{Output, OutputPlace};
 use crate::page::Page;
 use crate::ram::Ram;
 use crate::size::Size;
@@ -172,6 +173,13 @@ impl<const PAGES: usize> Phys<PAGES> {
         ensures { IfOk result (λ v. v.items ≡ self.now.output) }
     {
         self.output.bytes(alloc)
+    }
+
+    /// The place in the output of the next byte that is put out at the console.
+    pub fn output_end(&self) -> OutputPlace
+        ensures { IsEnd self.now.output result }
+    {
+        self.output.end()
     }
 
     /// The bytes put out at the console so far, read where they lie: those from 4,096 * `index` on, at most 4,096 of them. `None`

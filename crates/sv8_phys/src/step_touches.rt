@@ -123,8 +123,8 @@ fn tell_levels<T: Touches>(levels: u16, notes: &mut T) -> Result<(), AllocError>
 }
 
 /// Hands on what is told of some notes.
-#[tactic(auto, using(sv8_model::proofs::Common::kept_append), unfolding(crate::specs::Notes::told))]
-fn tell_all<T: Touches>(from: &[Touch], notes: &mut T) -> Result<(), AllocError>
+#[tactic(auto, using(sv8_model::proofs::Common::noting_then), unfolding(crate::specs::Notes::told))]
+pub(crate) fn tell_all<T: Touches>(from: &[Touch], notes: &mut T) -> Result<(), AllocError>
     ensures ok { OnOk result (T.noted notes.new ≡ noting (keeping T.KEEPS T.OBSERVES) (T.noted notes.old) (told from.now) []) }
     ensures err { OnErr result (T.KEEPS ≡ true) }
 {

@@ -1,0 +1,94 @@
+//! Notes of one step that is watched: all that it touches, and what an observer sees of it.
+
+ghost use Rattle.std.specs.Prelude.{◌≡◌, [], true, OnOk, OnErr};
+ghost use Rattle.sv8_model.specs.Does.{keeping, no_notes, noting};
+ghost use Rattle.sv8_phys.specs.Notes.{told};
+
+use crate::step_touches::tell_all;
+use crate::touch::Touches;
+use std::alloc::{AllocError, Global};
+use std::marker::Model;
+use sv8_model::{Observation, Touch};
+
+/// The notes of one step, in their order. The room that they took stays for the next step.
+#[derive(Drop)]
+pub struct Watch {
+    touches: Vec<Touch>,
+    observations: Vec<Observation>,
+}
+
+impl Model for Watch {
+    ghost use Rattle.sv8_model.specs.Does.{Notes};
+
+    ghost Value = { Notes };
+
+    ghost view = { λ w. record { touches = w.touches.items; observations = w.observations.items } };
+}
+
+impl Touches for Watch {
+    ghost use Rattle.std.specs.Prelude.{Bool, true};
+
+    const KEEPS: bool = true;
+
+    ghost KEEPS = { true };
+
+    ghost OBSERVES = { true };
+
+    ghost noted = { λ w. w };
+
+    fn note(&mut self, touch: Touch) -> Result<(), AllocError> {
+        self.touches.push(touch)?;
+        Ok(())
+    }
+
+    fn observe(&mut self, observation: Observation) -> Result<(), AllocError> {
+        self.observations.push(observation)?;
+        Ok(())
+    }
+}
+
+impl Watch {
+    /// No notes. It takes no memory.
+    pub fn new(alloc: Global) -> Self
+        ensures { result ≡ no_notes }
+    {
+        Watch {
+            touches: Vec::new(alloc),
+            observations: Vec::new(alloc),
+        }
+    }
+
+    /// What was touched, in order.
+    pub fn touches(&self) -> &[Touch]
+        ensures { result.now ≡ self.now.touches }
+    {
+        &self.touches
+    }
+
+    /// What was seen, in order.
+    pub fn observations(&self) -> &[Observation]
+        ensures { result.now ≡ self.now.observations }
+    {
+        &self.observations
+    }
+
+    /// Hands on what the touches of the step tell, as `StepTouches::tell` does. All notes stay.
+    ///
+    /// # Errors
+    ///
+    /// `AllocError` where those that take the notes cannot have memory for them. Some may have been handed on then.
+    pub fn tell<T: Touches>(&self, notes: &mut T) -> Result<(), AllocError>
+        ensures ok { OnOk result (T.noted notes.new ≡ noting (keeping T.KEEPS T.OBSERVES) (T.noted notes.old) (told self.now.touches) []) }
+        ensures err { OnErr result (T.KEEPS ≡ true) }
+    {
+        tell_all(&self.touches, notes)
+    }
+
+    /// Lets all notes go.
+    pub fn clear(&mut self)
+        ensures { self.new ≡ no_notes }
+    {
+        self.touches.clear();
+        self.observations.clear();
+    }
+}

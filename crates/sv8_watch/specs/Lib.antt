@@ -1,0 +1,3 @@
+pub mod Happening
+pub mod Conditions
+pub mod Watched
