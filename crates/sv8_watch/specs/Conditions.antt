@@ -1,6 +1,6 @@
 -- Conditions on a step.
-use Rattle.std.specs.Prelude.{ℕ, ◌+◌, ◌%◌, ◌==◌, ◌&&◌, ◌||◌, Bool, true, false, not, nat_lt, List, slice_index, Option, Some, None, is_some}
-use Rattle.std.specs.List.{list_any, range_with_len}
+use Rattle.std.specs.Prelude.{◌≡◌, ◌≤◌, ℕ, ◌+◌, ◌%◌, ◌==◌, ◌&&◌, ◌||◌, Bool, true, false, not, nat_lt, List, [], ◌∷◌, length, take, drop, slice_index, Option, Some, None, is_some}
+use Rattle.std.specs.List.{list_any}
 use Rattle.sv8_model.specs.declared.touch.Touch.{Touch}
 use Rattle.sv8_model.specs.Footprint.{is_read_of, is_write_of}
 use Rattle.sv8_model.specs.declared.observation.AccessKind.{AccessKind}
@@ -81,9 +81,28 @@ is_touch_of address t = is_read_of address t || is_write_of address t
 abbrev pub is_touched : ℕ → List Touch → Bool
 is_touched address ts = list_any (is_touch_of address) ts
 
+-- one of some bytes is another one than that of RAM, from an address on
+abbrev pub differ_from : List ℕ → ℕ → List ℕ → Bool
+differ_from [] address ram = false
+differ_from (b ∷ bs) address ram = not (b == slice_index ram address) || differ_from bs (address + 1) ram
+
+-- so many bytes from an address on
+abbrev pub bytes_from : ℕ → ℕ → List ℕ → List ℕ
+bytes_from address count ram = take count (drop address ram)
+
 -- one of so many bytes from an address on is another one
 abbrev pub is_changed : ℕ → ℕ → List ℕ → List ℕ → Bool
-is_changed address count ram now = list_any (λ i. not (slice_index ram i == slice_index now i)) (range_with_len address count)
+is_changed address count ram now = differ_from (bytes_from address count ram) address now
+
+-- these are the bytes that a condition compares with those after the step
+abbrev pub AreOld : Condition → List ℕ → State → Type 0
+AreOld (condition.Change address count) old s = old ≡ bytes_from address count s.memory.ram
+AreOld c old s = Unit {0}
+
+-- the bytes that a condition compares lie in RAM
+abbrev pub IsWithin : ℕ → Condition → List ℕ → Type 0
+IsWithin size (condition.Change address count) old = address + length old ≤ size
+IsWithin size c old = Unit {0}
 
 -- ---- a condition
 
@@ -100,7 +119,7 @@ is_met n before after h ts condition.Error = is_error h.outcome
 is_met n before after h ts condition.Input = is_some h.taken
 is_met n before after h ts condition.Output = is_some h.put
 is_met n before after h ts condition.Event = h.event
-is_met n before after h ts (condition.Every number) = n % number == 0
+is_met n before after h ts (condition.Every number) = nat_lt 0 number && n % number == 0
 
 -- step n from a state on meets it
 abbrev pub meets : ℕ → ℕ → Schedule → ℕ → State → Condition → Bool

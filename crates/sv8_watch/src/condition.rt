@@ -1,5 +1,14 @@
 //! Conditions on a step.
 
+ghost use Rattle.std.specs.Prelude.{◌≡◌, ◌≤◌, ◌+◌, List, length};
+ghost use Rattle.sv8_phys.specs.Memory.{ram_size};
+ghost use Rattle.sv8_cpu.specs.State.{State};
+ghost use Rattle.sv8_watch.specs.Conditions.{overlap, loads, stores, accesses, is_interrupt, is_reached, is_trap, is_trap_of, is_error, is_touched, differ_from, is_met, AreOld, IsWithin};
+
+use crate::happening::{Access, Happening, Outcome};
+use sv8_cpu::Machine;
+use sv8_phys::{AccessKind, Touch};
+
 /// A condition on a step. Addresses of memory are physical; `count` bytes from `address` on are meant.
 #[derive(Clone, Copy, PartialEq, Eq, Debug)]
 pub enum Condition {
@@ -27,4 +36,165 @@ pub enum Condition {
     Event,
     /// The step is a multiple of this number.
     Every(u32),
+}
+
+fn loads(kind: AccessKind) -> bool
+    ensures { result ≡ loads kind }
+{
+    match kind {
+        AccessKind::Load | AccessKind::Exchange => true,
+        AccessKind::Store => false,
+    }
+}
+
+fn stores(kind: AccessKind) -> bool
+    ensures { result ≡ stores kind }
+{
+    match kind {
+        AccessKind::Store | AccessKind::Exchange => true,
+        AccessKind::Load => false,
+    }
+}
+
+/// Whether an access has a byte in common with so many bytes from an address on.
+fn covers(access: Access, address: u32, count: u32) -> bool
+    ensures { result ≡ overlap access.pa access.bytes address count }
+{
+    let from = u64::from(address);
+    let end = from + u64::from(count);
+    access.pa < end && (from < access.pa || from - access.pa < access.bytes)
+}
+
+/// Whether an access loaded one of so many bytes from an address on.
+fn loads_any(access: Option<Access>, address: u32, count: u32) -> bool
+    ensures { result ≡ accesses loads address count access }
+{
+    match access {
+        Some(access) => loads(access.kind) && covers(access, address, count),
+        None => false,
+    }
+}
+
+/// Whether an access stored one of so many bytes from an address on.
+fn stores_any(access: Option<Access>, address: u32, count: u32) -> bool
+    ensures { result ≡ accesses stores address count access }
+{
+    match access {
+        Some(access) => stores(access.kind) && covers(access, address, count),
+        None => false,
+    }
+}
+
+fn is_interrupt(tt: u8) -> bool
+    ensures { result ≡ is_interrupt tt }
+{
+    0x10 < tt && tt < 0x20
+}
+
+impl Outcome {
+    /// The instruction at PC was carried out, or trapped itself.
+    pub fn is_reached(self) -> bool
+        ensures { result ≡ is_reached self }
+    {
+        match self {
+            Outcome::Stop | Outcome::Annul => false,
+            Outcome::Error(tt) | Outcome::Trap(tt) => !is_interrupt(tt),
+            Outcome::Run => true,
+        }
+    }
+
+    /// A trap or an interrupt was taken, or ended in error mode.
+    pub fn is_trap(self) -> bool
+        ensures { result ≡ is_trap self }
+    {
+        match self {
+            Outcome::Error(_) | Outcome::Trap(_) => true,
+            Outcome::Stop | Outcome::Annul | Outcome::Run => false,
+        }
+    }
+
+    /// The same of one type (tt).
+    pub fn is_trap_of(self, kind: u8) -> bool
+        ensures { result ≡ is_trap_of kind self }
+    {
+        match self {
+            Outcome::Error(tt) | Outcome::Trap(tt) => tt == kind,
+            Outcome::Stop | Outcome::Annul | Outcome::Run => false,
+        }
+    }
+
+    /// Error mode began.
+    pub fn is_error(self) -> bool
+        ensures { result ≡ is_error self }
+    {
+        match self {
+            Outcome::Error(_) => true,
+            Outcome::Stop | Outcome::Trap(_) | Outcome::Annul | Outcome::Run => false,
+        }
+    }
+}
+
+/// Whether a word was read or written.
+pub fn is_touched(address: u32, touches: &[Touch]) -> bool
+    ensures { result ≡ is_touched address touches.now }
+{
+    touches.iter().any(
+        |touch| matches!(*touch, Touch::Read(word) | Touch::Write(word) if word == address),
+    )
+}
+
+/// Whether one of some bytes is another one than that of RAM, from an address on.
+fn differ<const NW: usize, const PAGES: usize>(
+    old: &[u8],
+    address: u32,
+    machine: &Machine<NW, PAGES>,
+) -> bool
+    requires few_windows { NW ≤ 32 }
+    requires few_pages { PAGES ≤ 65536 }
+    requires within { address + length old.now ≤ ram_size PAGES }
+    ensures { result ≡ differ_from old.now address machine.now.memory.ram }
+{
+    let mut rest = old;
+    let mut at = address;
+    while let [byte, after @ ..] = rest {
+        if *byte != machine.byte(at) {
+            return true;
+        }
+        rest = after;
+        at += 1;
+    }
+    false
+}
+
+impl Condition {
+    /// Whether step n meets the condition. `happening` and `touches` are those of the step, and `after` is the machine
+    /// behind it. `old` are the bytes of a `Change` in front of the step; for other conditions it is not looked at.
+    pub fn is_met<const NW: usize, const PAGES: usize>(
+        self,
+        n: u32,
+        happening: &Happening,
+        touches: &[Touch],
+        old: &[u8],
+        after: &Machine<NW, PAGES>,
+    ) -> bool
+        requires few_windows { NW ≤ 32 }
+        requires few_pages { PAGES ≤ 65536 }
+        requires within { IsWithin (ram_size PAGES) self old.now }
+        ensures { (before : State) → AreOld self old.now before → result ≡ is_met n before after.now happening.now touches.now self }
+    {
+        match self {
+            Condition::Pc(address) => happening.pc == address && happening.outcome.is_reached(),
+            Condition::Load { address, count } => loads_any(happening.access, address, count),
+            Condition::Store { address, count } => stores_any(happening.access, address, count),
+            Condition::Touch(address) => is_touched(address, touches),
+            Condition::Change { address, .. } => differ(old, address, after),
+            Condition::Trap => happening.outcome.is_trap(),
+            Condition::TrapType(tt) => happening.outcome.is_trap_of(tt),
+            Condition::Error => happening.outcome.is_error(),
+            Condition::Input => happening.taken.is_some(),
+            Condition::Output => happening.put.is_some(),
+            Condition::Event => happening.event,
+            Condition::Every(number) => number > 0 && n % number == 0,
+        }
+    }
 }

@@ -5,6 +5,6 @@ mod condition;
 mod happening;
 mod watched;
 
-pub use condition::Condition;
+pub use condition::{Condition, is_touched};
 pub use happening::{Access, Fetch, Happening, Outcome};
-pub use watched::{Before, happening};
+pub use watched::Before;

@@ -1,10 +1,10 @@
 //! What happened, told from a machine before a step, from the machine after it, and from the notes of the step.
 
-ghost use Rattle.std.specs.Prelude.{◌≡◌, ℕ, List};
+ghost use Rattle.std.specs.Prelude.{◌≡◌, ℕ, List, slice_get};
 ghost use Rattle.sv8_phys.specs.Ends.{IsEnd};
 ghost use Rattle.sv8_model.specs.Footprint.{expires};
 ghost use Rattle.sv8_cpu.specs.State.{State};
-ghost use Rattle.sv8_watch.specs.Happening.{fetch_in, access_in, trap_in, outcome_of, byte_taken, byte_put, stands_at, happened};
+ghost use Rattle.sv8_watch.specs.Happening.{fetch_in, access_in, trap_in, outcome_of, byte_taken, byte_put, is_some_of, stands_at, happened};
 ghost use Rattle.sv8_watch.specs.Watched.{IsBefore};
 
 use crate::happening::{Access, Fetch, Happening, Outcome};
@@ -42,53 +42,49 @@ impl Before {
 fn fetch_in(observations: &[Observation]) -> Option<Fetch>
     ensures { result ≡ fetch_in observations.now }
 {
-    let mut rest = observations;
-    while let [first, others @ ..] = rest {
-        if let Observation::Fetch { from, word } = *first {
-            return Some(Fetch { from, word });
-        }
-        rest = others;
+    match observations {
+        [] => None,
+        [first, rest @ ..] => match *first {
+            Observation::Fetch { from, word } => Some(Fetch { from, word }),
+            _ => fetch_in(rest),
+        },
     }
-    None
 }
 
 /// The access that was seen.
 fn access_in(observations: &[Observation]) -> Option<Access>
     ensures { result ≡ access_in observations.now }
 {
-    let mut rest = observations;
-    while let [first, others @ ..] = rest {
-        if let Observation::Access {
-            kind,
-            bytes,
-            va,
-            pa,
-        } = *first
-        {
-            return Some(Access {
+    match observations {
+        [] => None,
+        [first, rest @ ..] => match *first {
+            Observation::Access {
                 kind,
                 bytes,
                 va,
                 pa,
-            });
-        }
-        rest = others;
+            } => Some(Access {
+                kind,
+                bytes,
+                va,
+                pa,
+            }),
+            _ => access_in(rest),
+        },
     }
-    None
 }
 
 /// The type of the trap that was seen.
 fn trap_in(observations: &[Observation]) -> Option<u8>
     ensures { result ≡ trap_in observations.now }
 {
-    let mut rest = observations;
-    while let [first, others @ ..] = rest {
-        if let Observation::Trap(tt) = *first {
-            return Some(tt);
-        }
-        rest = others;
+    match observations {
+        [] => None,
+        [first, rest @ ..] => match *first {
+            Observation::Trap(tt) => Some(tt),
+            _ => trap_in(rest),
+        },
     }
-    None
 }
 
 fn outcome_of(before: Before, runs: bool, trap: Option<u8>) -> Outcome
@@ -133,6 +129,13 @@ fn byte_taken(timeline: &Timeline, before: u32, after: u32) -> Option<u8>
     }
 }
 
+/// The byte at a place.
+fn byte_at(bytes: &[u8], place: usize) -> Option<u8>
+    ensures { result ≡ slice_get bytes.now place }
+{
+    bytes.get(place).copied()
+}
+
 /// The byte that was put out, if one was, by the place that the next byte had before.
 fn byte_put<const NW: usize, const PAGES: usize>(
     after: &Machine<NW, PAGES>,
@@ -141,38 +144,50 @@ fn byte_put<const NW: usize, const PAGES: usize>(
     ensures { (before : List ℕ) → IsEnd before end → result ≡ byte_put before after.now.memory.output }
 {
     match after.output_piece(end.piece) {
-        Some(piece) => piece.get(end.place).copied(),
+        Some(piece) => byte_at(piece, end.place),
         None => None,
     }
 }
 
+fn is_some_of<T>(items: &[T]) -> bool
+    ensures { result ≡ is_some_of items.now }
+{
+    match items {
+        [] => false,
+        [_, ..] => true,
+    }
+}
+
 /// Whether something stands in a timeline at a step.
+#[tactic(auto, using(crate::proofs::Standing::words_stand))]
 fn stands_at(timeline: &Timeline, n: u32) -> bool
     ensures { result ≡ stands_at timeline.now n }
 {
     let events = timeline.events(n);
-    !events.pokes.is_empty() || !events.bytes.is_empty() || !events.requests.is_empty()
+    is_some_of(events.pokes) || (is_some_of(events.bytes) || is_some_of(events.requests))
 }
 
-/// What happened in step n: from what was kept of the machine before it, the machine after it, and the notes of the step.
-pub fn happening<const NW: usize, const PAGES: usize>(
-    n: u32,
-    timeline: &Timeline,
-    before: Before,
-    after: &Machine<NW, PAGES>,
-    watch: &Watch,
-) -> Happening
-    ensures { (s : State) → IsBefore s before → result ≡ happened timeline.now n s after.now watch.now.observations (expires watch.now.touches) }
-{
-    let seen = watch.observations();
-    Happening {
-        pc: before.pc,
-        fetch: fetch_in(seen),
-        outcome: outcome_of(before, after.is_running(), trap_in(seen)),
-        access: access_in(seen),
-        taken: byte_taken(timeline, before.taken, after.taken()),
-        put: byte_put(after, before.put),
-        expired: expires(watch.touches()),
-        event: stands_at(timeline, n),
+impl Happening {
+    /// What happened in step n: from what was kept of the machine before it, the machine after it, and the notes of the step.
+    pub fn of<const NW: usize, const PAGES: usize>(
+        n: u32,
+        timeline: &Timeline,
+        before: Before,
+        after: &Machine<NW, PAGES>,
+        watch: &Watch,
+    ) -> Happening
+        ensures { (s : State) → IsBefore s before → result ≡ happened timeline.now n s after.now watch.now.observations (expires watch.now.touches) }
+    {
+        let seen = watch.observations();
+        Happening {
+            pc: before.pc,
+            fetch: fetch_in(seen),
+            outcome: outcome_of(before, after.is_running(), trap_in(seen)),
+            access: access_in(seen),
+            taken: byte_taken(timeline, before.taken, after.taken()),
+            put: byte_put(after, before.put),
+            expired: expires(watch.touches()),
+            event: stands_at(timeline, n),
+        }
     }
 }
