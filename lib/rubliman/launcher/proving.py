@@ -1,0 +1,161 @@
+"""Proves and builds the programs where nothing kept serves.
+
+Two ways lead there, both the toolchain's own. `rt ci`, on a copy of the needed crates without their must-fail edits, proves crates side by
+side from nothing, and shares what it proves with every `rt ci` on this machine: what the gate proved is taken in seconds, and the gate
+takes what was proved here. `rt run`, in the checkout, proves over what `rt check` kept there, so it is quick after an edit.
+"""
+from __future__ import annotations
+
+import contextlib
+import datetime
+import fcntl
+import os
+import shutil
+import tempfile
+from collections import deque
+from collections.abc import Iterator
+from dataclasses import dataclass
+from pathlib import Path
+
+from . import kept, places, running, schedule, toolchain
+from .kept import Kept, Record
+from .problem import Problem, say
+from .progress import Progress
+from .sources import PROGRAMS, Sources, read_sources
+
+BY_GATE, BY_RUN = "rt ci", "rt run"
+_SHOWN_LINES = 200
+
+
+@dataclass(frozen=True)
+class Asked:
+    """What is to be proved: the sources as they stand, their number, and the toolchain."""
+
+    sources: Sources
+    fingerprint: str
+    rt: str
+    toolchain: str
+
+
+def prove(asked: Asked) -> Kept:
+    """Proves and builds the programs, and keeps them. Waits while another `./sparc8` does so."""
+    with running.interruptible(), _alone() as had_to_wait:
+        found = kept.find(asked.fingerprint, asked.toolchain) if had_to_wait else None
+        return found or _prove(asked)
+
+
+@contextlib.contextmanager
+def _alone() -> Iterator[bool]:
+    """Holds others off, and gives whether it had to wait for one."""
+    places.cache().mkdir(parents=True, exist_ok=True)
+    with (places.cache() / "lock").open("w") as lock:
+        try:
+            fcntl.flock(lock, fcntl.LOCK_EX | fcntl.LOCK_NB)
+            had_to_wait = False
+        except BlockingIOError:
+            say("another ./sparc8 is proving; waiting for it")
+            fcntl.flock(lock, fcntl.LOCK_EX)
+            had_to_wait = True
+        yield had_to_wait
+
+
+def _prove(asked: Asked) -> Kept:
+    page = places.TOP / "docs" / "PROVING.md"
+    tasks = schedule.tasks_of(asked.sources, page.read_text(encoding="utf-8") if page.is_file() else "")
+    way = _way(asked.sources)
+    progress = Progress([it for it in tasks if way == BY_GATE or not it.of_tests], len(os.sched_getaffinity(0)) if way == BY_GATE else 1)
+    say(f"proving and building the program by {way}, unless that was done before: {progress.begins()} where nothing was")
+    with tempfile.TemporaryDirectory(prefix="work-", dir=places.cache(), ignore_cleanup_errors=True) as room:
+        if way == BY_GATE:
+            made = _by_gate(asked, Path(room), progress)
+        else:
+            made = _by_run(asked, places.TOP, progress)
+        found = kept.keep(made, _record(asked, way, made))
+    if read_sources(places.TOP).fingerprint() != asked.fingerprint:
+        raise Problem("a source was changed while it was being proved: run this again")
+    if way == BY_GATE:
+        progress.note_pace()
+    say(f"done after {progress.minutes_gone():.1f} minutes: proved and built")
+    return found
+
+
+def _record(asked: Asked, way: str, made: dict[str, Path]) -> Record:
+    now = datetime.datetime.now().astimezone().isoformat(timespec="seconds")
+    return Record(asked.fingerprint, asked.toolchain, now, way, version(), {name: kept.sum_of(path) for name, path in made.items()})
+
+
+def version() -> str:
+    """The version number of what stands here."""
+    try:
+        return (places.PACKAGE / "VERSION").read_text(encoding="utf-8").strip()
+    except OSError:
+        return "unknown"
+
+
+def _way(sources: Sources) -> str:
+    """How to prove: over what checks kept in this checkout, if they kept most of it and the gate did not build the program after that."""
+    crates = places.TOP / "crates"
+    by_gate = crates / PROGRAMS[0] / "out" / f"{PROGRAMS[0]}.by-rattle"
+    newest = max((places.TOP / path).stat().st_mtime for path in sources.files)
+    if by_gate.is_file() and by_gate.stat().st_mtime > newest:
+        return BY_GATE
+    checked = [it.name for it in sources.crates if (crates / it.name / "out" / "incremental").is_dir()]
+    lines = {it.name: sources.lines(it.name) for it in sources.crates}
+    return BY_RUN if 2 * sum(lines[it] for it in checked) > sum(lines.values()) else BY_GATE
+
+
+def _by_gate(asked: Asked, room: Path, progress: Progress) -> dict[str, Path]:
+    """Proves by `rt ci` on a copy that is removed again. What passes is kept by the toolchain, also where it is interrupted."""
+    copy = room / "copy"
+    write_copy(asked.sources, copy)
+    # The toolchain runs programs as nobody where it runs as root, so its temporary files stand where nobody may come.
+    with tempfile.TemporaryDirectory(prefix="sparc8-", ignore_cleanup_errors=True) as temporary:
+        os.chmod(temporary, 0o711)
+        _ran([asked.rt, "ci"], copy, {**toolchain.environment(), "TMPDIR": temporary}, progress)
+    return _built(copy)
+
+
+def write_copy(sources: Sources, copy: Path) -> None:
+    """Writes the crates of the programs as the top of a repository: their sources as they were read, and what their programs are run on."""
+    for path, content in sources.files.items():
+        (copy / path).parent.mkdir(parents=True, exist_ok=True)
+        (copy / path).write_bytes(content)
+    (copy / "crates.txt").write_text("\n".join(it.line for it in sources.crates) + "\n", encoding="utf-8")
+    (copy / ".git").mkdir()
+    if (places.TOP / "HANDLES").is_file():
+        shutil.copyfile(places.TOP / "HANDLES", copy / "HANDLES")
+    for crate in sources.crates:
+        for it in ("stdin", "stdout", "args", "status", "data"):
+            beside, to = places.TOP / "crates" / crate.name / it, copy / "crates" / crate.name / it
+            if beside.is_dir():
+                shutil.copytree(beside, to)
+            elif beside.is_file():
+                shutil.copyfile(beside, to)
+
+
+def _by_run(asked: Asked, top: Path, progress: Progress) -> dict[str, Path]:
+    """Proves by `rt run` in the checkout, each program in turn, over what was kept there."""
+    for name in PROGRAMS:
+        _ran([asked.rt, "run"], top / "crates" / name, toolchain.environment(), progress)
+    return _built(top)
+
+
+def _built(top: Path) -> dict[str, Path]:
+    made = {name: top / "crates" / name / "out" / name for name in PROGRAMS}
+    for name, path in made.items():
+        if not path.is_file():
+            raise Problem(f"the toolchain ended well, but built no {name}")
+    return made
+
+
+def _ran(words: list[str], folder: Path, environment: dict[str, str], progress: Progress) -> None:
+    """Runs the toolchain, and raises `Problem` with the end of what it said where it fails."""
+    said: deque[str] = deque(maxlen=_SHOWN_LINES)
+
+    def tell(line: str) -> None:
+        said.append(line)
+        progress.line(line)
+
+    status = running.run(words, folder, environment, tell, progress.tick)
+    if status:
+        raise Problem("\n".join(["the program could not be proved and built; the toolchain said at the end:", *said]))
