@@ -9,7 +9,7 @@ from collections.abc import Callable, Sequence
 from pathlib import Path
 
 from . import places
-from .problem import Problem, say
+from .problem import Interrupted, Problem, say
 
 CANNOT_OPEN, READ_FAULT, FAULT = "cannot open script", "read fault", 3
 
@@ -35,8 +35,12 @@ def main(words: Sequence[str]) -> int:
     except Problem as problem:
         say(str(problem))
         return problem.status
-    except (BrokenPipeError, KeyboardInterrupt):
+    except Interrupted as interrupted:
+        return interrupted.status
+    except KeyboardInterrupt:
         return 130
+    except BrokenPipeError:
+        return 1
 
 
 def _run(words: Sequence[str]) -> int:

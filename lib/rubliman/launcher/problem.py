@@ -12,6 +12,14 @@ class Problem(Exception):
         self.status = status
 
 
+class Interrupted(Exception):
+    """A signal asked to end: the status to end with."""
+
+    def __init__(self, number: int) -> None:
+        super().__init__(number)
+        self.status = 128 + number
+
+
 def say(text: str) -> None:
     """Tells something on standard error, under the program's name."""
     sys.stderr.write(f"sparc8: {text}\n")

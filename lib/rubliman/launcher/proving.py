@@ -19,7 +19,7 @@ from pathlib import Path
 
 from . import kept, places, running, schedule, toolchain
 from .kept import Kept, Record
-from .problem import Problem, say
+from .problem import Interrupted, Problem, say
 from .progress import Progress
 from .sources import PROGRAMS, Sources, read_sources
 
@@ -39,9 +39,13 @@ class Asked:
 
 def prove(asked: Asked) -> Kept:
     """Proves and builds the programs, and keeps them. Waits while another `./sparc8` does so."""
-    with running.interruptible(), _alone() as had_to_wait:
-        found = kept.find(asked.fingerprint, asked.toolchain) if had_to_wait else None
-        return found or _prove(asked)
+    try:
+        with running.interruptible(), _alone() as had_to_wait:
+            found = kept.find(asked.fingerprint, asked.toolchain) if had_to_wait else None
+            return found or _prove(asked)
+    except Interrupted:
+        say("interrupted: what was proved so far is kept, and the next ./sparc8 goes on from there")
+        raise
 
 
 @contextlib.contextmanager

@@ -10,15 +10,9 @@ from collections.abc import Callable, Iterator, Sequence
 from pathlib import Path
 from types import FrameType
 
+from .problem import Interrupted
+
 PATIENCE_SECONDS = 10
-
-
-class Interrupted(Exception):
-    """A signal asked to end."""
-
-    def __init__(self, number: int) -> None:
-        super().__init__(number)
-        self.status = 128 + number
 
 
 @contextlib.contextmanager
@@ -26,10 +20,15 @@ def interruptible() -> Iterator[None]:
     """Has Ctrl-C, a hangup and a polite kill raise `Interrupted`, so that what was begun is ended and removed."""
 
     def stop(number: int, _: FrameType | None) -> None:
+        # The end goes its way undisturbed.
+        for it in before:
+            signal.signal(it, signal.SIG_IGN)
         raise Interrupted(number)
 
     numbers = (signal.SIGINT, signal.SIGTERM, signal.SIGHUP)
-    before = {it: signal.signal(it, stop) for it in numbers if signal.getsignal(it) is not signal.SIG_IGN}
+    before = {it: signal.getsignal(it) for it in numbers if signal.getsignal(it) is not signal.SIG_IGN}
+    for it in before:
+        signal.signal(it, stop)
     try:
         yield
     finally:

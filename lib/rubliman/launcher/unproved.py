@@ -21,7 +21,8 @@ ESTIMATE_SECONDS = 80.0
 MOST_SECONDS = 3600
 _ENDED = re.compile(rb"(?:\A|\n)run=ended status=(\d+)[^\n]*\n\Z")
 # What the toolchain says of its own, beside what the program prints on standard error.
-_OWN = re.compile(rb"(?m)^(?:checked: ended|interpreter: ended)[^\n]*\n")
+_OWN = re.compile(rb"(?m)^(?:checked|interpreter): [^\n]*\n")
+_NO_ANSWER = re.compile(rb"(?m)^checked: no-answer: ([^\n]*)\n")
 
 
 def run(settings: Settings) -> int:
@@ -61,7 +62,9 @@ def _ran(rt: str, settings: Settings, room: Path) -> int:
 
 def _told(status: int, said: bytes) -> int:
     """Hands on what the program printed on standard error, and gives its status."""
-    ended = _ENDED.search(said)
+    ended, no_answer = _ENDED.search(said), _NO_ANSWER.search(said)
+    if no_answer:
+        raise Problem(f"nothing is printed without proof, for {no_answer[1].decode(errors='replace')}")
     if ended is None or int(ended[1]) != status:
         raise Problem("\n".join(["the program could not be run without proof; the toolchain said:", said.decode(errors="replace").rstrip()]))
     sys.stderr.buffer.write(_OWN.sub(b"", said[:ended.start()] + b"\n" if ended.start() else b""))

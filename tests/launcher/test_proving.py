@@ -1,0 +1,205 @@
+"""How the launcher proves, keeps and runs the program, by a fake of the toolchain."""
+from __future__ import annotations
+
+import json
+import os
+import signal
+import unittest
+
+from .support import CRATES, PROVES, InRepository, interrupt
+
+WAITS = 'touch {begun}; sleep 100 & wait $!\n'
+
+
+class Proving(InRepository):
+    """Runs of `./sparc8` in a repository whose program is not proved yet."""
+
+    def test_no_toolchain(self) -> None:
+        done = self.sparc8()
+        self.assertEqual((done.returncode, done.stdout, done.stderr.count("\n")), (3, "", 1))
+        self.assertIn("rt is not on the PATH", done.stderr)
+        self.assertIn("README.md", done.stderr)
+
+    def test_words_are_answered_before_anything_is_proved(self) -> None:
+        self.fake("echo called; exit 1")
+        script = self.room / "secret"
+        script.mkdir()
+        for words, status, said in ((["--windows", "3"], 2, "error: invalid value '3'"), (["a", "b"], 2, "error: unexpected argument 'b'"),
+                                    (["nowhere"], 3, "sparc8: cannot open script\n"), (["secret"], 3, "sparc8: read fault\n"),
+                                    ([b"\xff"], 2, "error: invalid UTF-8"), (["--unproved", "nowhere"], 3, "sparc8: cannot open script\n"),
+                                    (["--unproved", "--windows", "5"], 2, "error: invalid value '5'")):
+            with self.subTest(words=words):
+                done = self.sparc8(*words)
+                self.assertEqual((done.returncode, done.stdout), (status, ""))
+                self.assertTrue(done.stderr.startswith(said), done.stderr)
+        self.assertEqual(self.calls(), [])
+
+    def test_help_tells_the_launchers_words_too(self) -> None:
+        for word in ("--help", "-h"):
+            done = self.sparc8(word)
+            self.assertEqual((done.returncode, done.stderr), (0, ""))
+            self.assertIn("Usage: sparc8 [OPTIONS] [SCRIPT]", done.stdout)
+            for it in ("--unproved", "--import", "--install", "--check", "--program"):
+                self.assertIn(f"\n  {it}", done.stdout)
+
+    def test_it_is_proved_once(self) -> None:
+        self.fake(PROVES)
+        first = self.sparc8("--windows", "4", given="list\n")
+        self.assertEqual((first.returncode, first.stdout), (0, "words --windows 4\nlist\n"))
+        self.assertIn("crate 4 of 4, sparc8: proved, 12 functions in all; 0 minutes gone", first.stderr)
+        again = self.sparc8("--windows", "4", given="list\n")
+        self.assertEqual((again.returncode, again.stdout, again.stderr), (0, first.stdout, ""))
+        self.assertEqual(self.calls(), ["ci"])
+        self.assert_nothing_left()
+
+    def test_the_help_of_the_program_comes_first(self) -> None:
+        self.fake(PROVES)
+        self.sparc8("--program")
+        done = self.sparc8("--help")
+        self.assertEqual((done.returncode, done.stdout.splitlines()[0]), (0, "the help"))
+        self.assertIn("\n  --unproved", done.stdout)
+
+    def test_bad_words_go_to_the_program_where_it_is_there(self) -> None:
+        self.fake(PROVES)
+        self.sparc8("--program")
+        self.assertEqual(self.sparc8("--windows", "3").stdout, "words --windows 3\n")
+
+    def test_what_is_proved_is_the_needed_crates_alone(self) -> None:
+        for name in CRATES:
+            (self.top / "crates" / name / "must-fail").mkdir()
+            (self.top / "crates" / name / "must-fail/it.edit").touch()
+        (self.top / "HANDLES").write_text("Handles allowed: none.\n", encoding="utf-8")
+        (self.top / "crates/sparc8/stdin").write_text("quit\n", encoding="utf-8")
+        self.fake(f"find . -type f | sort >{self.room}/copied; cat crates.txt >{self.room}/listed\n{PROVES}")
+        self.assertEqual(self.sparc8("--program").returncode, 0)
+        needed = ["high", "low", "side", "sparc8"]
+        wanted = ["./HANDLES", *[f"./crates/{it}/src/lib.rt" for it in needed], "./crates/sparc8/stdin", "./crates.txt"]
+        self.assertEqual(sorted((self.room / "copied").read_text(encoding="utf-8").split()), sorted(wanted))
+        self.assertEqual((self.room / "listed").read_text(encoding="utf-8"), "low: \nhigh: low\nside: \nsparc8: high side\n")
+
+    def test_a_failure_is_told(self) -> None:
+        self.fake("echo 'rt: low proved'; echo 'src/lib.rt:1:1: error: it is wrong'; exit 1")
+        done = self.sparc8()
+        self.assertEqual((done.returncode, done.stdout), (1, ""))
+        self.assertIn("could not be proved and built", done.stderr)
+        self.assertIn("\nsrc/lib.rt:1:1: error: it is wrong\n", done.stderr)
+        self.assertEqual(self.sparc8("--check").stdout.count("proved     no"), 1)
+        self.assert_nothing_left()
+
+    def test_an_end_without_a_program_is_told(self) -> None:
+        self.fake("echo 'rt: ok'")
+        done = self.sparc8()
+        self.assertEqual(done.returncode, 1)
+        self.assertIn("built no sparc8", done.stderr)
+
+    def test_a_source_changed_meanwhile(self) -> None:
+        source = self.top / "crates/low/src/lib.rt"
+        was = source.read_text(encoding="utf-8")
+        self.fake(f"echo '// more' >>{source}\n{PROVES}")
+        done = self.sparc8()
+        self.assertEqual((done.returncode, done.stdout), (1, ""))
+        self.assertIn("a source was changed while it was being proved", done.stderr)
+        self.assert_nothing_left()
+        # What was proved is proved: it serves again where the text is as it was.
+        self.fake("exit 1")
+        source.write_text(was, encoding="utf-8")
+        self.assertEqual(self.sparc8().returncode, 0)
+
+    def test_a_change_is_proved_anew_and_a_touch_is_not(self) -> None:
+        self.fake(PROVES)
+        self.sparc8("--program")
+        source = self.top / "crates/high/src/lib.rt"
+        os.utime(source)
+        (self.top / "crates/other/src/lib.rt").write_text("// another crate\n", encoding="utf-8")
+        self.sparc8("--program")
+        self.assertEqual(self.calls(), ["ci"])
+        source.write_text("// changed\n", encoding="utf-8")
+        self.sparc8("--program")
+        self.assertEqual(self.calls(), ["ci", "ci"])
+
+    def test_another_toolchain_proves_anew(self) -> None:
+        self.fake(PROVES)
+        self.sparc8("--program")
+        self.fake(PROVES, identity="kit-2")
+        self.sparc8("--program")
+        self.assertEqual(self.calls(), ["ci", "ci"])
+
+    def test_a_proved_program_runs_without_the_toolchain(self) -> None:
+        self.fake(PROVES)
+        self.sparc8("--program")
+        (self.bin / "rt").unlink()
+        self.assertEqual(self.sparc8(given="list\n").stdout, "words \nlist\n")
+
+    def test_a_damaged_program_is_not_run(self) -> None:
+        self.fake(PROVES)
+        path = self.sparc8("--program").stdout.strip()
+        with open(path, "a", encoding="utf-8") as file:
+            file.write("# more\n")
+        self.sparc8("--program")
+        self.assertEqual(self.calls(), ["ci", "ci"])
+
+    def test_an_interrupt(self) -> None:
+        for number in (signal.SIGINT, signal.SIGTERM, signal.SIGHUP):
+            with self.subTest(number=number):
+                begun = self.room / f"begun-{number}"
+                self.fake(WAITS.format(begun=begun))
+                with self.begun() as process:
+                    self.wait_for(begun)
+                    status, said = interrupt(process, number)
+                self.assertEqual(status, 128 + number)
+                self.assertIn("interrupted: what was proved so far is kept", said)
+                self.assert_nothing_left()
+
+    def test_a_second_one_waits_and_takes_what_the_first_proved(self) -> None:
+        begun, go = self.room / "begun", self.room / "go"
+        self.fake(f"touch {begun}; while [ ! -e {go} ]; do sleep 0.05; done\n{PROVES}")
+        with self.begun("--program") as first:
+            self.wait_for(begun)
+            with self.begun("--program") as second:
+                assert second.stderr is not None
+                self.assertIn("another ./sparc8 is proving; waiting for it", second.stderr.readline())
+                go.touch()
+                self.assertEqual(first.communicate(timeout=20)[0], second.communicate(timeout=20)[0])
+        self.assertEqual(self.calls(), ["ci"])
+
+    def test_a_checkout_with_kept_work_proves_over_it(self) -> None:
+        for name in ("low", "high", "side"):
+            (self.top / "crates" / name / "out/incremental").mkdir(parents=True)
+        runs = "mkdir -p out; cp {program} out/sparc8; echo 'rt: chose --jobs 2 for high'; echo 'so far: 2 of 5 functions checked'"
+        self.fake(runs)
+        done = self.sparc8("--program")
+        self.assertEqual((done.returncode, self.calls()), (0, ["run"]))
+        self.assertIn("crate 2 of 4, high: begun", done.stderr)
+
+    def test_what_the_gate_built_after_that_is_taken(self) -> None:
+        for name in ("low", "high", "side"):
+            (self.top / "crates" / name / "out/incremental").mkdir(parents=True)
+        (self.top / "crates/sparc8/out").mkdir()
+        (self.top / "crates/sparc8/out/sparc8.by-rattle").touch()
+        self.fake(PROVES)
+        self.assertEqual((self.sparc8("--program").returncode, self.calls()), (0, ["ci"]))
+
+    def test_what_stands_is_told(self) -> None:
+        self.fake(PROVES)
+        before = self.sparc8("--check")
+        self.assertEqual((before.returncode, before.stderr), (0, ""))
+        self.assertRegex(before.stdout, r"(?s)version    \d.*sources    [0-9a-f]{16}, 4 files of 4 crates.*toolchain  kit-1\nproved     no")
+        self.sparc8("--program")
+        self.assertRegex(self.sparc8("--check").stdout, r"proved     yes, by rt ci of kit-1, at \d{4}-")
+
+    def test_words_behind_those_that_take_none(self) -> None:
+        for words in (["--check", "it"], ["--program", "it"], ["--install"], ["--install", "a", "b"]):
+            self.assertEqual(self.sparc8(*words).returncode, 2)
+
+    def test_no_more_than_eight_are_kept(self) -> None:
+        self.fake(PROVES)
+        for number in range(10):
+            (self.top / "crates/low/src/lib.rt").write_text(f"// {number}\n", encoding="utf-8")
+            self.sparc8("--program")
+        records = list((self.cache / "proved").glob("*/record.json"))
+        self.assertEqual(len(records), 8)
+        self.assertEqual({json.loads(it.read_text(encoding="utf-8"))["proved_by"] for it in records}, {"rt ci"})
+
+
+if __name__ == "__main__":
+    unittest.main()
