@@ -51,7 +51,7 @@ class Installing(InRepository):
         (self.room / "it").write_bytes(bytes.fromhex("82006001 10BFFFFF 01000000"))
         done = self.sparc8("--import", "it", "--check", "--run", "--steps", "10", command=self.prefix / "bin/sparc8")
         self.assertEqual((done.returncode, done.stdout), (0, ""), done.stderr)
-        self.assertIn("it: 3 lines, 12 bytes: the workbench's image is that of the file\n", done.stderr)
+        self.assertIn("it: 4 lines, 12 bytes: the workbench's image is that of the file\n", done.stderr)
         self.assertIn("it: still runs after 10 steps", done.stderr)
 
     def test_a_link_to_the_command(self) -> None:

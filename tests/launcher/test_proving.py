@@ -1,10 +1,12 @@
 """How the launcher proves, keeps and runs the program, by a fake of the toolchain."""
 from __future__ import annotations
 
-import json
 import os
 import signal
 import unittest
+from unittest import mock
+
+from rubliman.launcher import kept
 
 from .support import CRATES, PROVES, InRepository, interrupt
 
@@ -78,11 +80,12 @@ class Proving(InRepository):
         self.assertEqual((self.room / "listed").read_text(encoding="utf-8"), "low: \nhigh: low\nside: \nsparc8: high side\n")
 
     def test_a_failure_is_told(self) -> None:
-        self.fake("echo 'rt: low proved'; echo 'src/lib.rt:1:1: error: it is wrong'; exit 1")
+        self.fake("cat <<END\nrt: low is kept: by an earlier run\n== high\nsrc/lib.rt:1:1: error: it is wrong\nrt: high NOT PROVED\n"
+                  "== side\nfn side::it: proved\nrt: side proved\nrt: FAILED: high\nEND\nexit 1")
         done = self.sparc8()
         self.assertEqual((done.returncode, done.stdout), (1, ""))
-        self.assertIn("could not be proved and built", done.stderr)
-        self.assertIn("\nsrc/lib.rt:1:1: error: it is wrong\n", done.stderr)
+        _, told = done.stderr.split("sparc8: the program could not be proved and built; the toolchain said:\n")
+        self.assertEqual(told, "== high\nsrc/lib.rt:1:1: error: it is wrong\nrt: high NOT PROVED\nrt: FAILED: high\n")
         self.assertEqual(self.sparc8("--check").stdout.count("proved     no"), 1)
         self.assert_nothing_left()
 
@@ -192,13 +195,12 @@ class Proving(InRepository):
             self.assertEqual(self.sparc8(*words).returncode, 2)
 
     def test_no_more_than_eight_are_kept(self) -> None:
-        self.fake(PROVES)
-        for number in range(10):
-            (self.top / "crates/low/src/lib.rt").write_text(f"// {number}\n", encoding="utf-8")
-            self.sparc8("--program")
-        records = list((self.cache / "proved").glob("*/record.json"))
-        self.assertEqual(len(records), 8)
-        self.assertEqual({json.loads(it.read_text(encoding="utf-8"))["proved_by"] for it in records}, {"rt ci"})
+        with mock.patch.dict(os.environ, {"RUBLIMAN_CACHE": str(self.cache)}):
+            for number in range(10):
+                record = kept.Record(str(number) * 64, "kit-1", f"2026-01-01T00:00:{number:02}", "rt ci", "1", {"sparc8": kept.sum_of(self.room / "program")})
+                os.utime(kept.keep({"sparc8": self.room / "program"}, record).folder, (number, number))
+            found = [number for number in range(10) if kept.find(str(number) * 64, "kit-1")]
+        self.assertEqual(found, list(range(2, 10)))
 
 
 if __name__ == "__main__":

@@ -47,7 +47,7 @@ class Schedule(unittest.TestCase):
 
     def test_the_minutes_to_come_follow_the_pace(self) -> None:
         now = [0.0]
-        progress = Progress(self.tasks, 1, lambda: now[0])
+        progress = Progress(self.tasks, 1, clock=lambda: now[0])
         now[0] = 60.0 * 10
         with contextlib.redirect_stderr(io.StringIO()) as said:
             progress.line("rt: low proved")

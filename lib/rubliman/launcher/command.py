@@ -35,6 +35,9 @@ def main(words: Sequence[str]) -> int:
     except Problem as problem:
         say(str(problem))
         return problem.status
+    except PermissionError as problem:
+        say(f"{problem.filename} cannot be written or read ({problem.strerror}): RUBLIMAN_CACHE= names another folder than {places.cache()}")
+        return 1
     except Interrupted as interrupted:
         return interrupted.status
     except KeyboardInterrupt:

@@ -21,8 +21,8 @@ _LEAST_MINUTES = 1.0
 class Progress:
     """Crate by crate: how many of how many, the functions that were proved, and the minutes gone and to come."""
 
-    def __init__(self, tasks: list[Task], cores: int, clock: Callable[[], float] = time.monotonic) -> None:
-        self._tasks, self._cores, self._clock = tasks, cores, clock
+    def __init__(self, tasks: list[Task], cores: int, foretells: bool = True, clock: Callable[[], float] = time.monotonic) -> None:
+        self._tasks, self._cores, self._foretells, self._clock = tasks, cores, foretells, clock
         self._names = list(dict.fromkeys(it.crate for it in tasks))
         self._begun = self._told = clock()
         self._whole = schedule.minutes_left(tasks, (), cores)
@@ -30,6 +30,7 @@ class Progress:
         self._functions, self._within, self._current = 0, "", ""
         self.proved: list[str] = []
         self.has_worked = False
+        self.was_kept = False
 
     def minutes_gone(self) -> float:
         """The minutes since the beginning."""
@@ -46,9 +47,9 @@ class Progress:
             return self.minutes_gone() / done
         return self._pace
 
-    def begins(self) -> str:
-        """What is to be done, in words."""
-        return f"{len(self._names)} crates, about {self._pace * self._whole:.0f} minutes on {self._cores} processors"
+    def whole(self) -> str:
+        """What there is to prove from nothing, in words."""
+        return f"{len(self._names)} crates, about {self._pace * self._whole:.0f} minutes"
 
     def line(self, said: str) -> None:
         """Takes a line that the toolchain says."""
@@ -65,6 +66,7 @@ class Progress:
         elif ended and ended[1] in self._names and ended[1] not in self.proved:
             self.proved.append(ended[1])
             self.has_worked = self.has_worked or ended[2] == "proved"
+            self.was_kept = self.was_kept or ended[2] != "proved"
             self._tell(f"crate {len(self.proved)} of {len(self._names)}, {ended[1]}: {'proved' if ended[2] == 'proved' else 'was proved before'}")
 
     def _end_below(self, name: str) -> None:
@@ -87,9 +89,10 @@ class Progress:
     def _tell(self, text: str) -> None:
         self._told = self._clock()
         counted = f", {self._functions} functions in all" if self._functions else ""
-        say(f"{text}{counted}; {self.minutes_gone():.0f} minutes gone, about {self.minutes_to_come():.0f} to come")
+        to_come = f", about {self.minutes_to_come():.0f} to come" if self._foretells else ""
+        say(f"{text}{counted}; {self.minutes_gone():.0f} minutes gone{to_come}")
 
     def note_pace(self) -> None:
-        """Keeps the pace of a whole run, for the next one's estimate."""
-        if self.has_worked and self._whole >= _LEAST_MINUTES and self.minutes_gone() >= _LEAST_MINUTES:
+        """Keeps the pace of a run that proved all, for the next one's estimate."""
+        if self._foretells and self.has_worked and not self.was_kept and self._whole >= _LEAST_MINUTES and self.minutes_gone() >= _LEAST_MINUTES:
             times.note("pace", self.minutes_gone() / self._whole)

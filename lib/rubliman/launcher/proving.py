@@ -10,9 +10,9 @@ import contextlib
 import datetime
 import fcntl
 import os
+import re
 import shutil
 import tempfile
-from collections import deque
 from collections.abc import Iterator
 from dataclasses import dataclass
 from pathlib import Path
@@ -24,7 +24,10 @@ from .progress import Progress
 from .sources import PROGRAMS, Sources, read_sources
 
 BY_GATE, BY_RUN = "rt ci", "rt run"
-_SHOWN_LINES = 200
+_SHOWN_LINES = 400
+_HEAD = re.compile(r"== (.*)")
+_PROVED = re.compile(r"rt: (\w+(?:: its tests are)?) proved")
+_KEPT = re.compile(r"rt: \w+ is kept: .*")
 
 
 @dataclass(frozen=True)
@@ -64,28 +67,35 @@ def _alone() -> Iterator[bool]:
 
 
 def _prove(asked: Asked) -> Kept:
-    page = places.TOP / "docs" / "PROVING.md"
-    tasks = schedule.tasks_of(asked.sources, page.read_text(encoding="utf-8") if page.is_file() else "")
-    way = _way(asked.sources)
-    progress = Progress([it for it in tasks if way == BY_GATE or not it.of_tests], len(os.sched_getaffinity(0)) if way == BY_GATE else 1)
-    say(f"proving and building the program by {way}, unless that was done before: {progress.begins()} where nothing was")
+    progress, way = _begun(asked)
     with tempfile.TemporaryDirectory(prefix="work-", dir=places.cache(), ignore_cleanup_errors=True) as room:
-        if way == BY_GATE:
-            made = _by_gate(asked, Path(room), progress)
-        else:
-            made = _by_run(asked, places.TOP, progress)
-        found = kept.keep(made, _record(asked, way, made))
+        made = _by_gate(asked, Path(room), progress) if way == BY_GATE else _by_run(asked, places.TOP, progress)
+        found = kept.keep(made, record(asked.fingerprint, asked.toolchain, way, made))
     if read_sources(places.TOP).fingerprint() != asked.fingerprint:
         raise Problem("a source was changed while it was being proved: run this again")
-    if way == BY_GATE:
-        progress.note_pace()
+    progress.note_pace()
     say(f"done after {progress.minutes_gone():.1f} minutes: proved and built")
     return found
 
 
-def _record(asked: Asked, way: str, made: dict[str, Path]) -> Record:
+def _begun(asked: Asked) -> tuple[Progress, str]:
+    """How it is proved, and what tells how far that is."""
+    page = places.TOP / "docs" / "PROVING.md"
+    tasks = schedule.tasks_of(asked.sources, page.read_text(encoding="utf-8") if page.is_file() else "")
+    way, cores = _way(asked.sources), len(os.sched_getaffinity(0))
+    progress = Progress(tasks, cores, foretells=way == BY_GATE)
+    if way == BY_GATE:
+        say(f"proving and building the program, as these sources have not been proved by ./sparc8 yet: {progress.whole()} on {cores} "
+            f"processors, less what rt ci has proved of them on this machine")
+    else:
+        say("proving and building the program over what rt check kept in this checkout")
+    return progress, way
+
+
+def record(fingerprint: str, identity: str, way: str, made: dict[str, Path]) -> Record:
+    """The record of programs that were built just now."""
     now = datetime.datetime.now().astimezone().isoformat(timespec="seconds")
-    return Record(asked.fingerprint, asked.toolchain, now, way, version(), {name: kept.sum_of(path) for name, path in made.items()})
+    return Record(fingerprint, identity, now, way, version(), {name: kept.sum_of(path) for name, path in made.items()})
 
 
 def version() -> str:
@@ -116,7 +126,7 @@ def _by_gate(asked: Asked, room: Path, progress: Progress) -> dict[str, Path]:
     with tempfile.TemporaryDirectory(prefix="sparc8-", ignore_cleanup_errors=True) as temporary:
         os.chmod(temporary, 0o711)
         _ran([asked.rt, "ci"], copy, {**toolchain.environment(), "TMPDIR": temporary}, progress)
-    return _built(copy)
+    return built(copy)
 
 
 def write_copy(sources: Sources, copy: Path) -> None:
@@ -141,10 +151,11 @@ def _by_run(asked: Asked, top: Path, progress: Progress) -> dict[str, Path]:
     """Proves by `rt run` in the checkout, each program in turn, over what was kept there."""
     for name in PROGRAMS:
         _ran([asked.rt, "run"], top / "crates" / name, toolchain.environment(), progress)
-    return _built(top)
+    return built(top)
 
 
-def _built(top: Path) -> dict[str, Path]:
+def built(top: Path) -> dict[str, Path]:
+    """The programs that the toolchain has built below a folder."""
     made = {name: top / "crates" / name / "out" / name for name in PROGRAMS}
     for name, path in made.items():
         if not path.is_file():
@@ -153,13 +164,31 @@ def _built(top: Path) -> dict[str, Path]:
 
 
 def _ran(words: list[str], folder: Path, environment: dict[str, str], progress: Progress) -> None:
-    """Runs the toolchain, and raises `Problem` with the end of what it said where it fails."""
-    said: deque[str] = deque(maxlen=_SHOWN_LINES)
+    """Runs the toolchain. Raises `Problem` where it fails, with what it said of what it did not prove."""
+    said = Said()
 
     def tell(line: str) -> None:
-        said.append(line)
+        said.line(line)
         progress.line(line)
 
     status = running.run(words, folder, environment, tell, progress.tick)
     if status:
-        raise Problem("\n".join(["the program could not be proved and built; the toolchain said at the end:", *said]))
+        raise Problem("\n".join(["the program could not be proved and built; the toolchain said:", *said.lines[-_SHOWN_LINES:]]))
+
+
+class Said:
+    """What the toolchain said, less what it told of crates that are proved."""
+
+    def __init__(self) -> None:
+        self.lines: list[str] = []
+        self._block, self._name = 0, ""
+
+    def line(self, line: str) -> None:
+        """Takes a line. What is told of a crate stands between a line with its name and the verdict."""
+        head, proved = _HEAD.fullmatch(line), _PROVED.fullmatch(line)
+        if head:
+            self._block, self._name = len(self.lines), head[1]
+        if proved and proved[1].replace(" are", "") == self._name:
+            del self.lines[self._block:]
+        elif not _KEPT.fullmatch(line):
+            self.lines.append(line)
