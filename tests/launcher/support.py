@@ -1,4 +1,4 @@
-"""What the tests of the launcher share: a small repository of its own with the launcher in it, and a fake of the toolchain's command."""
+"""What the tests of the launcher share: a small repository with the launcher in it, and a fake of the toolchain."""
 from __future__ import annotations
 
 import os
@@ -14,7 +14,12 @@ from pathlib import Path
 
 TOP = Path(__file__).resolve().parents[2]
 CRATES = {"low": "", "side": "", "high": "low", "sparc8": "high side", "other": "low"}
-PAGE = "| Crate | Proof | Tests |\n| `low` | 4.0 | 1.0 |\n| `side` | 2.0 | 0.0 |\n| `high` | 6.0 | 0.0 |\n| `sparc8` | 1.0 | 0.0 |\n"
+PAGE = """| Crate | Proof | Tests |
+| `low` | 4.0 | 1.0 |
+| `side` | 2.0 | 0.0 |
+| `high` | 6.0 | 0.0 |
+| `sparc8` | 1.0 | 0.0 |
+"""
 # The built program of the fake toolchain: it tells its words and its input.
 PROGRAM = '#!/bin/sh\ncase "$1" in --help) echo "the help";; *) echo "words $*"; cat;; esac\n'
 FAKE = """#!/bin/sh
@@ -26,8 +31,12 @@ esac
 """
 # What `rt ci` does where all goes well.
 PROVES = """for it in low side high sparc8; do
+  echo "== $it"
   echo "logic=proved functions=3 sum=1"
   echo "rt: $it proved"
+  echo "== $it: its tests"
+  echo "logic=proved functions=4 sum=1"
+  echo "rt: $it: its tests are proved"
 done
 mkdir -p crates/sparc8/out
 cp {program} crates/sparc8/out/sparc8
@@ -52,7 +61,9 @@ class InRepository(unittest.TestCase):
         shutil.copytree(TOP / "lib", self.top / "lib", ignore=shutil.ignore_patterns("__pycache__"))
         (self.top / "docs").mkdir()
         (self.top / "docs/PROVING.md").write_text(PAGE, encoding="utf-8")
-        (self.top / "crates.txt").write_text("".join(f"{name}: {uses}\n" for name, uses in CRATES.items()), encoding="utf-8")
+        (self.top / "crates.txt").write_text(
+            "".join(f"{name}: {uses}\n" for name, uses in CRATES.items()), encoding="utf-8"
+        )
         for name in CRATES:
             (self.top / "crates" / name / "src").mkdir(parents=True)
             (self.top / "crates" / name / "src/lib.rt").write_text(f"// {name}\n" * 10, encoding="utf-8")
@@ -68,29 +79,58 @@ class InRepository(unittest.TestCase):
 
     def environment(self) -> dict[str, str]:
         """The environment of a run: no toolchain but the fake, and folders of the test's own."""
-        return {"PATH": f"{self.bin}:/usr/bin:/bin", "HOME": str(self.room), "RUBLIMAN_CACHE": str(self.cache), "TMPDIR": str(self.temporary),
-                "LANG": "C.UTF-8"}
+        return {
+            "PATH": f"{self.bin}:/usr/bin:/bin",
+            "HOME": str(self.room),
+            "RUBLIMAN_CACHE": str(self.cache),
+            "TMPDIR": str(self.temporary),
+            "LANG": "C.UTF-8",
+        }
 
-    def sparc8(self, *words: str | bytes, given: str = "", command: Path | None = None) -> subprocess.CompletedProcess[str]:
+    def sparc8(
+        self, *words: str | bytes, given: str = "", command: Path | None = None
+    ) -> subprocess.CompletedProcess[str]:
         """A run of the launcher."""
-        return subprocess.run([command or self.top / "sparc8", *words], cwd=self.room, env=self.environment(), input=given, capture_output=True,
-                              text=True, check=False, timeout=60)
+        return subprocess.run(
+            [command or self.top / "sparc8", *words],
+            cwd=self.room,
+            env=self.environment(),
+            input=given,
+            capture_output=True,
+            text=True,
+            check=False,
+            timeout=60,
+        )
 
     def calls(self) -> list[str]:
         """What the fake was called with, but for the question of its version."""
-        return [it.partition(":")[0] for it in self.log.read_text(encoding="utf-8").splitlines() if not it.startswith("version")]
+        return [
+            it.partition(":")[0]
+            for it in self.log.read_text(encoding="utf-8").splitlines()
+            if not it.startswith("version")
+        ]
 
     def assert_nothing_left(self) -> None:
         """No temporary file, no copy and no process of the test's is left."""
         self.assertEqual(list(self.temporary.iterdir()), [])
-        self.assertEqual([it.name for it in self.cache.glob("work-*")] + [it.name for it in self.cache.glob("**/new-*")], [])
+        self.assertEqual(
+            [it.name for it in self.cache.glob("work-*")] + [it.name for it in self.cache.glob("**/new-*")], []
+        )
         self.assertEqual(processes_in(self.room), [])
 
     @contextmanager
     def begun(self, *words: str) -> Iterator[subprocess.Popen[str]]:
         """A run of the launcher that goes on while the test does something."""
-        with subprocess.Popen([self.top / "sparc8", *words], cwd=self.room, env=self.environment(), stdin=subprocess.DEVNULL,
-                              stdout=subprocess.PIPE, stderr=subprocess.PIPE, text=True, start_new_session=True) as process:
+        with subprocess.Popen(
+            [self.top / "sparc8", *words],
+            cwd=self.room,
+            env=self.environment(),
+            stdin=subprocess.DEVNULL,
+            stdout=subprocess.PIPE,
+            stderr=subprocess.PIPE,
+            text=True,
+            start_new_session=True,
+        ) as process:
             try:
                 yield process
             finally:

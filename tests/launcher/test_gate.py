@@ -17,8 +17,14 @@ class Gate(InRepository):
         (self.top / "crates/sparc8/out/sparc8").write_text(PROGRAM, encoding="utf-8")
 
     def gate(self, *words: str) -> subprocess.CompletedProcess[str]:
-        return subprocess.run(["/usr/bin/python3", "-B", "-m", "rubliman.launcher.gate", *words], cwd=self.room, capture_output=True, text=True,
-                              check=False, env=self.environment() | {"PYTHONPATH": str(self.top / "lib")})
+        return subprocess.run(
+            ["/usr/bin/python3", "-B", "-m", "rubliman.launcher.gate", *words],
+            cwd=self.room,
+            capture_output=True,
+            text=True,
+            check=False,
+            env=self.environment() | {"PYTHONPATH": str(self.top / "lib")},
+        )
 
     def test_what_it_built_is_taken(self) -> None:
         before = self.gate().stdout.strip()
@@ -32,7 +38,10 @@ class Gate(InRepository):
         before = self.gate().stdout.strip()
         (self.top / "crates/low/src/lib.rt").write_text("// changed\n", encoding="utf-8")
         done = self.gate(before)
-        self.assertEqual((done.returncode, done.stderr), (1, "sparc8: a source was changed while the gate ran: what it built is not kept\n"))
+        self.assertEqual(
+            (done.returncode, done.stderr),
+            (1, "sparc8: a source was changed while the gate ran: what it built is not kept\n"),
+        )
         self.assertIn("proved     no", self.sparc8("--check").stdout)
 
     def test_nothing_built(self) -> None:

@@ -41,7 +41,9 @@ class Installing(InRepository):
         self.assertEqual(self.sparc8("--windows", "3", command=command).returncode, 2)
         self.assertEqual(self.sparc8("nowhere", command=command).stderr, "sparc8: cannot open script\n")
         self.assertIn("\n  --import", self.sparc8("--help", command=command).stdout)
-        self.assertEqual(self.sparc8("--program", command=command).stdout, f"{self.prefix}/lib/rubliman/program/sparc8\n")
+        self.assertEqual(
+            self.sparc8("--program", command=command).stdout, f"{self.prefix}/lib/rubliman/program/sparc8\n"
+        )
         for words in (["--unproved"], ["--install", "elsewhere"]):
             done = self.sparc8(*words, command=command)
             self.assertEqual((done.returncode, done.stderr.count("\n")), (2, 1))
@@ -61,7 +63,12 @@ class Installing(InRepository):
 
     def test_where_things_are(self) -> None:
         self.install()
-        for it in ("share/man/man1/sparc8.1", "share/man/man5/sparc8.5", "share/doc/rubliman/COMMANDS.md", "lib/rubliman/runtime/crt0.S"):
+        for it in (
+            "share/man/man1/sparc8.1",
+            "share/man/man5/sparc8.5",
+            "share/doc/rubliman/COMMANDS.md",
+            "lib/rubliman/runtime/crt0.S",
+        ):
             self.assertTrue((self.prefix / it).is_file(), it)
         named = [it for it in self.prefix.rglob("*") if it.is_file() and str(self.top).encode() in it.read_bytes()]
         self.assertEqual(named, [], "nothing names the repository")
@@ -69,7 +76,9 @@ class Installing(InRepository):
     def test_what_stands_is_told(self) -> None:
         self.install()
         told = self.sparc8("--check", command=self.prefix / "bin/sparc8")
-        self.assertRegex(told.stdout, rf"(?s)version    \d.*installed in {self.prefix}\nproved     yes, by rt ci of kit-1, at ")
+        self.assertRegex(
+            told.stdout, rf"(?s)version    \d.*installed in {self.prefix}\nproved     yes, by rt ci of kit-1, at "
+        )
 
     def test_again_over_what_is_installed(self) -> None:
         self.sparc8("--install", str(self.prefix))
@@ -88,8 +97,14 @@ class Installing(InRepository):
         if shutil.which("man") is None:
             return
         for page in Path(TOP / "docs/man").iterdir():
-            done = subprocess.run(["man", "--warnings", "-l", page], stdout=subprocess.DEVNULL, stderr=subprocess.PIPE, text=True, check=False,
-                                  env={"PATH": os.environ["PATH"], "LANG": "C.UTF-8", "MANWIDTH": "100"})
+            done = subprocess.run(
+                ["man", "--warnings", "-l", page],
+                stdout=subprocess.DEVNULL,
+                stderr=subprocess.PIPE,
+                text=True,
+                check=False,
+                env={"PATH": os.environ["PATH"], "LANG": "C.UTF-8", "MANWIDTH": "100"},
+            )
             self.assertEqual((done.returncode, done.stderr), (0, ""), page)
 
 

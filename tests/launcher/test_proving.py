@@ -8,9 +8,9 @@ from unittest import mock
 
 from rubliman.launcher import kept
 
-from .support import CRATES, PROVES, InRepository, interrupt
+from .support import CRATES, PROVES, TOP, InRepository, interrupt
 
-WAITS = 'touch {begun}; sleep 100 & wait $!\n'
+WAITS = "touch {begun}; sleep 100 & wait $!\n"
 
 
 class Proving(InRepository):
@@ -26,10 +26,15 @@ class Proving(InRepository):
         self.fake("echo called; exit 1")
         script = self.room / "secret"
         script.mkdir()
-        for words, status, said in ((["--windows", "3"], 2, "error: invalid value '3'"), (["a", "b"], 2, "error: unexpected argument 'b'"),
-                                    (["nowhere"], 3, "sparc8: cannot open script\n"), (["secret"], 3, "sparc8: read fault\n"),
-                                    ([b"\xff"], 2, "error: invalid UTF-8"), (["--unproved", "nowhere"], 3, "sparc8: cannot open script\n"),
-                                    (["--unproved", "--windows", "5"], 2, "error: invalid value '5'")):
+        for words, status, said in (
+            (["--windows", "3"], 2, "error: invalid value '3'"),
+            (["a", "b"], 2, "error: unexpected argument 'b'"),
+            (["nowhere"], 3, "sparc8: cannot open script\n"),
+            (["secret"], 3, "sparc8: read fault\n"),
+            ([b"\xff"], 2, "error: invalid UTF-8"),
+            (["--unproved", "nowhere"], 3, "sparc8: cannot open script\n"),
+            (["--unproved", "--windows", "5"], 2, "error: invalid value '5'"),
+        ):
             with self.subTest(words=words):
                 done = self.sparc8(*words)
                 self.assertEqual((done.returncode, done.stdout), (status, ""))
@@ -48,7 +53,7 @@ class Proving(InRepository):
         self.fake(PROVES)
         first = self.sparc8("--windows", "4", given="list\n")
         self.assertEqual((first.returncode, first.stdout), (0, "words --windows 4\nlist\n"))
-        self.assertIn("crate 4 of 4, sparc8: proved, 12 functions in all; 0 minutes gone", first.stderr)
+        self.assertIn("crate 4 of 4, sparc8: proved, 12 functions; 0 minutes gone", first.stderr)
         again = self.sparc8("--windows", "4", given="list\n")
         self.assertEqual((again.returncode, again.stdout, again.stderr), (0, first.stdout, ""))
         self.assertEqual(self.calls(), ["ci"])
@@ -77,11 +82,16 @@ class Proving(InRepository):
         needed = ["high", "low", "side", "sparc8"]
         wanted = ["./HANDLES", *[f"./crates/{it}/src/lib.rt" for it in needed], "./crates/sparc8/stdin", "./crates.txt"]
         self.assertEqual(sorted((self.room / "copied").read_text(encoding="utf-8").split()), sorted(wanted))
-        self.assertEqual((self.room / "listed").read_text(encoding="utf-8"), "low: \nhigh: low\nside: \nsparc8: high side\n")
+        self.assertEqual(
+            (self.room / "listed").read_text(encoding="utf-8"), "low: \nhigh: low\nside: \nsparc8: high side\n"
+        )
 
     def test_a_failure_is_told(self) -> None:
-        self.fake("cat <<END\nrt: low is kept: by an earlier run\n== high\nsrc/lib.rt:1:1: error: it is wrong\nrt: high NOT PROVED\n"
-                  "== side\nfn side::it: proved\nrt: side proved\nrt: FAILED: high\nEND\nexit 1")
+        self.fake(
+            "cat <<END\nrt: low is kept: by an earlier run\n"
+            "== high\nsrc/lib.rt:1:1: error: it is wrong\nrt: high NOT PROVED\n"
+            "== side\nfn side::it: proved\nrt: side proved\nrt: FAILED: high\nEND\nexit 1"
+        )
         done = self.sparc8()
         self.assertEqual((done.returncode, done.stdout), (1, ""))
         _, told = done.stderr.split("sparc8: the program could not be proved and built; the toolchain said:\n")
@@ -153,6 +163,26 @@ class Proving(InRepository):
                 self.assertIn("interrupted: what was proved so far is kept", said)
                 self.assert_nothing_left()
 
+    def test_a_wait_of_the_toolchain_is_told(self) -> None:
+        self.fake(f"echo 'rt: waiting for another rt to finish in /a/folder'\n{PROVES}")
+        self.assertIn("\nsparc8: waiting for another rt to finish in /a/folder\n", self.sparc8().stderr)
+
+    def test_the_program_meets_signals_as_if_started_by_a_shell(self) -> None:
+        (self.room / "program").write_text("#!/bin/sh\ngrep SigIgn /proc/$$/status\n", encoding="utf-8")
+        self.fake(PROVES)
+        self.assertEqual(self.sparc8().stdout.split(), ["SigIgn:", "0" * 16])
+
+    def test_a_toolchain_that_does_not_start(self) -> None:
+        (self.bin / "rt").write_text("#!/bin/sh\nexit 1\n", encoding="utf-8")
+        (self.bin / "rt").chmod(0o755)
+        self.assertEqual(self.sparc8("--windows", "3").returncode, 2)
+        done = self.sparc8()
+        self.assertEqual((done.returncode, done.stderr.count("\n")), (3, 1))
+        self.assertIn("names no toolchain", done.stderr)
+
+    def test_the_page_that_is_named_is_there(self) -> None:
+        self.assertIn("**What it needs.**", (TOP / "README.md").read_text(encoding="utf-8"))
+
     def test_a_second_one_waits_and_takes_what_the_first_proved(self) -> None:
         begun, go = self.room / "begun", self.room / "go"
         self.fake(f"touch {begun}; while [ ! -e {go} ]; do sleep 0.05; done\n{PROVES}")
@@ -168,8 +198,8 @@ class Proving(InRepository):
     def test_a_checkout_with_kept_work_proves_over_it(self) -> None:
         for name in ("low", "high", "side"):
             (self.top / "crates" / name / "out/incremental").mkdir(parents=True)
-        runs = "mkdir -p out; cp {program} out/sparc8; echo 'rt: chose --jobs 2 for high'; echo 'so far: 2 of 5 functions checked'"
-        self.fake(runs)
+        said = "rt: chose --jobs 2 for high\nso far: 2 of 5 functions checked"
+        self.fake(f"mkdir -p out; cp {{program}} out/sparc8; echo '{said}'")
         done = self.sparc8("--program")
         self.assertEqual((done.returncode, self.calls()), (0, ["run"]))
         self.assertIn("crate 2 of 4, high: begun", done.stderr)
@@ -186,7 +216,10 @@ class Proving(InRepository):
         self.fake(PROVES)
         before = self.sparc8("--check")
         self.assertEqual((before.returncode, before.stderr), (0, ""))
-        self.assertRegex(before.stdout, r"(?s)version    \d.*sources    [0-9a-f]{16}, 4 files of 4 crates.*toolchain  kit-1\nproved     no")
+        self.assertRegex(
+            before.stdout,
+            r"(?s)version    \d.*sources    [0-9a-f]{16}, 4 files of 4 crates.*toolchain  kit-1\nproved     no",
+        )
         self.sparc8("--program")
         self.assertRegex(self.sparc8("--check").stdout, r"proved     yes, by rt ci of kit-1, at \d{4}-")
 
@@ -197,7 +230,14 @@ class Proving(InRepository):
     def test_no_more_than_eight_are_kept(self) -> None:
         with mock.patch.dict(os.environ, {"RUBLIMAN_CACHE": str(self.cache)}):
             for number in range(10):
-                record = kept.Record(str(number) * 64, "kit-1", f"2026-01-01T00:00:{number:02}", "rt ci", "1", {"sparc8": kept.sum_of(self.room / "program")})
+                record = kept.Record(
+                    str(number) * 64,
+                    "kit-1",
+                    f"2026-01-01T00:00:{number:02}",
+                    "rt ci",
+                    "1",
+                    {"sparc8": kept.sum_of(self.room / "program")},
+                )
                 os.utime(kept.keep({"sparc8": self.room / "program"}, record).folder, (number, number))
             found = [number for number in range(10) if kept.find(str(number) * 64, "kit-1")]
         self.assertEqual(found, list(range(2, 10)))

@@ -15,12 +15,38 @@ from rubliman.launcher.words import TEXTS, Refused, Settings, read, recorded
 from .asked_words import ASKED
 
 SAMPLE = Path(__file__).with_name("recorded_words.json")
-WORDS = ["--help", "-h", "--windows", "--windows=4", "--windows=3", "--windows=", "3", "4", "8", "16", "a", "b", "-x", "--", "-", "--bogus", "--window",
-         "--win", "-1", "", "--help=1", "-hx", "-xh", "32", "é", "--helm"]
+WORDS = [
+    "--help",
+    "-h",
+    "--windows",
+    "--windows=4",
+    "--windows=3",
+    "--windows=",
+    "3",
+    "4",
+    "8",
+    "16",
+    "a",
+    "b",
+    "-x",
+    "--",
+    "-",
+    "--bogus",
+    "--window",
+    "--win",
+    "-1",
+    "",
+    "--help=1",
+    "-hx",
+    "-xh",
+    "32",
+    "é",
+    "--helm",
+]
 
 
 def answer(words: list[str]) -> tuple[int, str, str] | None:
-    """What the launcher answers: the status, and what comes on both outputs. None where it leaves the words to the program's run."""
+    """What the launcher answers: the status and both outputs. None where it leaves the words to the program's run."""
     try:
         chosen = read(words)
     except Refused as refused:
@@ -48,7 +74,12 @@ class Reading(unittest.TestCase):
 
     def test_likeness(self) -> None:
         # Values of Jaro's measure that are worked out in the literature on matching of names.
-        for one, other, measure in (("MARTHA", "MARHTA", 0.944), ("DIXON", "DICKSONX", 0.767), ("DWAYNE", "DUANE", 0.822), ("", "a", 0.0)):
+        for one, other, measure in (
+            ("MARTHA", "MARHTA", 0.944),
+            ("DIXON", "DICKSONX", 0.767),
+            ("DWAYNE", "DUANE", 0.822),
+            ("", "a", 0.0),
+        ):
             self.assertAlmostEqual(jaro(one, other), measure, places=3)
 
 
@@ -57,13 +88,19 @@ class TheProgram(unittest.TestCase):
 
     def run_program(self, words: list[str]) -> tuple[int, str, str]:
         with tempfile.TemporaryDirectory() as folder:
-            done = subprocess.run([os.environ["SPARC8"], *words], cwd=folder, stdin=subprocess.DEVNULL, capture_output=True, check=False)
+            done = subprocess.run(
+                [os.environ["SPARC8"], *words], cwd=folder, stdin=subprocess.DEVNULL, capture_output=True, check=False
+            )
         return done.returncode, done.stdout.decode(), done.stderr.decode()
 
     def test_its_texts_are_the_recorded_ones(self) -> None:
         for name, it in recorded().items():
             with self.subTest(name=name):
-                self.assertEqual(self.run_program(list(it.words)), (it.status, it.out, it.err), f"the program's texts have changed: mend {TEXTS}")
+                self.assertEqual(
+                    self.run_program(list(it.words)),
+                    (it.status, it.out, it.err),
+                    f"the program's texts have changed: mend {TEXTS}",
+                )
 
     def test_any_words(self) -> None:
         choose = random.Random(os.urandom(4))

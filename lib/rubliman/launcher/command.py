@@ -2,6 +2,7 @@
 from __future__ import annotations
 
 import os
+import signal
 import stat
 import subprocess
 import sys
@@ -25,7 +26,12 @@ Words of ./sparc8 itself, each the first:
 
 def main(words: Sequence[str]) -> int:
     """Does what the words say. Gives the status, unless the proved program takes over."""
-    own: dict[str, Callable[[Sequence[str]], int]] = {"--unproved": _unproved, "--install": _install, "--check": _check, "--program": _program}
+    own: dict[str, Callable[[Sequence[str]], int]] = {
+        "--unproved": _unproved,
+        "--install": _install,
+        "--check": _check,
+        "--program": _program,
+    }
     try:
         if "--import" in words:
             return _import(words)
@@ -36,7 +42,10 @@ def main(words: Sequence[str]) -> int:
         say(str(problem))
         return problem.status
     except PermissionError as problem:
-        say(f"{problem.filename} cannot be written or read ({problem.strerror}): RUBLIMAN_CACHE= names another folder than {places.cache()}")
+        say(
+            f"{problem.filename} cannot be written or read ({problem.strerror}): "
+            f"RUBLIMAN_CACHE= names another folder than {places.cache()}"
+        )
         return 1
     except Interrupted as interrupted:
         return interrupted.status
@@ -62,6 +71,7 @@ def _run(words: Sequence[str]) -> int:
 def _kept_program() -> Path | None:
     """The proved program that stands here for these very sources, if there is one."""
     from . import standing
+
     found = standing.now().kept
     return found.program() if found else None
 
@@ -72,12 +82,16 @@ def _proved_program() -> Path:
     if found is not None:
         return found
     from . import standing
+
     return standing.prove().program()
 
 
 def _become(program: Path, words: Sequence[str]) -> int:
     # A recorded run takes fresh memory all the time, which the system gives faster in large pages.
     os.environ.setdefault("GLIBC_TUNABLES", "glibc.malloc.hugetlb=1")
+    # Python ignores these, and the program would inherit that.
+    for it in (signal.SIGPIPE, signal.SIGXFSZ):
+        signal.signal(it, signal.SIG_DFL)
     sys.stdout.flush()
     os.execv(program, ["sparc8", *words])
     raise AssertionError("the program has taken over")
@@ -85,6 +99,7 @@ def _become(program: Path, words: Sequence[str]) -> int:
 
 def _asks_help(words: Sequence[str]) -> bool:
     from .words import Refused, read
+
     if not any(it.startswith("-") for it in words):
         return False
     try:
@@ -106,6 +121,7 @@ def _help(program: Path, words: Sequence[str]) -> int:
 def _answered(words: Sequence[str]) -> int | None:
     """Answers words that need no run as the program does, and gives the status; None where a run is asked for."""
     from .words import Refused, read
+
     try:
         settings = read(words)
     except Refused as refused:
@@ -150,6 +166,7 @@ def _unproved(words: Sequence[str]) -> int:
         return status
     from . import unproved
     from .words import read
+
     return unproved.run(read(words))
 
 
@@ -164,6 +181,7 @@ def _import(words: Sequence[str]) -> int:
         asks = any(it in ("--check", "--run") or it.startswith("--addr2line") for it in words)
         os.environ["SPARC8"] = str(_proved_program() if asks else places.command())
     from rubliman.importer.command import main as import_main
+
     return import_main(words)
 
 
@@ -172,6 +190,7 @@ def _install(words: Sequence[str]) -> int:
     if len(words) != 1 or words[0].startswith("-"):
         raise Problem("--install takes one word behind it, the folder to install below, as /usr/local", 2)
     from . import installing, standing
+
     installing.install(standing.now().kept or standing.prove(), Path(words[0]))
     return 0
 
@@ -179,6 +198,7 @@ def _install(words: Sequence[str]) -> int:
 def _check(words: Sequence[str]) -> int:
     _no_more("--check", words)
     from . import standing
+
     sys.stdout.write(standing.now().told())
     return 0
 

@@ -14,7 +14,7 @@ _LEFT_OUT = shutil.ignore_patterns("__pycache__", "*.pyc")
 
 
 def install(proved: Kept, prefix: Path) -> None:
-    """Puts the commands in bin, all that they need in lib/rubliman, the manual pages in share/man and the guide in share/doc."""
+    """Puts the commands in bin, what they need in lib/rubliman, manual pages in share/man, the guide in share/doc."""
     prefix = prefix.absolute()
     try:
         _install_package(proved, prefix / "lib" / "rubliman")
@@ -26,13 +26,17 @@ def install(proved: Kept, prefix: Path) -> None:
 
 
 def _install_package(proved: Kept, to: Path) -> None:
-    """All of lib/rubliman, and the programs in it. What was installed before goes, so that nothing old is left among it."""
+    """All of lib/rubliman, and the programs in it. What was installed before goes."""
     new, old = to.with_name("rubliman.new"), to.with_name("rubliman.old")
     for it in (new, old):
         shutil.rmtree(it, ignore_errors=True)
     to.parent.mkdir(parents=True, exist_ok=True)
     shutil.copytree(places.PACKAGE, new, ignore=_LEFT_OUT)
-    kept.write({name: proved.program(name) for name in proved.record.programs}, proved.record, new / places.INSTALLED_PROGRAM.name)
+    kept.write(
+        {name: proved.program(name) for name in proved.record.programs},
+        proved.record,
+        new / places.INSTALLED_PROGRAM.name,
+    )
     if to.exists():
         os.rename(to, old)
     os.rename(new, to)

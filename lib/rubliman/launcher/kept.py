@@ -22,7 +22,7 @@ RECORD = "record.json"
 
 @dataclass(frozen=True)
 class Record:
-    """What programs were proved from: the number of the sources, the toolchain's line, when, by which command, and each program's sum."""
+    """What programs were proved from: the sources' number, the toolchain's line, when, by what, and their sums."""
 
     sources: str
     toolchain: str
@@ -51,10 +51,12 @@ def sum_of(path: Path) -> str:
 
 
 def read(folder: Path) -> Kept | None:
-    """What stands in a folder, or None where it is not whole: a program whose sum is another than its record's is not taken."""
+    """What stands in a folder, or None where it is not whole: a program has to have the sum that its record tells."""
     try:
         record = Record(**json.loads((folder / RECORD).read_text(encoding="utf-8")))
-        is_whole = bool(record.programs) and all(sum_of(folder / name) == total for name, total in record.programs.items())
+        is_whole = bool(record.programs) and all(
+            sum_of(folder / name) == total for name, total in record.programs.items()
+        )
     except (OSError, ValueError, TypeError, AttributeError):
         return None
     return Kept(folder, record) if is_whole else None
@@ -101,6 +103,8 @@ def write(programs: Mapping[str, Path], record: Record, to: Path) -> None:
 
 def _shrink(folder: Path) -> None:
     """Lets the oldest go, so that no more than `MOST` stay."""
-    found = sorted((it for it in folder.iterdir() if (it / RECORD).is_file()), key=lambda it: it.stat().st_mtime, reverse=True)
+    found = sorted(
+        (it for it in folder.iterdir() if (it / RECORD).is_file()), key=lambda it: it.stat().st_mtime, reverse=True
+    )
     for it in found[MOST:]:
         shutil.rmtree(it, ignore_errors=True)

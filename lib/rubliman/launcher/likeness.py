@@ -7,7 +7,7 @@ LIKE = 0.7
 
 
 def jaro(one: str, other: str) -> float:
-    """The measure, from 0 to 1: characters that both have within half the longer length, less those that are out of order."""
+    """The measure, from 0 to 1: what both have within half the longer length, less what is out of order."""
     if not one and not other:
         return 1.0
     if not one or not other:

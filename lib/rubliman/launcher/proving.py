@@ -1,8 +1,9 @@
 """Proves and builds the programs where nothing kept serves.
 
-Two ways lead there, both the toolchain's own. `rt ci`, on a copy of the needed crates without their must-fail edits, proves crates side by
-side from nothing, and shares what it proves with every `rt ci` on this machine: what the gate proved is taken in seconds, and the gate
-takes what was proved here. `rt run`, in the checkout, proves over what `rt check` kept there, so it is quick after an edit.
+Two ways lead there, both the toolchain's own. `rt ci`, on a copy of the needed crates without their must-fail edits,
+proves crates side by side from nothing, and shares what it proves with every `rt ci` on this machine: what the gate
+proved is taken in seconds, and the gate takes what was proved here. `rt run`, in the checkout, proves over what
+`rt check` kept there, so it is quick after an edit.
 """
 from __future__ import annotations
 
@@ -85,8 +86,10 @@ def _begun(asked: Asked) -> tuple[Progress, str]:
     way, cores = _way(asked.sources), len(os.sched_getaffinity(0))
     progress = Progress(tasks, cores, foretells=way == BY_GATE)
     if way == BY_GATE:
-        say(f"proving and building the program, as these sources have not been proved by ./sparc8 yet: {progress.whole()} on {cores} "
-            f"processors, less what rt ci has proved of them on this machine")
+        say(
+            f"proving and building the program, as these sources have not been proved by ./sparc8 yet: "
+            f"{progress.whole()} on {cores} processors, less what rt ci has proved of them on this machine"
+        )
     else:
         say("proving and building the program over what rt check kept in this checkout")
     return progress, way
@@ -107,7 +110,7 @@ def version() -> str:
 
 
 def _way(sources: Sources) -> str:
-    """How to prove: over what checks kept in this checkout, if they kept most of it and the gate did not build the program after that."""
+    """How to prove: over what checks kept in this checkout, if that is most of it, and the gate was not here since."""
     crates = places.TOP / "crates"
     by_gate = crates / PROGRAMS[0] / "out" / f"{PROGRAMS[0]}.by-rattle"
     newest = max((places.TOP / path).stat().st_mtime for path in sources.files)
@@ -119,7 +122,7 @@ def _way(sources: Sources) -> str:
 
 
 def _by_gate(asked: Asked, room: Path, progress: Progress) -> dict[str, Path]:
-    """Proves by `rt ci` on a copy that is removed again. What passes is kept by the toolchain, also where it is interrupted."""
+    """Proves by `rt ci` on a copy that is removed again. The toolchain keeps each crate that passes."""
     copy = room / "copy"
     write_copy(asked.sources, copy)
     # The toolchain runs programs as nobody where it runs as root, so its temporary files stand where nobody may come.
@@ -130,7 +133,7 @@ def _by_gate(asked: Asked, room: Path, progress: Progress) -> dict[str, Path]:
 
 
 def write_copy(sources: Sources, copy: Path) -> None:
-    """Writes the crates of the programs as the top of a repository: their sources as they were read, and what their programs are run on."""
+    """Writes the crates as the top of a repository: the sources as they were read, and what the programs are run on."""
     for path, content in sources.files.items():
         (copy / path).parent.mkdir(parents=True, exist_ok=True)
         (copy / path).write_bytes(content)
@@ -173,7 +176,9 @@ def _ran(words: list[str], folder: Path, environment: dict[str, str], progress: 
 
     status = running.run(words, folder, environment, tell, progress.tick)
     if status:
-        raise Problem("\n".join(["the program could not be proved and built; the toolchain said:", *said.lines[-_SHOWN_LINES:]]))
+        raise Problem(
+            "\n".join(["the program could not be proved and built; the toolchain said:", *said.lines[-_SHOWN_LINES:]])
+        )
 
 
 class Said:
@@ -189,6 +194,6 @@ class Said:
         if head:
             self._block, self._name = len(self.lines), head[1]
         if proved and proved[1].replace(" are", "") == self._name:
-            del self.lines[self._block:]
+            del self.lines[self._block :]
         elif not _KEPT.fullmatch(line):
             self.lines.append(line)

@@ -36,10 +36,23 @@ def interruptible() -> Iterator[None]:
             signal.signal(it, handler)
 
 
-def run(words: Sequence[str], folder: Path, environment: dict[str, str], tell: Callable[[str], None], tick: Callable[[], None]) -> int:
-    """Runs a command with no input, hands each line that it says to `tell`, and calls `tick` each second. Gives its status."""
-    with subprocess.Popen(words, cwd=folder, env=environment, stdin=subprocess.DEVNULL, stdout=subprocess.PIPE, stderr=subprocess.STDOUT,
-                          start_new_session=True) as process:
+def run(
+    words: Sequence[str],
+    folder: Path,
+    environment: dict[str, str],
+    tell: Callable[[str], None],
+    tick: Callable[[], None],
+) -> int:
+    """Runs a command with no input, hands each line of it to `tell`, and calls `tick` each second. Gives its status."""
+    with subprocess.Popen(
+        words,
+        cwd=folder,
+        env=environment,
+        stdin=subprocess.DEVNULL,
+        stdout=subprocess.PIPE,
+        stderr=subprocess.STDOUT,
+        start_new_session=True,
+    ) as process:
         try:
             for line in _lines(process, tick):
                 tell(line)

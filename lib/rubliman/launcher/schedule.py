@@ -30,7 +30,7 @@ def minutes_of(page: str) -> dict[str, tuple[float, float]]:
 
 
 def tasks_of(sources: Sources, page: str) -> list[Task]:
-    """What there is to prove, lowest crate first. A crate that the page does not name takes as long as others of as many lines."""
+    """What there is to prove, lowest crate first. A crate that the page does not name goes by its lines."""
     told = minutes_of(page)
     lines = {it.name: sources.lines(it.name) for it in sources.crates}
     known = [name for name in lines if name in told]
@@ -46,7 +46,7 @@ def tasks_of(sources: Sources, page: str) -> list[Task]:
 
 
 def minutes_left(tasks: Iterable[Task], proved: Iterable[str], cores: int) -> float:
-    """The minutes by the clock from where these crates are proved, those first that have the longest way to go behind them."""
+    """The minutes by the clock from where these crates are proved, the longest way first."""
     done = set(proved)
     left = [it for it in tasks if it.crate not in done]
     behind = _ways(left)

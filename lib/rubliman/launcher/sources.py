@@ -65,7 +65,7 @@ def crates_of(text: str, programs: Iterable[str] = PROGRAMS) -> tuple[Crate, ...
 
 
 def read_sources(top: Path, programs: Iterable[str] = PROGRAMS) -> Sources:
-    """The sources of the programs as they stand. What stands beside them (tests of other crates, say) has no part in it."""
+    """The sources of the programs as they stand. Crates that they do not stand on have no part in it."""
     try:
         crates = crates_of((top / "crates.txt").read_text(encoding="utf-8"), programs)
         files = {}

@@ -24,8 +24,11 @@ class Standing:
         lines = [f"version    {proving.version()}"]
         if self.sources is not None:
             files = len(self.sources.files)
-            lines.append(f"sources    {self.fingerprint[:16]}, {files} files of {len(self.sources.crates)} crates in {places.TOP}")
-            lines.append(f"toolchain  {self.toolchain or 'rt is not on the PATH'}")
+            lines.append(
+                f"sources    {self.fingerprint[:16]}, {files} files of {len(self.sources.crates)} crates, "
+                f"in {places.TOP}"
+            )
+            lines.append(f"toolchain  {self.toolchain or 'none: rt is not on the PATH, or does not tell its version'}")
         else:
             lines.append(f"sources    {self.fingerprint[:16]}, installed in {places.TOP}")
         if self.kept is None:
@@ -46,9 +49,17 @@ def now() -> Standing:
         return Standing(None, found.record.sources, found.record.toolchain, found)
     sources = read_sources(places.TOP)
     fingerprint = sources.fingerprint()
-    rt = toolchain.find()
-    identity = toolchain.identity(rt) if rt else None
+    identity = _toolchain()
     return Standing(sources, fingerprint, identity, kept.find(fingerprint, identity))
+
+
+def _toolchain() -> str | None:
+    """The toolchain's line, or None where there is none that tells it."""
+    rt = toolchain.find()
+    try:
+        return toolchain.identity(rt) if rt else None
+    except Problem:
+        return None
 
 
 def prove() -> Kept:

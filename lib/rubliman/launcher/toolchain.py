@@ -22,12 +22,14 @@ def wanted(what: str) -> str:
     """The path of `rt`. Raises `Problem` where it is not there, which says what it is wanted for."""
     found = find()
     if found is None:
-        raise Problem(f"the toolchain's command rt is not on the PATH, and {what}: see README.md, \"What it needs\"", MISSING)
+        raise Problem(
+            f'the toolchain\'s command rt is not on the PATH, and {what}: see README.md, "What it needs"', MISSING
+        )
     return found
 
 
 def identity(rt: str) -> str:
-    """The toolchain's line about itself, which is another for each version of it. It is asked once for each `rt` that stands there."""
+    """The toolchain's line about itself, another for each version. Each `rt` is asked once."""
     found = os.stat(rt)
     stamp = [os.path.realpath(rt), found.st_mtime_ns, found.st_size, found.st_ino]
     file = places.cache() / "toolchain.json"
@@ -42,7 +44,9 @@ def identity(rt: str) -> str:
 
 
 def _asked(rt: str) -> str:
-    ran = subprocess.run([rt, "version"], stdin=subprocess.DEVNULL, stdout=subprocess.PIPE, stderr=subprocess.DEVNULL, check=False)
+    ran = subprocess.run(
+        [rt, "version"], stdin=subprocess.DEVNULL, stdout=subprocess.PIPE, stderr=subprocess.DEVNULL, check=False
+    )
     said = ran.stdout.decode(errors="replace").strip()
     if ran.returncode or not said:
         raise Problem(f"{rt} version ended with status {ran.returncode} and names no toolchain", MISSING)

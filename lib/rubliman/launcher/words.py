@@ -1,6 +1,7 @@
 """Reads the program's words as the program does, where it is not there to be asked.
 
-The texts are the program's own, recorded in `program_texts.json`. Each was given for marked words, which are replaced by those at hand.
+The texts are the program's own, recorded in `program_texts.json`. Each was given for marked words, which are replaced
+by those at hand.
 """
 from __future__ import annotations
 
