@@ -204,6 +204,24 @@ class Proving(InRepository):
         self.assertEqual((done.returncode, self.calls()), (0, ["run"]))
         self.assertIn("crate 2 of 4, high: begun", done.stderr)
 
+    def test_a_source_changed_or_touched_while_it_is_proved_in_the_checkout(self) -> None:
+        for name in ("low", "high", "side"):
+            (self.top / "crates" / name / "out/incremental").mkdir(parents=True)
+        source = self.top / "crates/low/src/lib.rt"
+        for does, said in ((f"touch {source}", "touched"), (f"echo '// more' >>{source}", "changed")):
+            self.fake(f"{does}; mkdir -p out; cp {{program}} out/sparc8")
+            done = self.sparc8()
+            self.assertEqual((done.returncode, done.stdout), (1, ""))
+            self.assertIn(f"a source was {said} while it was being proved", done.stderr)
+            self.assertIn("proved     no", self.sparc8("--check").stdout)
+
+    def test_a_cache_that_cannot_be_written(self) -> None:
+        self.fake(PROVES)
+        self.cache.write_text("", encoding="utf-8")
+        done = self.sparc8()
+        self.assertEqual((done.returncode, done.stdout, done.stderr.count("\n")), (1, "", 1))
+        self.assertIn(str(self.cache), done.stderr)
+
     def test_what_the_gate_built_after_that_is_taken(self) -> None:
         for name in ("low", "high", "side"):
             (self.top / "crates" / name / "out/incremental").mkdir(parents=True)

@@ -41,17 +41,17 @@ def main(words: Sequence[str]) -> int:
     except Problem as problem:
         say(str(problem))
         return problem.status
-    except PermissionError as problem:
-        say(
-            f"{problem.filename} cannot be written or read ({problem.strerror}): "
-            f"RUBLIMAN_CACHE= names another folder than {places.cache()}"
-        )
-        return 1
     except Interrupted as interrupted:
         return interrupted.status
     except KeyboardInterrupt:
         return 130
     except BrokenPipeError:
+        return 1
+    except PermissionError as problem:
+        say(f"{problem}: RUBLIMAN_CACHE= names another folder than {places.cache()}")
+        return 1
+    except OSError as problem:
+        say(str(problem))
         return 1
 
 

@@ -72,11 +72,16 @@ def _prove(asked: Asked) -> Kept:
     with tempfile.TemporaryDirectory(prefix="work-", dir=places.cache(), ignore_cleanup_errors=True) as room:
         made = _by_gate(asked, Path(room), progress) if way == BY_GATE else _by_run(asked, places.TOP, progress)
         found = kept.keep(made, record(asked.fingerprint, asked.toolchain, way, made))
-    if read_sources(places.TOP).fingerprint() != asked.fingerprint:
-        raise Problem("a source was changed while it was being proved: run this again")
+    _stop_where_changed(asked)
     progress.note_pace()
     say(f"done after {progress.minutes_gone():.1f} minutes: proved and built")
     return found
+
+
+def _stop_where_changed(asked: Asked) -> None:
+    """Raises `Problem` where the sources are no more those that were to be proved."""
+    if read_sources(places.TOP).fingerprint() != asked.fingerprint:
+        raise Problem("a source was changed while it was being proved: run this again")
 
 
 def _begun(asked: Asked) -> tuple[Progress, str]:
@@ -151,10 +156,23 @@ def write_copy(sources: Sources, copy: Path) -> None:
 
 
 def _by_run(asked: Asked, top: Path, progress: Progress) -> dict[str, Path]:
-    """Proves by `rt run` in the checkout, each program in turn, over what was kept there."""
+    """Proves by `rt run` in the checkout, each program in turn, over what was kept there.
+
+    The toolchain reads the sources themselves, so they may not be touched meanwhile, not even to what they were.
+    """
+    times = _touched(asked.sources)
     for name in PROGRAMS:
         _ran([asked.rt, "run"], top / "crates" / name, toolchain.environment(), progress)
+    _stop_where_changed(asked)
+    if _touched(asked.sources) != times:
+        raise Problem("a source was touched while it was being proved: run this again")
     return built(top)
+
+
+def _touched(sources: Sources) -> dict[str, tuple[int, int]]:
+    """When each source was last written, and its place on the disk."""
+    found = {path: (places.TOP / path).stat() for path in sources.files}
+    return {path: (it.st_ctime_ns, it.st_ino) for path, it in found.items()}
 
 
 def built(top: Path) -> dict[str, Path]:
