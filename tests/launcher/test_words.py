@@ -4,44 +4,16 @@ from __future__ import annotations
 import json
 import os
 import random
-import subprocess
-import tempfile
 import unittest
-from pathlib import Path
 
 from rubliman.launcher.likeness import jaro
-from rubliman.launcher.words import TEXTS, Refused, Settings, read, recorded
+from rubliman.launcher.words import Refused, Settings, read, recorded
 
-from .asked_words import ASKED
+from .asked_words import ASKED, SAMPLE, TEXTS, ask
 
-SAMPLE = Path(__file__).with_name("recorded_words.json")
-WORDS = [
-    "--help",
-    "-h",
-    "--windows",
-    "--windows=4",
-    "--windows=3",
-    "--windows=",
-    "3",
-    "4",
-    "8",
-    "16",
-    "a",
-    "b",
-    "-x",
-    "--",
-    "-",
-    "--bogus",
-    "--window",
-    "--win",
-    "-1",
-    "",
-    "--help=1",
-    "-hx",
-    "-xh",
-    "32",
-    "é",
-    "--helm",
+WORDS = """--help -h --windows --windows=4 --windows=3 --windows= 3 4 8 16 a b -x -- - --bogus --window --win -1 --help=1
+-hx -xh 32 é --helm""".split() + [
+    ""
 ]
 
 
@@ -86,20 +58,13 @@ class Reading(unittest.TestCase):
 class TheProgram(unittest.TestCase):
     """The program that SPARC8 names answers as it was recorded."""
 
-    def run_program(self, words: list[str]) -> tuple[int, str, str]:
-        with tempfile.TemporaryDirectory() as folder:
-            done = subprocess.run(
-                [os.environ["SPARC8"], *words], cwd=folder, stdin=subprocess.DEVNULL, capture_output=True, check=False
-            )
-        return done.returncode, done.stdout.decode(), done.stderr.decode()
-
     def test_its_texts_are_the_recorded_ones(self) -> None:
         for name, it in recorded().items():
             with self.subTest(name=name):
                 self.assertEqual(
-                    self.run_program(list(it.words)),
+                    ask(it.words),
                     (it.status, it.out, it.err),
-                    f"the program's texts have changed: mend {TEXTS}",
+                    f"run asked_words.py, which records {TEXTS} anew",
                 )
 
     def test_any_words(self) -> None:
@@ -107,7 +72,7 @@ class TheProgram(unittest.TestCase):
         for _ in range(100):
             words = [choose.choice(WORDS) for _ in range(choose.randint(0, 4))]
             with self.subTest(words=words):
-                self.assertEqual(answer(words) or (0, "", ""), self.run_program(words))
+                self.assertEqual(answer(words) or (0, "", ""), ask(words))
 
 
 if __name__ == "__main__":
