@@ -93,6 +93,11 @@ class Installing(InRepository):
         self.assertEqual(done.returncode, 1)
         self.assertIn("cannot be installed below", done.stderr)
 
+    def test_the_repository_is_no_place(self) -> None:
+        before = sorted(self.top.rglob("*"))
+        self.assertEqual(self.sparc8("--install", str(self.top)).returncode, 2)
+        self.assertEqual(sorted(self.top.rglob("*")), before)
+
     def test_the_manual_pages_have_no_mistakes(self) -> None:
         if shutil.which("man") is None:
             return

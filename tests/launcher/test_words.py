@@ -11,8 +11,8 @@ from rubliman.launcher.words import Refused, Settings, read, recorded
 
 from .asked_words import ASKED, SAMPLE, TEXTS, ask
 
-WORDS = """--help -h --windows --windows=4 --windows=3 --windows= 3 4 8 16 a b -x -- - --bogus --window --win -1 --help=1
--hx -xh 32 é --helm""".split() + [
+WORDS = """--help -h --windows --windows=4 --windows=3 --windows= 3 4 8 16 a b -x -- - --bogus --window --win -1
+--help=1 -hx -xh 32 é --helm""".split() + [
     ""
 ]
 

@@ -16,6 +16,8 @@ _LEFT_OUT = shutil.ignore_patterns("__pycache__", "*.pyc")
 def install(proved: Kept, prefix: Path) -> None:
     """Puts the commands in bin, what they need in lib/rubliman, manual pages in share/man, the guide in share/doc."""
     prefix = prefix.absolute()
+    if prefix.resolve() == places.TOP:
+        raise Problem("the repository itself is no place to install to: name another folder", 2)
     try:
         _install_package(proved, prefix / "lib" / "rubliman")
         _install_commands(prefix / "bin")
