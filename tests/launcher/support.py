@@ -99,7 +99,7 @@ class InRepository(unittest.TestCase):
             capture_output=True,
             text=True,
             check=False,
-            timeout=60,
+            timeout=250,
         )
 
     def calls(self) -> list[str]:
@@ -138,7 +138,7 @@ class InRepository(unittest.TestCase):
 
     def wait_for(self, file: Path) -> None:
         """Waits until a file is there."""
-        until = time.monotonic() + 20
+        until = time.monotonic() + 120
         while not file.exists():
             self.assertLess(time.monotonic(), until, f"{file} does not come")
             time.sleep(0.02)
@@ -147,7 +147,7 @@ class InRepository(unittest.TestCase):
 def interrupt(process: subprocess.Popen[str], number: signal.Signals) -> tuple[int, str]:
     """Sends a signal as a terminal does, and gives the status and what was said."""
     os.killpg(process.pid, number)
-    _, said = process.communicate(timeout=20)
+    _, said = process.communicate(timeout=120)
     return process.returncode, said
 
 

@@ -99,6 +99,19 @@ class Proving(InRepository):
         self.assertEqual(self.sparc8("--check").stdout.count("proved     no"), 1)
         self.assert_nothing_left()
 
+    def test_a_test_that_fails_is_told_and_keeps_no_proved_program_back(self) -> None:
+        self.fake(f"{PROVES}\necho 'rt: FAILED: low (tests)'; exit 1")
+        done = self.sparc8(given="list\n")
+        self.assertEqual((done.returncode, done.stdout), (0, "words \nlist\n"))
+        self.assertIn("every crate is proved, but the toolchain refuses something else", done.stderr)
+        self.assertIn("\nrt: FAILED: low (tests)\n", done.stderr)
+
+    def test_a_program_is_not_taken_where_a_crate_is_not_proved(self) -> None:
+        self.fake(PROVES.replace("for it in low side", "for it in side") + "echo 'rt: low NOT PROVED'; exit 1")
+        done = self.sparc8()
+        self.assertEqual((done.returncode, done.stdout), (1, ""))
+        self.assertIn("proved     no", self.sparc8("--check").stdout)
+
     def test_an_end_without_a_program_is_told(self) -> None:
         self.fake("echo 'rt: ok'")
         done = self.sparc8()
@@ -192,7 +205,7 @@ class Proving(InRepository):
                 assert second.stderr is not None
                 self.assertIn("another ./sparc8 is proving; waiting for it", second.stderr.readline())
                 go.touch()
-                self.assertEqual(first.communicate(timeout=20)[0], second.communicate(timeout=20)[0])
+                self.assertEqual(first.communicate(timeout=120)[0], second.communicate(timeout=120)[0])
         self.assertEqual(self.calls(), ["ci"])
 
     def test_a_checkout_with_kept_work_proves_over_it(self) -> None:

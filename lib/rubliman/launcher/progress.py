@@ -51,6 +51,10 @@ class Progress:
             return self.minutes_gone() / done
         return self._pace
 
+    def is_all_proved(self) -> bool:
+        """Whether the toolchain has said of every crate that it is proved."""
+        return set(self._names) <= set(self.proved)
+
     def whole(self) -> str:
         """What there is to prove from nothing, in words."""
         return f"{len(self._names)} crates, about {self._pace * self._whole:.0f} minutes"

@@ -41,6 +41,14 @@ class Asked:
     toolchain: str
 
 
+class Refused(Problem):
+    """The toolchain refuses something: what it said."""
+
+    def __init__(self, said: list[str]) -> None:
+        super().__init__("\n".join(["the program could not be proved and built; the toolchain said:", *said]))
+        self.said = said
+
+
 def prove(asked: Asked) -> Kept:
     """Proves and builds the programs, and keeps them. Waits while another `./sparc8` does so."""
     try:
@@ -133,7 +141,13 @@ def _by_gate(asked: Asked, room: Path, progress: Progress) -> dict[str, Path]:
     # The toolchain runs programs as nobody where it runs as root, so its temporary files stand where nobody may come.
     with tempfile.TemporaryDirectory(prefix="sparc8-", ignore_cleanup_errors=True) as temporary:
         os.chmod(temporary, 0o711)
-        _ran([asked.rt, "ci"], copy, {**toolchain.environment(), "TMPDIR": temporary}, progress)
+        try:
+            _ran([asked.rt, "ci"], copy, {**toolchain.environment(), "TMPDIR": temporary}, progress)
+        except Refused as refused:
+            if not progress.is_all_proved():
+                raise
+            # The proof is all that a run needs. That a test fails, say, is for the gate to judge.
+            say("\n".join(["every crate is proved, but the toolchain refuses something else; it said:", *refused.said]))
     return built(copy)
 
 
@@ -192,11 +206,8 @@ def _ran(words: list[str], folder: Path, environment: dict[str, str], progress: 
         said.line(line)
         progress.line(line)
 
-    status = running.run(words, folder, environment, tell, progress.tick)
-    if status:
-        raise Problem(
-            "\n".join(["the program could not be proved and built; the toolchain said:", *said.lines[-_SHOWN_LINES:]])
-        )
+    if running.run(words, folder, environment, tell, progress.tick):
+        raise Refused(said.lines[-_SHOWN_LINES:])
 
 
 class Said:
