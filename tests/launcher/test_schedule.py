@@ -27,6 +27,7 @@ class Schedule(unittest.TestCase):
 
     def test_the_page(self) -> None:
         self.assertEqual(minutes_of(PAGE)["low"], (4.0, 1.0))
+        self.assertEqual(minutes_of("| `it` | 0.9 | 5.2 | 7.5 | 4.4 | 18.0 |")["it"], (0.9 + 4.4, 5.2))
         self.assertEqual(sum(it.minutes for it in self.tasks), 14.0)
 
     def test_one_processor_takes_the_sum(self) -> None:
@@ -52,8 +53,10 @@ class Schedule(unittest.TestCase):
         with contextlib.redirect_stderr(io.StringIO()) as said:
             progress.line("rt: low proved")
         self.assertEqual(said.getvalue(), "sparc8: crate 1 of 4, low: proved; 10 minutes gone, about 18 to come\n")
-        # 5 of 14 minutes' work took 10, so the other 9 take 18.
+        # 5 of 14 minutes' work took 10, so the other 9 take 18, of which 3 go by.
         self.assertAlmostEqual(progress.minutes_to_come(), 18.0)
+        now[0] = 60.0 * 13
+        self.assertAlmostEqual(progress.minutes_to_come(), 15.0)
 
 
 if __name__ == "__main__":

@@ -63,10 +63,12 @@ def read(folder: Path) -> Kept | None:
 
 
 def _folder() -> Path:
+    """Where they stand."""
     return places.cache() / "proved"
 
 
 def _name(sources: str, toolchain: str) -> str:
+    """The folder's name for these sources and this toolchain."""
     return f"{sources[:32]}-{hashlib.sha256(toolchain.encode()).hexdigest()[:16]}"
 
 
@@ -85,9 +87,14 @@ def keep(programs: Mapping[str, Path], record: Record) -> Kept:
         made = Path(room) / "made"
         write(programs, record, made)
         to = folder / _name(record.sources, record.toolchain)
-        with contextlib.suppress(FileNotFoundError):
-            os.rename(to, Path(room) / "old")
-        os.rename(made, to)
+        try:
+            with contextlib.suppress(FileNotFoundError):
+                os.rename(to, Path(room) / "old")
+            os.rename(made, to)
+        except OSError:
+            # Another run has kept the same at this moment.
+            if read(to) is None:
+                raise
     _shrink(folder)
     return Kept(to, record)
 

@@ -28,7 +28,7 @@ class Progress:
     ) -> None:
         self._tasks, self._cores, self._foretells, self._clock = tasks, cores, foretells, clock
         self._names = list(dict.fromkeys(it.crate for it in tasks))
-        self._begun = self._told = clock()
+        self._begun = self._told = self._ended = clock()
         self._whole = schedule.minutes_left(tasks, (), cores)
         self._pace = times.measured().get("pace", 1.0)
         self._functions, self._of_crate, self._within, self._current = 0, 0, "", ""
@@ -43,13 +43,12 @@ class Progress:
     def minutes_to_come(self) -> float:
         """The minutes that are left at the pace of this run, or of an earlier one where this one has just begun."""
         left = schedule.minutes_left(self._tasks, self.proved, self._cores)
-        return left * self._pace_so_far(left)
+        since = (self._clock() - self._ended) / 60
+        return max(left * self._pace_so_far(left) - since, min(left, _LEAST_MINUTES))
 
     def _pace_so_far(self, left: float) -> float:
-        done = self._whole - left
-        if self.has_worked and done >= _LEAST_MINUTES and self.minutes_gone() >= _LEAST_MINUTES:
-            return self.minutes_gone() / done
-        return self._pace
+        done, took = self._whole - left, (self._ended - self._begun) / 60
+        return took / done if self.has_worked and min(done, took) >= _LEAST_MINUTES else self._pace
 
     def is_all_proved(self) -> bool:
         """Whether the toolchain has said of every crate that it is proved."""
@@ -87,6 +86,7 @@ class Progress:
     def _end(self, name: str, is_new: bool) -> None:
         """Where crates are proved side by side: a crate is proved, now or by an earlier run."""
         self.proved.append(name)
+        self._ended = self._clock()
         self.has_worked, self.was_kept = self.has_worked or is_new, self.was_kept or not is_new
         self._functions += self._of_crate if is_new else 0
         how = "proved" if is_new else "was proved before"

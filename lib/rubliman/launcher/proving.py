@@ -100,8 +100,8 @@ def _begun(asked: Asked) -> tuple[Progress, str]:
     progress = Progress(tasks, cores, foretells=way == BY_GATE)
     if way == BY_GATE:
         say(
-            f"proving and building the program, as these sources have not been proved by ./sparc8 yet: "
-            f"{progress.whole()} on {cores} processors, less what rt ci has proved of them on this machine"
+            f"proving and building the program: {progress.whole()} on {cores} processors, "
+            f"where nothing of it was proved on this machine"
         )
     else:
         say("proving and building the program over what rt check kept in this checkout")

@@ -8,8 +8,9 @@ from dataclasses import dataclass
 
 from .sources import Sources
 
-# A row of the table in docs/PROVING.md: the crate, and the processor minutes of its proof and of its tests.
-_ROW = re.compile(r"\| `(\w+)` \| ([0-9.]+) \| ([0-9.]+) \|")
+# A row of the table in docs/PROVING.md: the crate, and the processor minutes of its proof, of its tests, and, behind
+# those of the must-fail edits, of the rest, which is the building of a program.
+_ROW = re.compile(r"\| `(\w+)` \| ([0-9.]+) \| ([0-9.]+) \|(?: [0-9.]+ \| ([0-9.]+) \|)?")
 # How much faster a crate is proved by so many jobs than by one.
 _SPEED = (0.0, 1.0, 1.5, 1.9, 2.2)
 
@@ -25,8 +26,8 @@ class Task:
 
 
 def minutes_of(page: str) -> dict[str, tuple[float, float]]:
-    """The processor minutes of each crate's proof and of its tests that the page on proving tells."""
-    return {name: (float(proof), float(tests)) for name, proof, tests in _ROW.findall(page)}
+    """The processor minutes of each crate's proof and building, and of its tests, that the page on proving tells."""
+    return {name: (float(proof) + float(rest or 0), float(tests)) for name, proof, tests, rest in _ROW.findall(page)}
 
 
 def tasks_of(sources: Sources, page: str) -> list[Task]:

@@ -115,6 +115,7 @@ class _Reader:
         self.values[name] = value or ""
 
     def _judge_windows(self, value: str | None) -> None:
+        """Judges the value of `--windows`. A wrong one counts as used all the same."""
         if value is None:
             raise Refused("missing value")
         if WINDOWS in self.used:
@@ -138,6 +139,7 @@ class _Reader:
             pass
 
     def _long(self, name: str, value: str | None) -> None:
+        """A word that begins with `--`."""
         self.waits = False
         if name == WINDOWS:
             self.settle()
@@ -153,6 +155,7 @@ class _Reader:
             self._unknown(name)
 
     def _unknown(self, name: str) -> None:
+        """Tells of an option that is not known, and of one that is like it."""
         self._settle_anyhow()
         similar = most_like(name, (WINDOWS, HELP))
         if similar is None:
@@ -163,9 +166,11 @@ class _Reader:
         raise Refused(self._with_usage("like help"), {"--helm": f"--{name}"})
 
     def _with_usage(self, name: str) -> str:
+        """The name of the text whose usage line has what was used so far."""
         return " ".join([name, *sorted(self.used)])
 
     def _short(self, flags: str) -> None:
+        """A word that begins with one `-`: its first letter decides."""
         self.waits = False
         flag = flags[0]
         if flag == "h":
@@ -175,6 +180,7 @@ class _Reader:
         raise Refused("unknown flag", {"-W": f"-{flag}", "-- -W": f"-- -{flag}"})
 
     def _positional(self, word: str) -> None:
+        """The script, of which there is one."""
         if self.has_script:
             raise Refused("too many words", {"WORD": word})
         self.settle()
@@ -182,5 +188,6 @@ class _Reader:
 
 
 def _split(text: str) -> tuple[str, str | None]:
+    """A name, and the value behind the first `=`, if there is one."""
     name, equals, value = text.partition("=")
     return name, value if equals else None
