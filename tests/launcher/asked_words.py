@@ -14,7 +14,12 @@ from pathlib import Path
 TEXTS = Path(__file__).resolve().parents[2] / "lib/rubliman/launcher/program_texts.json"
 SAMPLE = Path(__file__).with_name("recorded_words.json")
 
-_BEFORE = {"": [], " script": ["a"], " windows": ["--windows", "4"], " script windows": ["--windows", "4", "a"]}
+_BEFORE: dict[str, list[str]] = {
+    "": [],
+    " script": ["a"],
+    " windows": ["--windows", "4"],
+    " script windows": ["--windows", "4", "a"],
+}
 
 # By the name of the answer. Behind the name of some stands what the usage line of the answer names.
 ASKED: dict[str, list[str]] = {

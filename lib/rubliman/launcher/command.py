@@ -87,6 +87,7 @@ def _proved_program() -> Path:
 
 
 def _become(program: Path, words: Sequence[str]) -> int:
+    """Has the program take over this process."""
     # A recorded run takes fresh memory all the time, which the system gives faster in large pages.
     os.environ.setdefault("GLIBC_TUNABLES", "glibc.malloc.hugetlb=1")
     # Python ignores these, and the program would inherit that.
@@ -98,6 +99,7 @@ def _become(program: Path, words: Sequence[str]) -> int:
 
 
 def _asks_help(words: Sequence[str]) -> bool:
+    """Whether the program answers these words by its help."""
     from .words import Refused, read
 
     if not any(it.startswith("-") for it in words):
@@ -150,16 +152,19 @@ def fault_of(script: str) -> str | None:
 
 
 def _in_repository(word: str) -> None:
+    """Raises `Problem` where this was installed."""
     if not places.is_repository():
         raise Problem(f"{word} is for the repository, and this program was installed", 2)
 
 
 def _no_more(word: str, words: Sequence[str]) -> None:
+    """Raises `Problem` where words stand behind one that takes none."""
     if words:
         raise Problem(f"{word} takes no word behind it", 2)
 
 
 def _unproved(words: Sequence[str]) -> int:
+    """Runs a script with no proof."""
     _in_repository("--unproved")
     status = _answered(words)
     if status is not None:
@@ -186,6 +191,7 @@ def _import(words: Sequence[str]) -> int:
 
 
 def _install(words: Sequence[str]) -> int:
+    """Installs what is proved, below the folder that the word names."""
     _in_repository("--install")
     if len(words) != 1 or words[0].startswith("-"):
         raise Problem("--install takes one word behind it, the folder to install below, as /usr/local", 2)
@@ -196,6 +202,7 @@ def _install(words: Sequence[str]) -> int:
 
 
 def _check(words: Sequence[str]) -> int:
+    """Tells what stands here."""
     _no_more("--check", words)
     from . import standing
 
@@ -204,6 +211,7 @@ def _check(words: Sequence[str]) -> int:
 
 
 def _program(words: Sequence[str]) -> int:
+    """Tells where the proved program is."""
     _no_more("--program", words)
     print(_proved_program())
     return 0

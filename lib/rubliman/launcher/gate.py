@@ -31,6 +31,7 @@ def main(words: Sequence[str]) -> int:
 
 
 def _keep(fingerprint: str) -> None:
+    """Keeps what `rt ci` left in this checkout."""
     rt = toolchain.wanted("the gate's program is kept under its name")
     made = proving.built(places.TOP)
     found = kept.keep(made, proving.record(fingerprint, toolchain.identity(rt), proving.BY_GATE, made))

@@ -46,6 +46,7 @@ def _install_package(proved: Kept, to: Path) -> None:
 
 
 def _install_commands(to: Path) -> None:
+    """The commands that users give."""
     to.mkdir(parents=True, exist_ok=True)
     _put(places.TOP / "sparc8", to / "sparc8", 0o755)
 

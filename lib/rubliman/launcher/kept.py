@@ -76,7 +76,7 @@ def find(sources: str, toolchain: str | None) -> Kept | None:
     """What was proved of these sources by this toolchain, or by any where none is named: then the newest."""
     pattern = _name(sources, toolchain) if toolchain is not None else f"{sources[:32]}-*"
     found = [it for it in map(read, _folder().glob(pattern)) if it is not None and it.record.sources == sources]
-    return max(found, key=lambda it: it.record.proved_at, default=None)
+    return max(found, key=lambda it: it.record.proved_at) if found else None
 
 
 def keep(programs: Mapping[str, Path], record: Record) -> Kept:

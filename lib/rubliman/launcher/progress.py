@@ -47,6 +47,7 @@ class Progress:
         return max(left * self._pace_so_far(left) - since, min(left, _LEAST_MINUTES))
 
     def _pace_so_far(self, left: float) -> float:
+        """How many minutes by the clock one of the schedule's takes."""
         done, took = self._whole - left, (self._ended - self._begun) / 60
         return took / done if self.has_worked and min(done, took) >= _LEAST_MINUTES else self._pace
 
@@ -98,6 +99,7 @@ class Progress:
             self._tell(f"  {', '.join(self._at_work())}" + (f", {self._within}" if self._within else ""))
 
     def _at_work(self) -> list[str]:
+        """The crates that may be under way: those that wait for none."""
         if self._current:
             return [self._current]
         ready = [
@@ -108,6 +110,7 @@ class Progress:
         return [it.crate for it in ready] or ["tests"]
 
     def _tell(self, text: str) -> None:
+        """Tells a line, with the minutes."""
         self._told = self._clock()
         counted = f", {self._functions} functions" if self._functions else ""
         to_come = f", about {self.minutes_to_come():.0f} to come" if self._foretells else ""

@@ -76,6 +76,7 @@ def _alone() -> Iterator[bool]:
 
 
 def _prove(asked: Asked) -> Kept:
+    """Proves, keeps, and tells so."""
     progress, way = _begun(asked)
     with tempfile.TemporaryDirectory(prefix="work-", dir=places.cache(), ignore_cleanup_errors=True) as room:
         made = _by_gate(asked, Path(room), progress) if way == BY_GATE else _by_run(asked, places.TOP, progress)

@@ -9,6 +9,7 @@ from . import places
 
 
 def _file() -> Path:
+    """Where they are kept."""
     return places.cache() / "times.json"
 
 

@@ -44,6 +44,7 @@ def identity(rt: str) -> str:
 
 
 def _asked(rt: str) -> str:
+    """What `rt version` says."""
     ran = subprocess.run(
         [rt, "version"], stdin=subprocess.DEVNULL, stdout=subprocess.PIPE, stderr=subprocess.DEVNULL, check=False
     )
