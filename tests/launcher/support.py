@@ -52,9 +52,9 @@ class InRepository(unittest.TestCase):
         kept = tempfile.TemporaryDirectory(prefix="rubliman-launcher-")
         self.addCleanup(kept.cleanup)
         self.room = Path(kept.name)
-        self.top, self.bin, self.temporary, self.cache = (self.room / it for it in ("top", "bin", "tmp", "cache"))
+        self.top, self.bin, self.temporary, self.cache = (self.room / it for it in ("top", "kit/bin", "tmp", "cache"))
         for it in (self.top, self.bin, self.temporary):
-            it.mkdir()
+            it.mkdir(parents=True)
         self.log = self.room / "log"
         self.log.touch()
         shutil.copy(TOP / "sparc8", self.top)

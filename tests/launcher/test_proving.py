@@ -1,9 +1,11 @@
 """How the launcher proves, keeps and runs the program, by a fake of the toolchain."""
 from __future__ import annotations
 
+import json
 import os
 import signal
 import unittest
+from pathlib import Path
 from unittest import mock
 
 from rubliman.launcher import kept
@@ -208,21 +210,56 @@ class Proving(InRepository):
                 self.assertEqual(first.communicate(timeout=120)[0], second.communicate(timeout=120)[0])
         self.assertEqual(self.calls(), ["ci"])
 
-    def test_a_checkout_with_kept_work_proves_over_it(self) -> None:
+    def impatient(self) -> None:
+        """The launcher waits a moment only for what `rt ci` takes from earlier runs."""
+        module = self.top / "lib/rubliman/launcher/proving.py"
+        text = module.read_text(encoding="utf-8")
+        self.assertIn("MUCH_MINUTES = 15, 5\n", text)
+        module.write_text(text.replace("MUCH_MINUTES = 15, 5\n", "MUCH_MINUTES = 0.5, 5\n"), encoding="utf-8")
+
+    def keep_checks(self, top: Path) -> None:
+        """Checks have kept their work on three of the four crates."""
         for name in ("low", "high", "side"):
-            (self.top / "crates" / name / "out/incremental").mkdir(parents=True)
+            (top / "crates" / name / "out/incremental").mkdir(parents=True)
+
+    def test_kept_work_is_gone_on_from(self) -> None:
+        self.impatient()
+        self.keep_checks(self.top)
         said = "rt: chose --jobs 2 for high\nso far: 2 of 5 functions checked"
-        self.fake(f"mkdir -p out; cp {{program}} out/sparc8; echo '{said}'")
+        runs = f"mkdir -p out; cp {{program}} out/sparc8; echo '{said}'"
+        self.fake(f'if [ "$1" = ci ]; then sleep 100 & wait $!; fi\n{runs}')
         done = self.sparc8("--program")
-        self.assertEqual((done.returncode, self.calls()), (0, ["run"]))
+        self.assertEqual((done.returncode, self.calls()), (0, ["ci", "run"]), done.stderr)
         self.assertIn("crate 2 of 4, high: begun", done.stderr)
+        self.assertIn("proved     yes, by rt run", self.sparc8("--check").stdout)
+        self.assert_nothing_left()
+
+    def test_kept_work_of_other_checkouts_is_gone_on_from(self) -> None:
+        self.impatient()
+        other = self.room / "other"
+        self.keep_checks(other)
+        notes = self.room / "rattle-kept/work"
+        notes.mkdir(parents=True)
+        for name in ("low", "high", "side", "sparc8"):
+            note = {"folder": str(other / "crates" / name), "stamp": "1"}
+            (notes / f"{name}.1").write_text(json.dumps(note), encoding="utf-8")
+        self.fake('if [ "$1" = ci ]; then sleep 100 & wait $!; fi\nmkdir -p out; cp {program} out/sparc8')
+        self.assertEqual((self.sparc8("--program").returncode, self.calls()), (0, ["ci", "run"]))
+
+    def test_what_the_gate_proved_goes_before_kept_work(self) -> None:
+        self.impatient()
+        self.keep_checks(self.top)
+        tells = 'for it in low side high sparc8; do echo "rt: $it is kept: by an earlier run"; done; sleep 3\n'
+        self.fake(f"{tells}{PROVES}")
+        self.assertEqual((self.sparc8("--program").returncode, self.calls()), (0, ["ci"]))
 
     def test_a_source_changed_or_touched_while_it_is_proved_in_the_checkout(self) -> None:
-        for name in ("low", "high", "side"):
-            (self.top / "crates" / name / "out/incremental").mkdir(parents=True)
+        self.impatient()
+        self.keep_checks(self.top)
         source = self.top / "crates/low/src/lib.rt"
         for does, said in ((f"touch {source}", "touched"), (f"echo '// more' >>{source}", "changed")):
-            self.fake(f"{does}; mkdir -p out; cp {{program}} out/sparc8")
+            waits = 'if [ "$1" = ci ]; then sleep 100 & wait $!; fi'
+            self.fake(f"{waits}\n{does}; mkdir -p out; cp {{program}} out/sparc8")
             done = self.sparc8()
             self.assertEqual((done.returncode, done.stdout), (1, ""))
             self.assertIn(f"a source was {said} while it was being proved", done.stderr)
@@ -234,14 +271,6 @@ class Proving(InRepository):
         done = self.sparc8()
         self.assertEqual((done.returncode, done.stdout, done.stderr.count("\n")), (1, "", 1))
         self.assertIn(str(self.cache), done.stderr)
-
-    def test_what_the_gate_built_after_that_is_taken(self) -> None:
-        for name in ("low", "high", "side"):
-            (self.top / "crates" / name / "out/incremental").mkdir(parents=True)
-        (self.top / "crates/sparc8/out").mkdir()
-        (self.top / "crates/sparc8/out/sparc8.by-rattle").touch()
-        self.fake(PROVES)
-        self.assertEqual((self.sparc8("--program").returncode, self.calls()), (0, ["ci"]))
 
     def test_what_stands_is_told(self) -> None:
         self.fake(PROVES)

@@ -3,7 +3,8 @@
 Two ways lead there, both the toolchain's own. `rt ci`, on a copy of the needed crates without their must-fail edits,
 proves crates side by side from nothing, and shares what it proves with every `rt ci` on this machine: what the gate
 proved is taken in seconds, and the gate takes what was proved here. `rt run`, in the checkout, proves over what
-`rt check` kept there, so it is quick after an edit.
+`rt check` kept, so it is quicker where most was checked and a little was changed since. The first is begun; where much
+is left of it after some seconds, and checks have kept their work, the second takes over.
 """
 from __future__ import annotations
 
@@ -14,7 +15,8 @@ import os
 import re
 import shutil
 import tempfile
-from collections.abc import Iterator
+import time
+from collections.abc import Callable, Iterator
 from dataclasses import dataclass
 from pathlib import Path
 
@@ -25,6 +27,8 @@ from .progress import Progress
 from .sources import PROGRAMS, Sources, read_sources
 
 BY_GATE, BY_RUN = "rt ci", "rt run"
+# After so many seconds `rt ci` has told what it takes from earlier runs, and more than so many minutes are much.
+PATIENCE_SECONDS, MUCH_MINUTES = 15, 5
 _SHOWN_LINES = 400
 _HEAD = re.compile(r"== (.*)")
 _PROVED = re.compile(r"rt: (\w+(?:: its tests are)?) proved")
@@ -77,9 +81,21 @@ def _alone() -> Iterator[bool]:
 
 def _prove(asked: Asked) -> Kept:
     """Proves, keeps, and tells so."""
-    progress, way = _begun(asked)
+    page = places.TOP / "docs" / "PROVING.md"
+    tasks = schedule.tasks_of(asked.sources, page.read_text(encoding="utf-8") if page.is_file() else "")
+    cores = len(os.sched_getaffinity(0))
+    progress, way = Progress(tasks, cores), BY_GATE
+    say(
+        f"proving and building the program: {progress.whole()} on {cores} processors, "
+        f"where nothing of it was proved on this machine"
+    )
     with tempfile.TemporaryDirectory(prefix="work-", dir=places.cache(), ignore_cleanup_errors=True) as room:
-        made = _by_gate(asked, Path(room), progress) if way == BY_GATE else _by_run(asked, places.TOP, progress)
+        try:
+            made = _by_gate(asked, Path(room), progress)
+        except _Lags:
+            say("going on by rt run, over what rt check kept of most crates on this machine")
+            progress, way = Progress(tasks, cores, foretells=False), BY_RUN
+            made = _by_run(asked, places.TOP, progress)
         found = kept.keep(made, record(asked.fingerprint, asked.toolchain, way, made))
     _stop_where_changed(asked)
     progress.note_pace()
@@ -91,22 +107,6 @@ def _stop_where_changed(asked: Asked) -> None:
     """Raises `Problem` where the sources are no more those that were to be proved."""
     if read_sources(places.TOP).fingerprint() != asked.fingerprint:
         raise Problem("a source was changed while it was being proved: run this again")
-
-
-def _begun(asked: Asked) -> tuple[Progress, str]:
-    """How it is proved, and what tells how far that is."""
-    page = places.TOP / "docs" / "PROVING.md"
-    tasks = schedule.tasks_of(asked.sources, page.read_text(encoding="utf-8") if page.is_file() else "")
-    way, cores = _way(asked.sources), len(os.sched_getaffinity(0))
-    progress = Progress(tasks, cores, foretells=way == BY_GATE)
-    if way == BY_GATE:
-        say(
-            f"proving and building the program: {progress.whole()} on {cores} processors, "
-            f"where nothing of it was proved on this machine"
-        )
-    else:
-        say("proving and building the program over what rt check kept in this checkout")
-    return progress, way
 
 
 def record(fingerprint: str, identity: str, way: str, made: dict[str, Path]) -> Record:
@@ -123,16 +123,31 @@ def version() -> str:
         return "unknown"
 
 
-def _way(sources: Sources) -> str:
-    """How to prove: over what checks kept in this checkout, if that is most of it, and the gate was not here since."""
-    crates = places.TOP / "crates"
-    by_gate = crates / PROGRAMS[0] / "out" / f"{PROGRAMS[0]}.by-rattle"
-    newest = max((places.TOP / path).stat().st_mtime for path in sources.files)
-    if by_gate.is_file() and by_gate.stat().st_mtime > newest:
-        return BY_GATE
-    checked = [it.name for it in sources.crates if (crates / it.name / "out" / "incremental").is_dir()]
-    lines = {it.name: sources.lines(it.name) for it in sources.crates}
-    return BY_RUN if 2 * sum(lines[it] for it in checked) > sum(lines.values()) else BY_GATE
+class _Lags(Exception):
+    """Much is left, and there is kept work to go on from."""
+
+
+def _checks_have_most(asked: Asked) -> bool:
+    """Whether checks, here or in other checkouts, have kept their work on most of the crates, by lines."""
+    crates, elsewhere = places.TOP / "crates", toolchain.checked_elsewhere(asked.rt)
+    lines = {it.name: asked.sources.lines(it.name) for it in asked.sources.crates}
+    checked = [it for it in lines if it in elsewhere or (crates / it / "out" / "incremental").is_dir()]
+    return 2 * sum(lines[it] for it in checked) > sum(lines.values())
+
+
+def _watch(asked: Asked, progress: Progress) -> Callable[[], None]:
+    """Gives what is called each second: it tells the progress, and looks once whether much is left."""
+    begun, may_lag = time.monotonic(), _checks_have_most(asked)
+
+    def tick() -> None:
+        nonlocal may_lag
+        progress.tick()
+        if may_lag and time.monotonic() - begun >= PATIENCE_SECONDS:
+            may_lag = False
+            if progress.minutes_to_come() > MUCH_MINUTES:
+                raise _Lags
+
+    return tick
 
 
 def _by_gate(asked: Asked, room: Path, progress: Progress) -> dict[str, Path]:
@@ -143,7 +158,8 @@ def _by_gate(asked: Asked, room: Path, progress: Progress) -> dict[str, Path]:
     with tempfile.TemporaryDirectory(prefix="sparc8-", ignore_cleanup_errors=True) as temporary:
         os.chmod(temporary, 0o711)
         try:
-            _ran([asked.rt, "ci"], copy, {**toolchain.environment(), "TMPDIR": temporary}, progress)
+            environment = {**toolchain.environment(), "TMPDIR": temporary}
+            _ran([asked.rt, "ci"], copy, environment, progress, _watch(asked, progress))
         except Refused as refused:
             if not progress.is_all_proved():
                 raise
@@ -177,7 +193,7 @@ def _by_run(asked: Asked, top: Path, progress: Progress) -> dict[str, Path]:
     """
     times = _touched(asked.sources)
     for name in PROGRAMS:
-        _ran([asked.rt, "run"], top / "crates" / name, toolchain.environment(), progress)
+        _ran([asked.rt, "run"], top / "crates" / name, toolchain.environment(), progress, progress.tick)
     _stop_where_changed(asked)
     if _touched(asked.sources) != times:
         raise Problem("a source was touched while it was being proved: run this again")
@@ -199,7 +215,9 @@ def built(top: Path) -> dict[str, Path]:
     return made
 
 
-def _ran(words: list[str], folder: Path, environment: dict[str, str], progress: Progress) -> None:
+def _ran(
+    words: list[str], folder: Path, environment: dict[str, str], progress: Progress, tick: Callable[[], None]
+) -> None:
     """Runs the toolchain. Raises `Problem` where it fails, with what it said of what it did not prove."""
     said = Said()
 
@@ -207,7 +225,7 @@ def _ran(words: list[str], folder: Path, environment: dict[str, str], progress: 
         said.line(line)
         progress.line(line)
 
-    if running.run(words, folder, environment, tell, progress.tick):
+    if running.run(words, folder, environment, tell, tick):
         raise Refused(said.lines[-_SHOWN_LINES:])
 
 

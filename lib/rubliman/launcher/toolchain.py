@@ -6,6 +6,7 @@ import json
 import os
 import shutil
 import subprocess
+from pathlib import Path
 
 from . import places
 from .problem import Problem
@@ -52,6 +53,20 @@ def _asked(rt: str) -> str:
     if ran.returncode or not said:
         raise Problem(f"{rt} version ended with status {ran.returncode} and names no toolchain", MISSING)
     return said.splitlines()[0]
+
+
+def checked_elsewhere(rt: str) -> set[str]:
+    """The crates that a check has proved in some checkout on this machine, by the toolchain's notes of its kept work.
+
+    It is a hint: `rt run` begins with that work where it serves, and no verdict rests on it.
+    """
+    found = set()
+    for note in Path(os.path.realpath(rt)).parent.joinpath("../../rattle-kept/work").glob("*.*"):
+        with contextlib.suppress(OSError, ValueError, TypeError, KeyError):
+            said = json.loads(note.read_text(encoding="utf-8"))
+            if said["stamp"] and Path(said["folder"], "out", "incremental").is_dir():
+                found.add(note.name.partition(".")[0])
+    return found
 
 
 def environment() -> dict[str, str]:
