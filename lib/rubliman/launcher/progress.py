@@ -40,11 +40,14 @@ class Progress:
         """The minutes since the beginning."""
         return (self._clock() - self._begun) / 60
 
+    def seconds_at_work(self) -> float:
+        """The seconds since the last crate was proved or taken."""
+        return self._clock() - self._ended
+
     def minutes_to_come(self) -> float:
         """The minutes that are left at the pace of this run, or of an earlier one where this one has just begun."""
         left = schedule.minutes_left(self._tasks, self.proved, self._cores)
-        since = (self._clock() - self._ended) / 60
-        return max(left * self._pace_so_far(left) - since, min(left, _LEAST_MINUTES))
+        return max(left * self._pace_so_far(left) - self.seconds_at_work() / 60, min(left, _LEAST_MINUTES))
 
     def _pace_so_far(self, left: float) -> float:
         """How many minutes by the clock one of the schedule's takes."""
@@ -100,8 +103,8 @@ class Progress:
 
     def _at_work(self) -> list[str]:
         """The crates that may be under way: those that wait for none."""
-        if self._current:
-            return [self._current]
+        if self._current or not self._foretells:
+            return [self._current or "what was kept is read"]
         ready = [
             it
             for it in self._tasks

@@ -15,7 +15,6 @@ import os
 import re
 import shutil
 import tempfile
-import time
 from collections.abc import Callable, Iterator
 from dataclasses import dataclass
 from pathlib import Path
@@ -27,7 +26,7 @@ from .progress import Progress
 from .sources import PROGRAMS, Sources, read_sources
 
 BY_GATE, BY_RUN = "rt ci", "rt run"
-# After so many seconds `rt ci` has told what it takes from earlier runs, and more than so many minutes are much.
+# Where so many seconds go by with no crate, `rt ci` proves and takes no more, and more than so many minutes are much.
 PATIENCE_SECONDS, MUCH_MINUTES = 15, 5
 _SHOWN_LINES = 400
 _HEAD = re.compile(r"== (.*)")
@@ -137,12 +136,12 @@ def _checks_have_most(asked: Asked) -> bool:
 
 def _watch(asked: Asked, progress: Progress) -> Callable[[], None]:
     """Gives what is called each second: it tells the progress, and looks once whether much is left."""
-    begun, may_lag = time.monotonic(), _checks_have_most(asked)
+    may_lag = _checks_have_most(asked)
 
     def tick() -> None:
         nonlocal may_lag
         progress.tick()
-        if may_lag and time.monotonic() - begun >= PATIENCE_SECONDS:
+        if may_lag and progress.seconds_at_work() >= PATIENCE_SECONDS:
             may_lag = False
             if progress.minutes_to_come() > MUCH_MINUTES:
                 raise _Lags
