@@ -9,6 +9,8 @@ from collections.abc import Sequence
 from pathlib import Path
 from typing import NoReturn
 
+from rubliman.launcher import places
+
 from .imported import Imported, Settings, import_file
 from .limits import MOST_STEPS
 from .problem import Problem
@@ -140,5 +142,5 @@ def _parser() -> argparse.ArgumentParser:
     words.add_argument("--windows", type=int, choices=(2, 4, 8, 16, 32), metavar="N", help="register windows: 2, 4, 8, 16 or 32 (8)")
     words.add_argument("--addr2line", nargs="+", type=_place, default=[], metavar="STEP", help="tell where the program is at a step, "
                        "or what lies at an address (0x..)")
-    words.set_defaults(program=os.environ.get("SPARC8") or str(Path(__file__).resolve().parents[3] / "sparc8"))
+    words.set_defaults(program=os.environ.get("SPARC8") or str(places.command()))
     return words

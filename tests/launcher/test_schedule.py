@@ -1,0 +1,63 @@
+"""The minutes that proving takes, worked out by hand."""
+from __future__ import annotations
+
+import contextlib
+import io
+import unittest
+
+from rubliman.launcher.progress import Progress
+from rubliman.launcher.schedule import minutes_left, minutes_of, tasks_of
+from rubliman.launcher.sources import Sources, crates_of
+
+from .support import CRATES, PAGE
+
+TEXT = "".join(f"{name}: {uses}\n" for name, uses in CRATES.items())
+
+
+class Schedule(unittest.TestCase):
+    """Four crates: `low` takes 4 minutes and its tests 1, `side` 2, `high` 6 on `low`, the program 1 on both."""
+
+    def setUp(self) -> None:
+        crates = crates_of(TEXT)
+        self.sources = Sources(crates, {f"crates/{it.name}/src/lib.rt": b"\n" * 100 for it in crates})
+        self.tasks = tasks_of(self.sources, PAGE)
+
+    def test_the_needed_crates_lowest_first(self) -> None:
+        self.assertEqual([it.name for it in self.sources.crates], ["low", "high", "side", "sparc8"])
+
+    def test_the_page(self) -> None:
+        self.assertEqual(minutes_of(PAGE)["low"], (4.0, 1.0))
+        self.assertEqual(minutes_of("| `it` | 0.9 | 5.2 | 7.5 | 4.4 | 18.0 |")["it"], (0.9 + 4.4, 5.2))
+        self.assertEqual(sum(it.minutes for it in self.tasks), 14.0)
+
+    def test_one_processor_takes_the_sum(self) -> None:
+        self.assertAlmostEqual(minutes_left(self.tasks, (), 1), 14.0)
+
+    def test_the_longest_way_with_many_processors(self) -> None:
+        # `low` has one of three, so 4; then `high` with four jobs 6 / 2.2, then the program with four 1 / 2.2.
+        self.assertAlmostEqual(minutes_left(self.tasks, (), 4), 4 + 6 / 2.2 + 1 / 2.2)
+
+    def test_what_is_proved_is_not_counted(self) -> None:
+        self.assertAlmostEqual(minutes_left(self.tasks, ("low", "side", "high"), 1), 1.0)
+        self.assertEqual(minutes_left(self.tasks, [it.name for it in self.sources.crates], 4), 0.0)
+
+    def test_a_crate_that_the_page_does_not_name(self) -> None:
+        # 13 minutes for 400 lines of the four crates, less `side`: 11 for 300, so 11/3 for its 100.
+        page = PAGE.replace("`side`", "`another`")
+        self.assertAlmostEqual(next(it.minutes for it in tasks_of(self.sources, page) if it.crate == "side"), 11 / 3)
+
+    def test_the_minutes_to_come_follow_the_pace(self) -> None:
+        now = [0.0]
+        progress = Progress(self.tasks, 1, clock=lambda: now[0])
+        now[0] = 60.0 * 10
+        with contextlib.redirect_stderr(io.StringIO()) as said:
+            progress.line("rt: low proved")
+        self.assertEqual(said.getvalue(), "sparc8: crate 1 of 4, low: proved; 10 minutes gone, about 18 to come\n")
+        # 5 of 14 minutes' work took 10, so the other 9 take 18, of which 3 go by.
+        self.assertAlmostEqual(progress.minutes_to_come(), 18.0)
+        now[0] = 60.0 * 13
+        self.assertAlmostEqual(progress.minutes_to_come(), 15.0)
+
+
+if __name__ == "__main__":
+    unittest.main()
