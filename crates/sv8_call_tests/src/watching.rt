@@ -92,8 +92,8 @@ fn word(kind: AccessKind, at: u32) -> Observation {
 /// SETHI's word is 01000000 and rd * 2000000 and imm22 (Appendix B.9), ST's of `st %g1, [%g1]` is C2204000, SWAP's of `swap [%g1], %g2`
 /// C4784000, and that of `ba,a` to two words in front 30BFFFFE (Appendices B.4, B.8, B.21).
 #[test]
-fn fetches_and_accesses_are_seen() -> Result<(), Fail> {
-    let alloc = Global;
+fn fetches_and_accesses_are_seen(rt: HostRuntime) -> Result<(), Fail> {
+    let alloc = rt.alloc();
     let machine = loaded(
         alloc,
         &[
@@ -112,14 +112,14 @@ fn fetches_and_accesses_are_seen() -> Result<(), Fail> {
     let (machine, fourth) = watch(alloc, machine, 3, &timeline, &[fetch(12, 0x30bf_fffe)])?;
     // The slot behind `ba,a` is passed over, and nothing is fetched.
     let (_, fifth) = watch(alloc, machine, 4, &timeline, &[])?;
-    assert!(first && second && third && fourth && fifth);
+    assert!(rt; first && second && third && fourth && fifth);
     Ok(())
 }
 
 /// A trap instruction in supervisor mode with traps off leads to error mode; its type is 80 and its number (Appendix B.27, section 7.2).
 #[test]
-fn a_trap_is_seen() -> Result<(), Fail> {
-    let alloc = Global;
+fn a_trap_is_seen(rt: HostRuntime) -> Result<(), Fail> {
+    let alloc = rt.alloc();
     let machine = loaded(alloc, &[b"ta 1"])?;
     let timeline = Timeline::new(alloc, 8_192);
     let trapped = [fetch(0, 0x91d0_2001), Observation::Trap(0x81)];
@@ -127,15 +127,15 @@ fn a_trap_is_seen() -> Result<(), Fail> {
     let stopped = !machine.is_running();
     // In error mode nothing is seen.
     let (_, second) = watch(alloc, machine, 1, &timeline, &[])?;
-    assert!(first && stopped && second);
+    assert!(rt; first && stopped && second);
     Ok(())
 }
 
 /// A load of the console's input is an access, also where no byte waits. A load at an address that no device has is none, and
 /// traps as 09.
 #[test]
-fn devices_are_seen_where_they_answer() -> Result<(), Fail> {
-    let alloc = Global;
+fn devices_are_seen_where_they_answer(rt: HostRuntime) -> Result<(), Fail> {
+    let alloc = rt.alloc();
     let machine = loaded(
         alloc,
         &[b"sethi 0x200000, %g1", b"ld [%g1], %g2", b"ldub [%g1], %g2"],
@@ -146,6 +146,6 @@ fn devices_are_seen_where_they_answer() -> Result<(), Fail> {
     let (machine, second) = watch(alloc, machine, 1, &timeline, &loaded)?;
     let refused = [fetch(8, 0xc408_4000), Observation::Trap(0x09)];
     let (_, third) = watch(alloc, machine, 2, &timeline, &refused)?;
-    assert!(first && second && third);
+    assert!(rt; first && second && third);
     Ok(())
 }
