@@ -52,16 +52,16 @@ impl<const NW: usize, const PAGES: usize, const K: u32> Trace<NW, PAGES, K> {
     ) -> Result<Draft<NW, PAGES>, AllocError>
         requires limit { timeline.now.limit ≡ ram_size PAGES }
         requires room { recorded K self.old + K ≤ 1000000 }
-        requires draft { IsDraft NW PAGES K timeline.now self.old draft.entry }
+        requires draft { IsDraft NW PAGES K timeline.now self.old draft }
         requires delivered { draft.state.memory.taken ≤ bytes_below (recorded K self.old + draft.count) timeline.now.inputs }
-        ensures state { IfOk result (λ d. d.state ≡ step NW PAGES timeline.now (recorded K self.old + draft.count) draft.state) }
-        ensures delivered { IfOk result (λ d. d.state.memory.taken ≤ bytes_below (recorded K self.old + draft.count + 1) timeline.now.inputs) }
-        ensures touches { OnOk result (watch.new.touches ≡ footprint NW PAGES timeline.now (recorded K self.old + draft.count) draft.state) }
-        ensures observations { OnOk result (watch.new.observations ≡ observed NW PAGES timeline.now (recorded K self.old + draft.count) draft.state) }
+        ensures state { IfOk result (λ d. d.state ≡ step NW PAGES timeline.now (recorded K self.old + draft.entry.count) draft.entry.state) }
+        ensures delivered { IfOk result (λ d. d.state.memory.taken ≤ bytes_below (recorded K self.old + draft.entry.count + 1) timeline.now.inputs) }
+        ensures touches { OnOk result (watch.new.touches ≡ footprint NW PAGES timeline.now (recorded K self.old + draft.entry.count) draft.entry.state) }
+        ensures observations { OnOk result (watch.new.observations ≡ observed NW PAGES timeline.now (recorded K self.old + draft.entry.count) draft.entry.state) }
         ensures draft { IfOk result (λ d. IsDraft NW PAGES K timeline.now self.new d) }
-        ensures step { IfOk result (λ d. recorded K self.new + d.count ≡ recorded K self.old + draft.count + 1) }
-        ensures within { OnOk result (draft.count + 1 < K → self.new ≡ self.old) }
-        ensures extended { OnOk result (draft.count + 1 ≡ K → IsExtended NW PAGES K timeline.now self.old self.new) }
+        ensures step { IfOk result (λ d. recorded K self.new + d.count ≡ recorded K self.old + draft.entry.count + 1) }
+        ensures within { OnOk result (draft.entry.count + 1 < K → self.new ≡ self.old) }
+        ensures extended { OnOk result (draft.entry.count + 1 ≡ K → IsExtended NW PAGES K timeline.now self.old self.new) }
         ensures counted { OnOk result (work.new ≡ counted work.old) }
         ensures uncounted { OnErr result (work.new ≡ work.old ⊎ work.new ≡ counted work.old) }
         ensures refused { OnErr result (self.new ≡ self.old) }
