@@ -9,6 +9,7 @@ pub mod Below
 pub mod Recorded
 pub mod Searching
 pub mod Extending
+pub mod Drafting
 pub mod Growing
 pub mod Marking
 pub mod Spreading

@@ -5,6 +5,7 @@ pub mod Steps
 pub mod Sought
 pub mod Recorder
 pub mod Recording
+pub mod Drafts
 pub mod Marks
 pub mod Patch
 pub mod PageRuns

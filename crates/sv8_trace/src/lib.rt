@@ -5,6 +5,7 @@
 
 mod cell;
 mod column;
+mod draft;
 mod interval;
 mod kept;
 mod marks;
@@ -17,6 +18,7 @@ mod step_notes;
 mod trace;
 
 pub use cell::{Cell, Content};
+pub use draft::Draft;
 pub use patch::{Cause, Patch};
 pub use prepared::Prepared;
 pub use trace::{NO_END, Trace};

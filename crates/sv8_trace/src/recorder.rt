@@ -6,7 +6,7 @@ ghost use Rattle.sv8_time.specs.Schedule.{bytes_below};
 ghost use Rattle.sv8_phys.specs.Memory.{ram_size};
 ghost use Rattle.sv8_phys.specs.Notes.{told};
 ghost use Rattle.sv8_cpu.specs.WordPokes.{AreInside};
-ghost use Rattle.sv8_cpu.specs.Run.{step, footprint};
+ghost use Rattle.sv8_cpu.specs.Run.{step, footprint, observed};
 ghost use Rattle.sv8_cpu.specs.Recorded.{event_at, poke_of, get};
 ghost use Rattle.sv8_cpu.specs.Work.{counted};
 ghost use Rattle.sv8_trace.specs.Kept.{kept_in};
@@ -21,6 +21,7 @@ use crate::kept::KeptList;
 use crate::step_notes::StepNotes;
 use std::alloc::AllocError;
 use sv8_cpu::{Machine, Work};
+use sv8_phys::Watch;
 use sv8_time::{Request, Timeline, WordPoke};
 
 /// Keeps what stands in a byte, if it is about to be poked.
@@ -155,6 +156,43 @@ fn record_step<const NW: usize, const PAGES: usize>(
     touches.clear();
     keep_below(&mut interval.kept, &machine, timeline, n, offset)?;
     let machine = machine.step(n, timeline, touches, work)?;
+    interval.notes.note_step(touches.touches(), offset)?;
+    interval.kept.forget(touches.touches());
+    Ok(machine)
+}
+
+/// The same, and `watch` has the notes of the step.
+pub(crate) fn record_watched<const NW: usize, const PAGES: usize>(
+    machine: Machine<NW, PAGES>,
+    timeline: &Timeline,
+    n: u32,
+    offset: u32,
+    touches: &mut StepNotes,
+    interval: &mut Interval,
+    watch: &mut Watch,
+    work: &mut Work,
+) -> Result<Machine<NW, PAGES>, AllocError>
+    requires few_windows { NW ≤ 32 }
+    requires few_pages { PAGES ≤ 65536 }
+    requires limit { timeline.now.limit ≡ ram_size PAGES }
+    requires delivered { machine.memory.taken ≤ bytes_below n timeline.now.inputs }
+    requires offset { offset < 1000000 }
+    requires free { (c : model.Cell) → kept_in offset c interval.old.kept ≡ None }
+    ensures state { IfOk result (λ m. m ≡ step NW PAGES timeline.now n machine.entry) }
+    ensures delivered { IfOk result (λ m. m.memory.taken ≤ bytes_below (n + 1) timeline.now.inputs) }
+    ensures watched { OnOk result (watch.new ≡ record { touches = footprint NW PAGES timeline.now n machine.entry; observations = observed NW PAGES timeline.now n machine.entry }) }
+    ensures gained { OnOk result (Gains offset (told (footprint NW PAGES timeline.now n machine.entry)) interval.old.notes interval.new.notes) }
+    ensures kept { OnOk result ((j : ℕ) (c : model.Cell) → kept_in j c interval.new.kept
+        ≡ cond (is_touched (told (footprint NW PAGES timeline.now n machine.entry)) c) None
+        (cond (j == offset && is_some (poke_of c (event_at timeline.now n))) (Some (get c machine.entry)) (kept_in j c interval.old.kept))) }
+    ensures counted { OnOk result (work.new ≡ counted work.old) }
+    ensures uncounted { OnErr result (work.new ≡ work.old ⊎ work.new ≡ counted work.old) }
+{
+    touches.clear();
+    watch.clear();
+    keep_below(&mut interval.kept, &machine, timeline, n, offset)?;
+    let machine = machine.watch(n, timeline, watch, work)?;
+    watch.tell(touches)?;
     interval.notes.note_step(touches.touches(), offset)?;
     interval.kept.forget(touches.touches());
     Ok(machine)

@@ -8,6 +8,7 @@ ghost use Rattle.sv8_history.specs.Growing.{restored};
 ghost use Rattle.sv8_trace.specs.Recorder.{counted_by, RaisedUpTo};
 ghost use Rattle.sv8_trace.specs.Recording.{fresh, last_point, recorded, trace_of, IsExtended};
 
+mod drafting;
 mod edits;
 mod placing;
 mod preparing;
