@@ -5,7 +5,7 @@ ghost use Rattle.std.specs.Prelude.{◌≡◌};
 
 use std::alloc::{AllocError, Global};
 use sv8_cpu::{Machine, Work};
-use sv8_phys::NoTouches;
+use sv8_phys::{NoTouches, Watch};
 use sv8_source::Source;
 use sv8_time::Timeline;
 
@@ -79,12 +79,22 @@ fn advance(machine: Small, n: u32, timeline: &Timeline) -> Result<Small, AllocEr
     machine.step(n, timeline, &mut NoTouches, &mut Work::new())
 }
 
+/// The same, watched.
+fn watch(alloc: Global, machine: Small, n: u32, timeline: &Timeline) -> Result<Small, AllocError>
+    requires { timeline.now.limit ≡ 8192 }
+{
+    if timeline.delivered(n) < machine.taken() {
+        return Err(AllocError);
+    }
+    machine.watch(n, timeline, &mut Watch::new(alloc), &mut Work::new())
+}
+
 fn run(alloc: Global, source: &Source) -> Result<Small, AllocError> {
     let timeline = Timeline::new(alloc, 8_192);
     let first = advance(Small::reset(alloc, source)?, 0, &timeline)?;
     let second = advance(first, 1, &timeline)?;
     let third = advance(second, 2, &timeline)?;
-    advance(third, 3, &timeline)
+    watch(alloc, third, 3, &timeline)
 }
 
 pub fn keeps(alloc: Global) -> Result<bool, AllocError> {

@@ -5,13 +5,15 @@ ghost use Rattle.std.specs.Prelude.{◌≡◌, ◌<◌, ◌≤◌, IfOk};
 ghost use Rattle.std.specs.List.{All};
 ghost use Rattle.sv8_time.specs.Schedule.{bytes_below};
 ghost use Rattle.sv8_trace.specs.Patch.{IsPatch};
+ghost use Rattle.sv8_trace.specs.Drafts.{IsDraft};
 ghost use Rattle.sv8_trace.specs.Recording.{last_point, recorded};
 
 use std::alloc::{AllocError, Global};
 use sv8_cpu::{Machine, Work};
+use sv8_phys::Watch;
 use sv8_source::Source;
 use sv8_time::{TimeFault, Timeline};
-use sv8_trace::{Cause, Cell, Content, NO_END, Patch, Trace};
+use sv8_trace::{Cause, Cell, Content, Draft, NO_END, Patch, Trace};
 
 type Point = Machine<8, 2>;
 
@@ -409,6 +411,55 @@ fn are_kept(alloc: Global, trace: &mut Small, timeline: &Timeline) -> bool
     fresh && first && second && third && fourth && are_done(alloc, trace)
 }
 
+/// Makes the next step of a draft, and watches it.
+fn watched(
+    alloc: Global,
+    trace: &mut Small,
+    draft: Draft<8, 2>,
+    timeline: &Timeline,
+    work: &mut Work,
+) -> Result<Draft<8, 2>, AllocError>
+    requires limit { timeline.now.limit ≡ 8192 }
+    requires draft { IsDraft 8 2 4 timeline.now trace.old draft }
+    requires delivered { draft.state.memory.taken ≤ bytes_below (recorded 4 trace.old + draft.count) timeline.now.inputs }
+    ensures draft { IfOk result (λ d. IsDraft 8 2 4 timeline.now trace.new d) }
+    ensures delivered { IfOk result (λ d. d.state.memory.taken ≤ bytes_below (recorded 4 trace.new + d.count) timeline.now.inputs) }
+{
+    if 1_000 < trace.recorded() {
+        return Err(AllocError);
+    }
+    trace.watch_step(alloc, draft, timeline, &mut Watch::new(alloc), work)
+}
+
+/// Records the next four steps one at a time, each watched, and counts them.
+fn watch_four(alloc: Global, trace: &mut Small, timeline: &Timeline) -> Result<u64, AllocError>
+    requires limit { timeline.now.limit ≡ 8192 }
+    requires delivered { (last_point trace.old).memory.taken ≤ bytes_below (recorded 4 trace.old) timeline.now.inputs }
+{
+    let mut work = Work::new();
+    let none = trace.draft(alloc)?;
+    let first = watched(alloc, trace, none, timeline, &mut work)?;
+    let second = watched(alloc, trace, first, timeline, &mut work)?;
+    let third = watched(alloc, trace, second, timeline, &mut work)?;
+    let _next = watched(alloc, trace, third, timeline, &mut work)?;
+    Ok(work.done())
+}
+
+/// Whether four watched steps are recorded, or none where memory was refused.
+fn are_watched(alloc: Global, trace: &mut Small, timeline: &Timeline) -> bool
+    requires limit { timeline.now.limit ≡ 8192 }
+    requires delivered { (last_point trace.old).memory.taken ≤ bytes_below (recorded 4 trace.old) timeline.now.inputs }
+{
+    let after = Due {
+        recorded: 4,
+        ..FIRST
+    };
+    match watch_four(alloc, trace, timeline) {
+        Ok(made) => made == 4 && is_as(alloc, trace, after),
+        Err(_) => is_as(alloc, trace, FIRST),
+    }
+}
+
 pub fn keeps(alloc: Global) -> Result<bool, AllocError> {
     let Some(source) = source(alloc)? else {
         return Err(AllocError);
@@ -418,5 +469,7 @@ pub fn keeps(alloc: Global) -> Result<bool, AllocError> {
         return Err(AllocError);
     }
     let mut trace = fresh(alloc, &source, &timeline)?;
-    Ok(are_kept(alloc, &mut trace, &timeline))
+    let kept = are_kept(alloc, &mut trace, &timeline);
+    let mut other = fresh(alloc, &source, &timeline)?;
+    Ok(kept && are_watched(alloc, &mut other, &timeline))
 }

@@ -1,7 +1,7 @@
 //! Steps that are recorded one at a time, so that each can be watched.
 
 ghost use Rattle.std.specs.Prelude.{◌≡◌, ℕ, ◌+◌, ◌*◌, ◌<◌, ◌≤◌, ◌⊎◌, ◌++◌, ◌∷◌, [], IfOk, OnOk, OnErr};
-ghost use Rattle.sv8_time.specs.Schedule.{bytes_below};
+ghost use Rattle.sv8_time.specs.Schedule.{Schedule, bytes_below};
 ghost use Rattle.sv8_phys.specs.Memory.{ram_size};
 ghost use Rattle.sv8_cpu.specs.Run.{step, footprint, observed};
 ghost use Rattle.sv8_cpu.specs.Work.{counted};
@@ -24,7 +24,8 @@ impl<const NW: usize, const PAGES: usize, const K: u32> Trace<NW, PAGES, K> {
     ///
     /// `AllocError` where memory for it cannot be had.
     pub fn draft(&self, alloc: Global) -> Result<Draft<NW, PAGES>, AllocError>
-        ensures { IfOk result (λ d. d ≡ no_draft self.now) }
+        ensures none { IfOk result (λ d. d ≡ no_draft self.now) }
+        ensures draft { IfOk result (λ d. (schedule : Schedule) → IsDraft NW PAGES K schedule self.now d) }
     {
         let count = self.intervals.len();
         let machine = self.points[count].snapshot(alloc)?;
