@@ -27,6 +27,9 @@ def main(words: Sequence[str]) -> int:
     except Problem as problem:
         say(str(problem))
         return problem.status
+    except OSError as problem:
+        # The gate has passed; that the program cannot be kept here, where a later run would find it, is no fault of it.
+        say(f"what the gate built is not kept: {problem}")
     return 0
 
 
