@@ -1,7 +1,7 @@
 //! Records a run, patches and cuts it: each call that is refused memory leaves the recorded run as it was, and each other one does what it
 //! should.
 
-ghost use Rattle.std.specs.Prelude.{◌≡◌, ◌<◌, ◌≤◌, IfOk};
+ghost use Rattle.std.specs.Prelude.{◌+◌, ◌≡◌, ◌<◌, ◌≤◌, IfOk};
 ghost use Rattle.std.specs.List.{All};
 ghost use Rattle.sv8_time.specs.Schedule.{bytes_below};
 ghost use Rattle.sv8_trace.specs.Patch.{IsPatch};
