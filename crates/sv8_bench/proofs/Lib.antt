@@ -3,3 +3,4 @@ pub mod ImageWords
 pub mod Queried
 pub mod Places
 pub mod Edited
+pub mod Walking

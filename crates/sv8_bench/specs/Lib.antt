@@ -2,3 +2,4 @@ pub mod Faults
 pub mod Kept
 pub mod Shown
 pub mod Workbench
+pub mod Walks

@@ -13,6 +13,7 @@ ghost use Rattle.sv8_bench.specs.Workbench.{IsRun, IsNew, IsEdited};
 mod edits;
 mod patches;
 mod queries;
+mod walks;
 
 use crate::bench::patches::image_patches;
 pub use crate::bench::queries::LAST_STEP;
@@ -126,6 +127,18 @@ impl<const NW: usize, const PAGES: usize, const K: u32> Bench<NW, PAGES, K> {
         ensures { option_map shown_of result ≡ numbered (listing self.now.kept.source) number }
     {
         self.source.line(number)
+    }
+
+    /// The outside events.
+    pub fn timeline(&self) -> &Timeline
+        ensures { result.now ≡ self.now.kept.timeline }
+    {
+        &self.timeline
+    }
+
+    /// Where it takes memory from.
+    pub fn alloc(&self) -> Global {
+        self.alloc
     }
 
     /// The number of recorded steps, a multiple of `K`. `run` says of which run they are.

@@ -4,6 +4,7 @@
 mod bench;
 mod fault;
 mod shown;
+mod walk;
 
 pub use bench::{Bench, LAST_STEP};
 pub use fault::BenchFault;
@@ -11,3 +12,4 @@ pub use shown::Shown;
 pub use sv8_cpu::Mmu;
 pub use sv8_phys::Timer;
 pub use sv8_source::Listed;
+pub use walk::Walk;

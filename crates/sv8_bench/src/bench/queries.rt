@@ -57,7 +57,7 @@ fn words_of<const NW: usize, const PAGES: usize>(
 /// # Errors
 ///
 /// `AllocError` where memory for it cannot be had; what was recorded by then stays.
-fn record_up_to<const NW: usize, const PAGES: usize, const K: u32>(
+pub(crate) fn record_up_to<const NW: usize, const PAGES: usize, const K: u32>(
     alloc: Global,
     trace: &mut Trace<NW, PAGES, K>,
     timeline: &Timeline,
@@ -110,7 +110,28 @@ fn run_on<const NW: usize, const PAGES: usize>(
 }
 
 impl<const NW: usize, const PAGES: usize, const K: u32> Bench<NW, PAGES, K> {
-    /// The machine at a step, which is the machine after so many steps from reset. Step 0 is the machine just reset.
+    /// The machine at a step, which is the machine after so many steps from reset, for questions that no other query asks.
+    ///
+    /// # Errors
+    ///
+    /// `StepTooLarge` for a step above 1,000,000, else `OutOfMemory`.
+    #[tactic(auto, unfolding(crate::specs::Faults::step_refusal))]
+    pub fn machine(&mut self, step: u32) -> Result<Machine<NW, PAGES>, BenchFault>
+        ensures state { IfOk result (λ m. m ≡ machine_state self.old.kept step) }
+        ensures within { OnOk result (step_refusal step ≡ None) }
+        ensures answered { OnOk result (IsAnswered K step self.old self.new) }
+        ensures refused { IfErr result (IsQueryFault (step_refusal step)) }
+        ensures untouched { IfSome (step_refusal step) (λ e. self.new ≡ self.old) }
+        ensures given_up { OnErr result (IsGivenUp K step self.old self.new) }
+    {
+        if LAST_STEP < step {
+            return Err(BenchFault::StepTooLarge);
+        }
+        let machine = self.machine_at(step)?;
+        Ok(machine)
+    }
+
+    /// What is shown of the machine at a step. Step 0 is the machine just reset.
     ///
     /// # Errors
     ///

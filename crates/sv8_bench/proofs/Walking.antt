@@ -1,0 +1,76 @@
+-- Walks: each step leads on from the state of the one before, and what is recorded of it.
+use Rattle.std.proofs.Common.{◌≡◌, ◌∙◌, ℕ, zero, suc, ◌+◌, ◌-◌, ◌*◌, ◌/◌, ◌%◌, ◌<◌, ◌≤◌, ◌⊎◌, inl, inr, Bool, true, false, nat_lt, min, max, length, get_or, refl, sym, ap, arith, subst}
+use Rattle.std.proofs.Math.Nat.{div-lt_iff_lt-mul, le-div_iff_mul-le, mul_comm, mul-le-mul_left, mul-div_cancel_left, div-add-mod}
+use Rattle.std.proofs.lemmas.Bool.{ltb-true, ltb-false}
+use Rattle.sv8_history.specs.Trace.{IsTraceOf}
+use Rattle.sv8_cpu.specs.Recorded.{machine, event_at, AreEvents}
+use Rattle.sv8_time.specs.Schedule.{Schedule, bytes_below}
+use Rattle.sv8_cpu.specs.State.{State, reset_state}
+use Rattle.sv8_cpu.specs.Run.{step, steps, footprint, observed}
+use Rattle.sv8_cpu.specs.Work.{counted}
+use Rattle.sv8_edits.proofs.Common.{fed}
+use Rattle.sv8_trace.specs.Recorder.{steps_on, counted_by, RaisedUpTo}
+use Rattle.sv8_trace.specs.Recording.{Recording, recorded, trace_of, IsExtended}
+use Rattle.sv8_bench.specs.Kept.{Kept}
+use Rattle.sv8_bench.specs.Shown.{machine_state}
+use Rattle.sv8_bench.specs.Workbench.{Workbench, checkpoints, IsRun}
+use Rattle.sv8_bench.proofs.Queried.{full, run_further, extended_keeps}
+
+-- ---- states
+
+-- the bytes that a state has taken have come in
+pub state_fed : (kept : Kept) (n : ℕ) (s : State) → s ≡ machine_state kept n → s.memory.taken ≤ bytes_below n kept.timeline.inputs
+state_fed kept n s e =
+    subst (λ (x : State). x.memory.taken ≤ bytes_below n kept.timeline.inputs) (sym e) (fed kept.windows kept.pages kept.source kept.timeline n)
+
+-- the step behind it leads to the next one
+pub state_next : (kept : Kept) (n : ℕ) (s next : State) → s ≡ machine_state kept n → next ≡ step kept.windows kept.pages kept.timeline n s
+    → next ≡ machine_state kept (n + 1)
+unfolding steps
+state_next kept n s next e f =
+    let more : suc n ≡ n + 1 = omega arith in
+    f ∙ ap (step kept.windows kept.pages kept.timeline n) e ∙ ap (machine_state kept) more
+
+-- ---- how many checkpoints there are
+
+-- so many intervals, and fewer steps than would make the next one
+pub in_interval : (k count rest n : ℕ) → 0 < k → rest < k → k * count + rest ≡ n → n / k ≡ count
+in_interval k count rest n pos few e =
+    let least : count ≤ n / k = (le-div_iff_mul-le pos).1 (omega (arith, e, mul_comm count k)) in
+    let most = full k count n pos (omega (arith, e, few)) in
+    omega (arith, least, most)
+
+-- a step up to the last checkpoint leads to no other one
+pub no_more : (k count n : ℕ) → 0 < k → n < 1000000 → (n < k * count) ⊎ (1000000 < k * count + k) → count ≡ max count ((n + 1) / k)
+no_more k count n pos within (inl below) = let most = full k count (n + 1) pos (omega (arith, below, pos)) in omega (arith, most)
+no_more k count n pos within (inr last) = let most = full k count (n + 1) pos (omega (arith, within, last)) in omega (arith, most)
+
+-- one above it leads to the next one, or to none
+pub one_more : (k count new rest more n : ℕ) → 0 < k → rest < k → k * count + rest ≡ n → more < k → k * new + more ≡ n + 1 → new ≡ max count ((n + 1) / k)
+one_more k count new rest more n pos few e later f =
+    let there = in_interval k new more (n + 1) pos later f in
+    let up : count ≤ (n + 1) / k = (le-div_iff_mul-le pos).1 (omega (arith, e, mul_comm count k)) in
+    omega (arith, there, up)
+
+-- where a walk stands behind it
+pub placed_next : (k count n : ℕ) → (n < k * count) ⊎ (1000000 < k * count + k) → (n + 1 ≤ k * count) ⊎ (1000000 < k * count + k)
+placed_next k count n (inl below) = inl (omega (arith, below))
+placed_next k count n (inr last) = inr last
+
+-- ---- the recorded run
+
+-- a step of a draft leaves the recording, or makes it longer
+pub drafted_further : (windows pages k count : ℕ) (schedule : Schedule) (old new : Recording) → 0 < k → count < k → (count + 1 < k → new ≡ old)
+    → (count + 1 ≡ k → IsExtended windows pages k schedule old new) → (start : State) (valid : AreEvents pages schedule)
+    → IsTraceOf (machine windows pages) k (record { start = start; events = event_at schedule; valid = valid }) (trace_of windows pages k old)
+    → IsTraceOf (machine windows pages) k (record { start = start; events = event_at schedule; valid = valid }) (trace_of windows pages k new)
+drafted_further windows pages k count schedule old new pos few same longer start valid h = go (nat_lt (count + 1) k) refl where
+  go : (b : Bool) → nat_lt (count + 1) k ≡ b
+      → IsTraceOf (machine windows pages) k (record { start = start; events = event_at schedule; valid = valid }) (trace_of windows pages k new)
+  go true t =
+      subst
+      (λ (r : Recording). IsTraceOf (machine windows pages) k (record { start = start; events = event_at schedule; valid = valid }) (trace_of windows pages k r))
+      (sym (same (ltb-true (count + 1) k t))) h
+  go false t =
+      let whole : count + 1 ≡ k = let most : k ≤ count + 1 = ltb-false (count + 1) k t in omega (arith, most, few) in
+      extended_keeps windows pages k schedule old new pos (longer whole) start valid h

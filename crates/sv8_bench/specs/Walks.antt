@@ -1,0 +1,47 @@
+-- Walks through the steps of a workbench's run, one by one.
+use Rattle.std.specs.Prelude.{◌≡◌, ℕ, ◌+◌, ◌-◌, ◌*◌, ◌/◌, ◌<◌, ◌≤◌, ◌⊎◌, max}
+use Rattle.sv8_cpu.specs.State.{State}
+use Rattle.sv8_cpu.specs.Work.{counted}
+use Rattle.sv8_history.specs.Growing.{restored}
+use Rattle.sv8_trace.specs.Drafts.{IsDraft}
+use Rattle.sv8_trace.specs.Recorder.{counted_by, RaisedUpTo}
+use Rattle.sv8_trace.specs.Recording.{Recording, recorded}
+use Rattle.sv8_bench.specs.Kept.{Kept}
+use Rattle.sv8_bench.specs.Shown.{machine_state}
+use Rattle.sv8_bench.specs.Workbench.{Workbench, checkpoints, missing}
+use Rattle.sv8_bench.specs.declared.walk.Place.{Place}
+use Rattle.sv8_bench.specs.declared.walk.Place.TheVariants.{Restored, Drafted}
+use Rattle.sv8_bench.specs.declared.walk.Walk.{Walk}
+
+-- the machine of a place
+abbrev pub state_in : {windows pages : ℕ} → Place windows pages → State
+state_in (Restored s) = s
+state_in (Drafted d) = d.state
+
+-- there is room for another checkpoint
+abbrev pub HasRoom : ℕ → Recording → Type 0
+HasRoom k r = recorded k r + k ≤ 1000000
+
+-- Of a step up to the last checkpoint, or where no checkpoint can follow, there is the machine alone. Above the last checkpoint there is the record of the
+-- steps since.
+abbrev pub IsPlaced : (k : ℕ) → Workbench → ℕ → {windows pages : ℕ} → Place windows pages → Type 0
+IsPlaced k w n (Restored s) = (n ≤ recorded k w.recording) ⊎ (1000000 < recorded k w.recording + k)
+IsPlaced k w n (Drafted d) = IsDraft w.kept.windows w.kept.pages k w.kept.timeline w.recording d × (n ≡ recorded k w.recording + d.count)
+
+-- A WALK of a workbench has come to a step: it has the machine of that step.
+pub record IsWalk (k : ℕ) (w : Workbench) {windows pages : ℕ} (walk : Walk windows pages) : Type 0 where
+  pub within : walk.step ≤ 1000000
+  pub state : state_in walk.place ≡ machine_state w.kept walk.step
+  pub placed : IsPlaced k w walk.step walk.place
+
+-- Step n was made in a walk: it is recorded if it leads to the next checkpoint.
+pub record IsMade (k n : ℕ) (old new : Workbench) : Type 0 where
+  pub kept : new.kept ≡ old.kept
+  pub recorded : checkpoints new ≡ max (checkpoints old) ((n + 1) / k)
+  pub worked : new.worked ≡ counted old.worked
+
+-- It was not, for want of memory; it may be counted.
+pub record IsUnmade (old new : Workbench) : Type 0 where
+  pub kept : new.kept ≡ old.kept
+  pub recorded : new.recording ≡ old.recording
+  pub worked : (new.worked ≡ old.worked) ⊎ (new.worked ≡ counted old.worked)

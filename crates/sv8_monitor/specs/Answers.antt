@@ -1,0 +1,42 @@
+-- What a question of one workbench comes to.
+use Rattle.std.specs.Prelude.{ℕ, ◌+◌, ◌-◌, ◌*◌, Bool, true, false, List, length, map, take, drop, nat_lt, nat_le, ◌||◌, ◌&&◌, Option, Some, None, if◌then◌else◌}
+use Rattle.std.specs.List.{range_with_len}
+use Rattle.sv8_source.specs.Listing.{listing}
+use Rattle.sv8_watch.specs.declared.condition.Condition.{Condition}
+use Rattle.sv8_bench.specs.declared.fault.BenchFault.{BenchFault}
+use Rattle.sv8_bench.specs.declared.fault.BenchFault.TheVariants.{NoSuchLine, StepTooLarge, BadAddress}
+use Rattle.sv8_bench.specs.Faults.{step_refusal}
+use Rattle.sv8_bench.specs.Kept.{Kept}
+use Rattle.sv8_bench.specs.Shown.{machine_state}
+use Rattle.sv8_shell.specs.Outcome.{Outcome, told, unless_refused}
+use Rattle.sv8_shell.specs.Text.{numbered_text, listing_line}
+use Rattle.sv8_monitor.specs.declared.question.Query.{Query}
+use Rattle.sv8_monitor.specs.declared.question.Query.TheVariants.{Steps, Windows, Where, Lines, Names, Events}
+use Rattle.sv8_monitor.specs.Search.{are_inside, found_at, steps_told}
+use Rattle.sv8_monitor.specs.Texts.{steps_text, windows_text}
+
+-- ---- refusals
+
+abbrev pub if_none : Option BenchFault → Option BenchFault → Option BenchFault
+if_none (Some fault) other = Some fault
+if_none None other = other
+
+-- both steps are looked at first
+abbrev pub steps_refusal : ℕ → ℕ → List Condition → Kept → Option BenchFault
+steps_refusal from to conditions k =
+    if_none (step_refusal from) (if_none (step_refusal to) (if are_inside (4096 * k.pages) conditions then None else Some BadAddress))
+
+abbrev pub lines_refusal : ℕ → ℕ → Kept → Option BenchFault
+lines_refusal first last k =
+    if nat_le 1 first && nat_le first (length k.source.lines + 1) && nat_le first (last + 1) && nat_le last (length k.source.lines) then None else Some NoSuchLine
+
+-- ---- outcomes
+
+abbrev pub lines_told : ℕ → ℕ → Kept → List ℕ
+lines_told first last k = numbered_text listing_line first (take (last + 1 - first) (drop (first - 1) (listing k.source)))
+
+abbrev pub query_outcome : Query → Kept → Outcome
+query_outcome (Steps from to count conditions) k =
+    unless_refused (steps_refusal from to conditions k) (told true (steps_text (map (found_at k) (steps_told k from to count conditions))))
+query_outcome (Windows step) k = unless_refused (step_refusal step) (told true (windows_text k.windows (machine_state k step).processor.registers))
+query_outcome (Lines first last) k = unless_refused (lines_refusal first last k) (told false (lines_told first last k))

@@ -1,0 +1,99 @@
+//! The answer to each question of one workbench.
+
+ghost use Rattle.std.specs.Prelude.{◌≡◌, ℕ, ◌+◌, ◌-◌, ◌*◌, ◌<◌, ◌≤◌, ◌++◌, length, map, OnOk, OnErr, IfOk, IfErr, IfSome, None};
+ghost use Rattle.sv8_bench.specs.Faults.{step_refusal, IsQueryFault};
+ghost use Rattle.sv8_bench.specs.Workbench.{IsAnswered};
+ghost use Rattle.sv8_session.specs.Put.{Puts};
+ghost use Rattle.sv8_shell.specs.Put.{Replies};
+ghost use Rattle.sv8_shell.specs.Text.{ok_line};
+ghost use Rattle.sv8_monitor.specs.Answers.{steps_refusal, lines_refusal, query_outcome};
+ghost use Rattle.sv8_monitor.specs.Search.{found_at, steps_told, are_inside};
+ghost use Rattle.sv8_monitor.specs.Texts.{steps_text, windows_text};
+ghost use Rattle.sv8_monitor.specs.declared.question.Query.TheVariants.{Steps, Windows, Lines};
+
+use crate::conditions::Conditions;
+use crate::found::Found;
+use crate::question::Query;
+use crate::search::steps;
+use crate::step_lines::put_steps;
+use crate::window_lines::put_windows;
+use std::io::Write;
+use sv8_bench::{Bench, BenchFault};
+use sv8_regs::Regs;
+use sv8_shell::put::{WriteFault, accept, refuse};
+use sv8_shell::refusal::refusal_of;
+use sv8_shell::text::Text;
+
+/// Answers a question of a workbench.
+pub fn answer_query<const NW: usize, const PAGES: usize, const K: u32, W: Write>(
+    bench: &mut Bench<NW, PAGES, K>,
+    writer: &mut W,
+    query: Query,
+) -> Result<(), WriteFault>
+    ensures { Replies result (W.contents writer.old) (W.contents writer.new) bench.old.kept (query_outcome query.entry bench.old.kept) bench.new.kept }
+{
+    match query {
+        Query::Steps {
+            from,
+            to,
+            count,
+            conditions,
+        } => answer_steps(bench, writer, from, to, count, conditions),
+        Query::Windows { step } => answer_windows(bench, writer, step),
+        Query::Lines { first, last } => answer_lines(bench, writer, first, last),
+    }
+}
+
+fn answer_steps<const NW: usize, const PAGES: usize, const K: u32, W: Write>(
+    bench: &mut Bench<NW, PAGES, K>,
+    writer: &mut W,
+    from: u32,
+    to: u32,
+    count: u32,
+    conditions: Conditions,
+) -> Result<(), WriteFault>
+    ensures { Replies result (W.contents writer.old) (W.contents writer.new) bench.old.kept
+        (query_outcome (Steps from to count conditions.entry) bench.old.kept) bench.new.kept }
+{
+    match steps(bench, from, to, count, conditions.as_slice()) {
+        Ok(found) => tell_steps(writer, found.as_slice()),
+        Err(fault) => refuse(writer, refusal_of(fault)),
+    }
+}
+
+fn tell_steps<W: Write>(writer: &mut W, found: &[Found]) -> Result<(), WriteFault>
+    ensures { Puts result (W.contents writer.old) (W.contents writer.new) (steps_text found.now ++ ok_line) }
+{
+    let mut text = Text::new();
+    match put_steps(writer, &mut text, found) {
+        Ok(()) => accept(writer, &mut text),
+        Err(fault) => Err(fault),
+    }
+}
+
+fn answer_windows<const NW: usize, const PAGES: usize, const K: u32, W: Write>(
+    bench: &mut Bench<NW, PAGES, K>,
+    writer: &mut W,
+    step: u32,
+) -> Result<(), WriteFault>
+    ensures { Replies result (W.contents writer.old) (W.contents writer.new) bench.old.kept (query_outcome (Windows step) bench.old.kept) bench.new.kept }
+{
+    match bench.machine(step) {
+        Ok(machine) => tell_windows(writer, machine.registers()),
+        Err(fault) => refuse(writer, refusal_of(fault)),
+    }
+}
+
+fn tell_windows<const NW: usize, W: Write>(
+    writer: &mut W,
+    registers: &Regs<NW>,
+) -> Result<(), WriteFault>
+    requires { NW ≤ 32 }
+    ensures { Puts result (W.contents writer.old) (W.contents writer.new) (windows_text NW registers.now ++ ok_line) }
+{
+    let mut text = Text::new();
+    match put_windows(writer, &mut text, registers) {
+        Ok(()) => accept(writer, &mut text),
+        Err(fault) => Err(fault),
+    }
+}
