@@ -6,3 +6,4 @@ pub mod Storing
 pub mod Translating
 pub mod Growing
 pub mod Keeping
+pub mod Placing

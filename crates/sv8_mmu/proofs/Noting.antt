@@ -1,10 +1,10 @@
 -- Notes of the entries that a walk read, one after another.
-use Rattle.std.proofs.Common.{◌≡◌, ℕ, suc, ◌+◌, Bool, true, List, [], ◌∷◌, ◌++◌, take, sym, ◌∙◌, ap, append_assoc, arith}
+use Rattle.std.proofs.Common.{◌≡◌, ℕ, suc, ◌+◌, true, List, [], ◌∷◌, take, sym, ◌∙◌, ap, arith}
 use Rattle.sv8_model.specs.declared.touch.Touch.{Touch}
 use Rattle.sv8_model.specs.declared.touch.Touch.TheVariants.{Read}
 use Rattle.sv8_model.specs.Outside.{Outside}
 use Rattle.sv8_model.specs.Action.{Action}
-use Rattle.sv8_model.specs.Does.{Does, kept, Keeps, Notes, noting, keeping, touching, no_notes}
+use Rattle.sv8_model.specs.Does.{Does, Keeps, Notes, noting, keeping, touching, no_notes}
 use Rattle.sv8_model.proofs.Common.{noting_then}
 use Rattle.sv8_mmu.specs.Kept.{reads_of}
 

@@ -1,5 +1,5 @@
 -- An entry that is stored with other marks.
-use Rattle.std.proofs.Common.{◌≡◌, ℕ, ◌/◌, ◌%◌, ◌^◌, ◌<◌, Bool, List, refl, ◌∙◌, ap, arith}
+use Rattle.std.proofs.Common.{◌≡◌, ℕ, ◌/◌, ◌%◌, ◌^◌, ◌<◌, refl, ◌∙◌, ap, arith}
 use Rattle.sv8_model.specs.Outside.{Outside, with_word}
 use Rattle.sv8_model.specs.Action.{done, store_word}
 use Rattle.sv8_model.specs.Does.{Does, Keeps, Notes}

@@ -8,3 +8,5 @@ pub mod Answers
 pub mod Probe
 pub mod Kept
 pub mod Examples
+pub mod Place
+pub mod Laws

@@ -6,6 +6,7 @@ ghost use Rattle.sv8_mmu.specs.Walk.{walk};
 ghost use Rattle.sv8_mmu.specs.Translation.{physical_address, translate};
 ghost use Rattle.sv8_mmu.specs.Probe.{probe};
 ghost use Rattle.sv8_mmu.specs.Registers.{registers_at_reset, register_at, after_read, after_write, status_of, recorded};
+ghost use Rattle.sv8_mmu.specs.Laws.{TranslationsLeadToPlaces};
 ghost use Rattle.sv8_mmu.specs.Examples.{in_context, gives, touched, leaves, fetch_fault};
 
 use crate::access_type::AccessType;
@@ -189,4 +190,9 @@ pub fn worked_registers()
     ensures cleared { (after_read (recorded registers_at_reset (fetch_fault FaultType.Translation TableLevel.Level3)) 0x300).fault_status ≡ 0 }
     ensures kept { (after_read (recorded registers_at_reset (fetch_fault FaultType.Translation TableLevel.Level3)) 0x300).fault_address ≡ 0x10 }
     ensures none { register_at registers_at_reset 0x104 ≡ None }
+{}
+
+/// A translation that succeeds leads to the place of the address, whatever the access is.
+pub fn translations_lead_to_places()
+    ensures { TranslationsLeadToPlaces }
 {}

@@ -130,7 +130,7 @@ fn marked(access_type: AccessType, entry: u32) -> u32
 /// The physical address: bits 35:12 are those of the entry, but for the bits inside the page.
 #[inline(always)]
 #[tactic(auto, unfolding(crate::specs::Translation::physical_address))]
-fn physical_address(entry: u32, level: TableLevel, va: u32) -> u64
+pub fn physical_address(entry: u32, level: TableLevel, va: u32) -> u64
     ensures value { result ≡ physical_address entry level va }
     ensures offset { result % 4096 ≡ va % 4096 }
     ensures small { result < 2 ^ 36 }

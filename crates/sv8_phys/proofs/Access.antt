@@ -1,5 +1,5 @@
 -- Deeds in RAM and at devices, put together.
-use Rattle.std.proofs.Common.{arith, ◌≡◌, ◌<◌, ◌≤◌, ℕ, ◌%◌, ◌^◌, Bool, false, nat_lt, List, [], ◌∷◌, ◌++◌, Result, Ok, Err, ◌==◌, ◌≢◌, inl, inr, ◌-◌, refl, ap, ◌∙◌}
+use Rattle.std.proofs.Common.{arith, ◌≡◌, ◌<◌, ◌≤◌, ℕ, ◌%◌, ◌^◌, Bool, false, nat_lt, List, [], ◌∷◌, Result, Ok, Err, ◌==◌, ◌≢◌, inl, inr, ◌-◌, refl, ap, ◌∙◌}
 use Rattle.std.proofs.lemmas.Bool.{lt-ltb, le-ltb}
 use Rattle.std.proofs.lemmas.Bool.Decides.{eqb_tells}
 use Rattle.sv8_model.specs.Outside.{Outside}

@@ -135,6 +135,12 @@ page_long (h ∷ handles) (suc p) below = page_long handles p (omega arith)
 pub page_behind : (handles : List (Rc PageBytes Global)) (p : ℕ) (h : Rc PageBytes Global) → p < length handles → h ≡ get_or handles p h → h.value.bytes ≡ page_at (pages_of handles) p
 page_behind handles p h below e = ap (λ k. k.value.bytes) e ∙ sym (get_or-map (λ k. k.value.bytes) handles p h [] below)
 
+-- the bytes that a handle of the list leads to are the page of RAM
+pub handle_page : (n : ℕ) (handles : List (Rc PageBytes Global)) (p : ℕ) (h : Rc PageBytes Global) (b : PageBytes) → p < n → p < length handles → h ≡ get_or handles p h → b ≡ h.value
+    → b.bytes ≡ page_of (all_bytes n (pages_of handles)) p
+handle_page n handles p h b in_ram in_handles e v =
+    ap (λ (b : PageBytes). b.bytes) v ∙ page_behind handles p h in_handles e ∙ sym (page_of-all n (pages_of handles) p in_ram (page_long handles p in_handles))
+
 -- shared pages hold the same bytes
 pub shared : (gs hs : List (Rc PageBytes Global)) → AllZip (λ g h. h.value ≡ g.value) gs hs → pages_of hs ≡ pages_of gs
 shared [] [] e = refl

@@ -3,6 +3,7 @@ pub mod ByteLemmas
 pub mod Handles
 pub mod AllBytes
 pub mod OnePage
+pub mod Difference
 pub mod Bits
 pub mod Telling
 pub mod ToldLaws

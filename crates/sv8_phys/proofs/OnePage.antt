@@ -21,7 +21,7 @@ module _ (ram : List ℕ) (p : ℕ) where
   byte_read : (a i : ℕ) → a ≡ 4096 * p + i → i < 4096 → get_or (page_of ram p) i 0 ≡ get_or ram a 0
   byte_read a i e i_in = get_or-take 4096 (drop (4096 * p) ram) i 0 i_in ∙ get_or-drop (4096 * p) ram i 0 ∙ ap (λ k. get_or ram k 0) (sym e)
 
-  word_read : (k l : ℕ) → k ≡ 1024 * p + l → l < 1024 → word_of (page_of ram p) l ≡ word_of ram k
+  pub word_read : (k l : ℕ) → k ≡ 1024 * p + l → l < 1024 → word_of (page_of ram p) l ≡ word_of ram k
   unfolding word_of
   word_read k l e l_in =
       let e0 = byte_read (4 * k) (4 * l) (omega arith) (omega arith) in

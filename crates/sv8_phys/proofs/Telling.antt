@@ -3,7 +3,7 @@ use Rattle.std.proofs.Common.{◌≡◌, refl, sym, ap, ◌∙◌, ℕ, ◌+◌,
 use Rattle.std.specs.List.{filter}
 use Rattle.std.specs.Int.Bits.{or_zero_r}
 use Rattle.std.proofs.Math.ListN.{drop_of_length-le}
-use Rattle.std.proofs.lemmas.List.{append_assoc, drop_more}
+use Rattle.std.proofs.lemmas.List.{drop_more}
 use Rattle.sv8_model.specs.declared.touch.Touch.{Touch}
 use Rattle.sv8_model.specs.Does.{Keeps, Notes, noting}
 use Rattle.sv8_model.proofs.Common.{noting_then}

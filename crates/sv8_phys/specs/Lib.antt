@@ -1,5 +1,6 @@
 pub mod Bytes
 pub mod Memory
+pub mod Differences
 pub mod Pages
 pub mod Chunks
 pub mod Pieces

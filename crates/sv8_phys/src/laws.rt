@@ -4,6 +4,7 @@ ghost use Rattle.std.specs.Prelude.{◌≡◌, [], ◌∷◌, true, false, repli
 ghost use Rattle.sv8_model.specs.declared.touch.Touch.TheVariants.{Read, Write, Input, Levels, Expiry};
 ghost use Rattle.sv8_model.specs.Action.{result_of, after, touches};
 ghost use Rattle.sv8_model.specs.Levels.{asked, cleared, levels_word};
+ghost use Rattle.sv8_phys.specs.Differences.{DifferencesAreLeast};
 ghost use Rattle.sv8_phys.specs.Devices.{tick, load, store, no_answer};
 ghost use Rattle.sv8_phys.specs.Laws.{FootprintIsTold, WritesAreUnread, BitsArePending, PiecesAreTheOutput};
 ghost use Rattle.sv8_phys.specs.Examples.{small, timer};
@@ -72,4 +73,10 @@ pub fn worked_accesses()
     ensures part { touches (store 8 (timer 0 0) Size.Byte 5 0xabcd) small ≡ Read 4 ∷ [] }
     ensures whole { touches (store 8 (timer 0 0) Size.Double 0 1) small ≡ Write 0 ∷ Write 4 ∷ [] }
     ensures console { (after (store 8 (timer 0 0) Size.Word 0x80000008 0xffffff48) small).output ≡ 0x48 ∷ [] }
+{}
+
+/// What `Phys::next_difference` finds is the least word, not below the address, in which two RAMs differ; where it finds nothing,
+/// all words from the address on are the same.
+pub fn differences_are_least()
+    ensures { DifferencesAreLeast }
 {}

@@ -1,8 +1,9 @@
 //! A page of RAM.
 
-ghost use Rattle.std.specs.Prelude.{◌≡◌, ◌<◌, ◌%◌, ◌/◌, ◌^◌, length, replicate, true, slice_index_or, slice_set, IfOk, OnOk, OnErr, MatchBool};
+ghost use Rattle.std.specs.Prelude.{◌≡◌, ◌<◌, ◌%◌, ◌/◌, ◌^◌, length, replicate, true, slice_index_or, slice_set, IfOk, IfSome, OnOk, OnErr, MatchBool};
 ghost use Rattle.sv8_model.specs.Outside.{word_of, with_word};
 ghost use Rattle.sv8_phys.specs.Bytes.{are_bytes};
+ghost use Rattle.sv8_phys.specs.Differences.{next_difference};
 ghost use Rattle.sv8_phys.specs.Memory.{bytes_in, value_at, with_value};
 
 use crate::size::Size;
@@ -50,6 +51,23 @@ impl PageBytes {
         ensures { self.new.bytes ≡ with_word self.old.bytes (at / 4) value }
     {
         BigEndian::write_u32(&mut self.bytes[at..], value);
+    }
+
+    /// The place of the first word, from a place on, that is another one in a second page.
+    pub(crate) fn next_difference(&self, other: &PageBytes, from: usize) -> Option<usize>
+        requires within { from < 4096 }
+        requires aligned { from % 4 ≡ 0 }
+        ensures value { result ≡ next_difference 4096 self.now.bytes other.now.bytes from }
+        ensures inside { IfSome result (λ at. at < 4096) }
+    {
+        let mut at = from;
+        while at < PAGE_SIZE {
+            if self.word(at) != other.word(at) {
+                return Some(at);
+            }
+            at += 4;
+        }
+        None
     }
 
     /// The number at a place in the page.

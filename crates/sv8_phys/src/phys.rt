@@ -1,9 +1,10 @@
 //! Physical memory and the devices.
 
-ghost use Rattle.std.specs.Prelude.{◌≡◌, ℕ, ◌/◌, ◌%◌, ◌≤◌, ◌<◌, true, false, slice_index_or, slice_set, nat_lt, option_map, IfOk, OnOk, OnErr};
+ghost use Rattle.std.specs.Prelude.{◌≡◌, ℕ, ◌/◌, ◌%◌, ◌≤◌, ◌<◌, true, false, slice_index_or, slice_set, nat_lt, option_map, IfOk, IfSome, OnOk, OnErr};
 ghost use Rattle.sv8_model.specs.Outside.{word_of};
 ghost use Rattle.sv8_model.specs.Levels.{levels_word};
 ghost use Rattle.sv8_phys.specs.Memory.{ram_size, page_of, with_page};
+ghost use Rattle.sv8_phys.specs.Differences.{next_difference};
 ghost use Rattle.sv8_phys.specs.Contents.{empty_contents, AreContents};
 ghost use Rattle.sv8_phys.specs.Pending.{AreLevels};
 ghost use Rattle.sv8_phys.specs.Ends.{IsEnd};
@@ -111,6 +112,18 @@ impl<const PAGES: usize> Phys<PAGES> {
         ensures { result ≡ slice_index_or self.now.ram pa 0 }
     {
         self.ram.read(pa as usize, Size::Byte) as u8
+    }
+
+    /// The address of the first word of RAM, from the word at an address on, that is another one in a second memory; `None` where
+    /// there is no such word, and where the address is behind RAM. A caller that goes on from the word behind each one found
+    /// gets all that differ. Devices are not compared.
+    pub fn next_difference(&self, other: &Phys<PAGES>, from: u32) -> Option<u32>
+        requires { from % 4 ≡ 0 }
+        ensures value { result ≡ next_difference (ram_size PAGES) self.now.ram other.now.ram from }
+        ensures word { IfSome result (λ at. (at % 4 ≡ 0) × (at < ram_size PAGES)) }
+    {
+        let at = self.ram.next_difference(&other.ram, from as usize)?;
+        Some(at as u32)
     }
 
     /// Sets a byte of RAM from outside: no access of the processor, so nothing is noted.

@@ -1,6 +1,7 @@
 //! RAM in pages.
 
-ghost use Rattle.std.specs.Prelude.{◌≡◌, ℕ, ◌≤◌, ◌<◌, ◌*◌, ◌/◌, ◌%◌, ◌^◌, length, replicate, slice_index_or, slice_set, vec_len, IfOk, OnOk, OnErr};
+ghost use Rattle.std.specs.Prelude.{◌≡◌, ℕ, ◌+◌, ◌≤◌, ◌<◌, ◌*◌, ◌/◌, ◌%◌, ◌^◌, Some, length, replicate, slice_index_or, slice_set, vec_len, IfOk, IfSome, MatchOption, OnOk, OnErr};
+ghost use Rattle.sv8_phys.specs.Differences.{next_difference};
 ghost use Rattle.sv8_phys.specs.Memory.{bytes_in, ram_size, value_at, with_value, page_of, with_page};
 ghost use Rattle.sv8_phys.specs.Pages.{pages_of, page_at};
 
@@ -69,6 +70,7 @@ impl<const PAGES: usize> Ram<PAGES> {
     #[inline(always)]
     pub(crate) fn len(&self) -> usize
         ensures value { result ≡ ram_size PAGES }
+        ensures most { result ≤ 2 ^ 28 }
         ensures whole { length self.now ≡ ram_size PAGES }
         ensures bytes { (i : ℕ) → slice_index_or self.now i 0 < 256 }
     {
@@ -123,5 +125,37 @@ impl<const PAGES: usize> Ram<PAGES> {
         ensures { self.new ≡ with_page self.old (at / 4096) page }
     {
         self.pages[at / PAGE_SIZE] = page.into_bytes();
+    }
+
+    /// The address of the first word, from that at an address up to the end of its page, that is another one in a second RAM.
+    fn difference_in_page(&self, other: &Ram<PAGES>, from: usize) -> Option<usize>
+        requires within { from < ram_size PAGES }
+        requires aligned { from % 4 ≡ 0 }
+        ensures { MatchOption result
+            (next_difference (ram_size PAGES) self.now other.now from ≡ next_difference (ram_size PAGES) self.now other.now (from / 4096 * 4096 + 4096))
+            (λ at. next_difference (ram_size PAGES) self.now other.now from ≡ Some at) }
+    {
+        let page = &*self.pages[from / PAGE_SIZE];
+        let other_page = &*other.pages[from / PAGE_SIZE];
+        match page.next_difference(other_page, from % PAGE_SIZE) {
+            Some(place) => Some(from / PAGE_SIZE * PAGE_SIZE + place),
+            None => None,
+        }
+    }
+
+    /// The address of the first word, from that at an address on, that is another one in a second RAM.
+    pub(crate) fn next_difference(&self, other: &Ram<PAGES>, from: usize) -> Option<usize>
+        requires { from % 4 ≡ 0 }
+        ensures value { result ≡ next_difference (ram_size PAGES) self.now other.now from }
+        ensures word { IfSome result (λ at. (at % 4 ≡ 0) × (at < ram_size PAGES)) }
+    {
+        let mut at = from;
+        while at < self.len() {
+            match self.difference_in_page(other, at) {
+                Some(found) => return Some(found),
+                None => at = at / PAGE_SIZE * PAGE_SIZE + PAGE_SIZE,
+            }
+        }
+        None
     }
 }

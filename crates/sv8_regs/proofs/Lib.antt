@@ -1,3 +1,4 @@
 pub mod Packing
 pub mod Places
 pub mod Rows
+pub mod Sameness

@@ -7,7 +7,7 @@ mod pil;
 #[cfg(test)]
 mod tests;
 
-ghost use Rattle.std.specs.Prelude.{◌≡◌, ◌<◌, ◌≤◌, ◌^◌};
+ghost use Rattle.std.specs.Prelude.{◌≡◌, ◌≢◌, ◌<◌, ◌≤◌, ◌^◌, MatchBool};
 ghost use Rattle.sv8_model.specs.Words.{bit, digit};
 ghost use Rattle.sv8_regs.specs.Control.{packed_psr, unpacked_psr, kept_mask};
 
@@ -89,7 +89,7 @@ impl<const NW: usize> Model for Regs<NW> {
 }
 
 impl<const NW: usize> Regs<NW> {
-    ghost use Rattle.std.specs.Prelude.{◌≡◌, ◌<◌, ◌≤◌, ◌^◌, ◌%◌};
+    ghost use Rattle.std.specs.Prelude.{◌≡◌, ◌≢◌, ◌<◌, ◌≤◌, ◌^◌, ◌%◌, ◌*◌, MatchBool, length, slice_index};
     ghost use Rattle.sv8_regs.specs.Ring.{read, write, reset};
     ghost use Rattle.sv8_model.specs.Words.{bit};
     ghost use Rattle.sv8_regs.specs.Control.{packed_psr, unpacked_psr, window_field, kept_mask, with_base, with_trap_type, below, above, condition_codes, with_condition_codes};
@@ -134,6 +134,58 @@ impl<const NW: usize> Regs<NW> {
             tbr: self.tbr,
             y: self.y,
         }
+    }
+
+    /// Whether two sets of registers are the same: the globals, the registers of all windows, and the control and status
+    /// registers with the current window. Sections 4.1 and 4.2.
+    pub fn is_same(&self, other: &Regs<NW>) -> bool
+        ensures { MatchBool result (self.now ≡ other.now) (self.now ≢ other.now) }
+    {
+        self.has_same_fields(other) && self.has_same_windows(other)
+    }
+
+    /// Whether all but the registers of the windows is the same.
+    fn has_same_fields(&self, other: &Regs<NW>) -> bool
+        ensures { MatchBool result (self.now ≡ record other.now { ring = self.now.ring }) (self.now ≢ record other.now { ring = self.now.ring }) }
+    {
+        if self.globals != other.globals || self.psr != other.psr {
+            return false;
+        }
+        if self.window != other.window || self.wim != other.wim {
+            return false;
+        }
+        self.tbr == other.tbr && self.y == other.y
+    }
+
+    /// Whether the registers of all windows are the same.
+    fn has_same_windows(&self, other: &Regs<NW>) -> bool
+        ensures { MatchBool result (self.now.ring ≡ other.now.ring) (self.now.ring ≢ other.now.ring) }
+    {
+        let _as_many = other.ring_len();
+        for place in 0..self.ring_len() {
+            if self.word(place) != other.word(place) {
+                return false;
+            }
+        }
+        true
+    }
+
+    /// How many words the ring has.
+    fn ring_len(&self) -> usize
+        ensures value { result ≡ 16 * NW }
+        ensures whole { length self.now.ring ≡ 16 * NW }
+    {
+        let _window = self.window;
+        16 * NW
+    }
+
+    /// The word at a place of the ring.
+    #[inline(always)]
+    fn word(&self, place: usize) -> u32
+        requires { place < 16 * NW }
+        ensures { result ≡ slice_index self.now.ring place }
+    {
+        self.rows[place / 16][place % 16]
     }
 
     /// Register `r` of the current window. Section 4.1.

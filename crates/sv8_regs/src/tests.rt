@@ -1,6 +1,6 @@
 //! The rules of chapter 4 on numbers that are worked out by hand.
 
-ghost use Rattle.std.specs.Prelude.{◌≤◌};
+ghost use Rattle.std.specs.Prelude.{◌<◌, ◌≤◌};
 
 use super::*;
 
@@ -190,4 +190,69 @@ fn y_holds_a_word(rt: HostRuntime) {
     regs.set_y(0xDEAD_BEEF);
     assert_eq!(rt; regs.y(), 0xDEAD_BEEF);
     assert_eq!(rt; regs.get(1), 0);
+}
+
+/// Whether registers differ from others that a change of one register has made of them, and those are the same as a copy.
+fn is_seen(base: &Regs<3>, changed: &Regs<3>) -> bool {
+    !base.is_same(changed) && !changed.is_same(base) && changed.is_same(&changed.copy())
+}
+
+/// Whether a change of a register is seen in each window.
+fn each_register_counts(base: &Regs<3>, r: u32) -> bool
+    requires { r < 32 }
+{
+    let mut holds = true;
+    for window in 0..3 {
+        let mut changed = base.copy();
+        changed.set_cwp(window);
+        changed.set(r, 0x8000_0000);
+        changed.set_cwp(0);
+        holds = holds && is_seen(base, &changed);
+    }
+    holds
+}
+
+/// Whether a change of each control register is seen.
+fn each_control_register_counts(base: &Regs<3>) -> bool {
+    let mut holds = true;
+    let mut changed = base.copy();
+    changed.set_cwp(2);
+    holds = holds && is_seen(base, &changed);
+    changed = base.copy();
+    changed.set_wim(4);
+    holds = holds && is_seen(base, &changed);
+    changed = base.copy();
+    changed.set_tba(0x1000);
+    holds = holds && is_seen(base, &changed);
+    changed = base.copy();
+    changed.set_trap_type(0xff);
+    holds = holds && is_seen(base, &changed);
+    changed = base.copy();
+    changed.set_y(1);
+    holds && is_seen(base, &changed)
+}
+
+/// Whether a change of each field of the PSR is seen, whose word after the reset is 80 (hexadecimal).
+fn each_field_counts(base: &Regs<3>) -> bool {
+    let words: [u32; 8] = [
+        0x80_0080, 0x40_0080, 0x20_0080, 0x10_0080, 0x180, 0, 0xc0, 0xa0,
+    ];
+    let mut holds = true;
+    for word in words {
+        let mut changed = base.copy();
+        changed.set_psr(unpacked(word));
+        holds = holds && is_seen(base, &changed);
+    }
+    holds
+}
+
+#[test]
+fn registers_that_differ_in_one_place(rt: HostRuntime) {
+    let base = Regs::<3>::new();
+    assert!(rt; base.is_same(&base.copy()));
+    for r in 1..32 {
+        assert!(rt; each_register_counts(&base, r));
+    }
+    assert!(rt; each_control_register_counts(&base));
+    assert!(rt; each_field_counts(&base));
 }

@@ -1,6 +1,6 @@
 //! The registers and counters, and how an instruction leaves them.
 
-ghost use Rattle.std.specs.Prelude.{◌≡◌, ◌<◌, ◌≤◌, ◌%◌, ◌^◌};
+ghost use Rattle.std.specs.Prelude.{◌≡◌, ◌≢◌, ◌<◌, ◌≤◌, ◌%◌, ◌^◌, MatchBool};
 ghost use Rattle.sv8_regs.specs.Control.{unpacked_psr, window_field, kept_mask, with_base};
 ghost use Rattle.sv8_trap.specs.Processor.{reset_processor, plus, advanced, transferred, slot_skipped, with_register, with_result, with_codes, with_y, in_window};
 
@@ -61,6 +61,19 @@ impl<const NW: usize> Processor<NW> {
             annul: self.annul,
             running: self.running,
         }
+    }
+
+    /// Whether two processors are the same: their registers, PC, nPC, the annul flag, and whether they run.
+    pub fn is_same(&self, other: &Processor<NW>) -> bool
+        ensures { MatchBool result (self.now ≡ other.now) (self.now ≢ other.now) }
+    {
+        if self.pc != other.pc || self.npc != other.npc {
+            return false;
+        }
+        if self.annul != other.annul || self.running != other.running {
+            return false;
+        }
+        self.registers.is_same(&other.registers)
     }
 
     /// The number of windows, `NW`.

@@ -1,4 +1,4 @@
-use Rattle.std.proofs.Common.{rules, sym, ◌∙◌}
+use Rattle.std.proofs.Common.{rules}
 use Rattle.sv8_phys.proofs.PieceLemmas.{end_of_chunks, end_of_tail, end_of_full_tail}
 use Rattle.sv8_phys.proofs.output.Output.end.Goals as goal
 
