@@ -1,6 +1,6 @@
 //! What differs between a workbench and the one that was kept.
 
-ghost use Rattle.std.specs.Prelude.{◌≡◌, ℕ, ◌+◌, ◌-◌, ◌*◌, ◌/◌, ◌<◌, ◌≤◌, ◌×◌, ◌++◌, ◌∷◌, [], length, map, IfOk, IfErr, OnOk, OnErr, None, Some};
+ghost use Rattle.std.specs.Prelude.{◌≡◌, ℕ, ◌+◌, ◌-◌, ◌*◌, ◌/◌, ◌<◌, ◌≤◌, ◌++◌, ◌∷◌, [], length, map, IfOk, IfErr, OnOk, OnErr, None, Some};
 ghost use Rattle.sv8_bench.specs.Faults.{step_refusal, IsQueryFault};
 ghost use Rattle.sv8_bench.specs.Shown.{machine_state};
 ghost use Rattle.sv8_monitor.specs.Comparing.{range_refusal, IsParted, difference_at, differences};
