@@ -56,11 +56,11 @@ define_is name value old new h = go (defined old.named name) refl (define name v
 abbrev IsName : List ℕ → ℤ → List ℕ → ℤ → Type 0
 IsName name value q x = (q ≡ name) × (x ≡ value)
 
-defined_keeps : (name : List ℕ) (value : ℤ) (old new : Names) → Defined name value old new → (q : List ℕ) (x : ℤ) → defined old.named q ≡ Some x → defined new.named q ≡ Some x
+pub defined_keeps : (name : List ℕ) (value : ℤ) (old new : Names) → Defined name value old new → (q : List ℕ) (x : ℤ) → defined old.named q ≡ Some x → defined new.named q ≡ Some x
 defined_keeps name value old new d q x h =
     ap (λ m. defined m.named q) d.made ∙ defined_append old.named ((name, value) ∷ []) q ∙ ap (λ o. option_or o (defined ((name, value) ∷ []) q)) h
 
-defined_there : (name : List ℕ) (value : ℤ) (old new : Names) → Defined name value old new → defined new.named name ≡ Some value
+pub defined_there : (name : List ℕ) (value : ℤ) (old new : Names) → Defined name value old new → defined new.named name ≡ Some value
 defined_there name value old new d =
     ap (λ m. defined m.named name) d.made ∙ defined_append old.named ((name, value) ∷ []) name ∙ ap (λ o. option_or o (defined ((name, value) ∷ []) name)) d.absent
     ∙ ap (λ b. cond b (Some value) None) ((bytes_eq-Decides name name).1 refl)
