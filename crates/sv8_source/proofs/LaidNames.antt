@@ -128,7 +128,7 @@ number_there : (name : List ℕ) (value : Expr) (o : Option ℤ) (old new : Name
 number_there name value None old new p h = absurd (cc)
 number_there name value (Some v) old new p h = (v, p, defined_there name v old new (define_is name v old new h))
 
-equ_there : (t : Option Statement) (old new : Names) (name : List ℕ) (value : Expr) → define_equ t old ≡ Ok new → t ≡ Some (statement.Equ name value) → Stands new name value
+pub equ_there : (t : Option Statement) (old new : Names) (name : List ℕ) (value : Expr) → define_equ t old ≡ Ok new → t ≡ Some (statement.Equ name value) → Stands new name value
 equ_there t old new name value h e = number_there name value (plain value) old new refl (ap (λ x. define_equ x old) (sym e) ∙ h)
 
 -- ---- all lines

@@ -1,5 +1,5 @@
 -- A name is defined once, so no two names of a source have the same place in their order.
-use Rattle.std.proofs.Common.{◌≡◌, ◌∙◌, ℕ, ℤ, pos, ◌+◌, Bool, true, false, List, [], ◌∷◌, ◌++◌, Option, Some, None, Result, Ok, Err, Ordering, Less, Equal, Greater, nat_cmp, is_eq, refl, sym, ap, subst, append_assoc}
+use Rattle.std.proofs.Common.{◌≡◌, ◌∙◌, ℕ, ℤ, pos, ◌+◌, Bool, true, false, List, [], ◌∷◌, ◌++◌, Option, Some, None, Ok, Ordering, Less, Equal, Greater, nat_cmp, is_eq, refl, sym, ap, subst, append_assoc}
 use Rattle.std.specs.List.{AllByRecursion}
 use Rattle.std.specs.Option.{option_to_list}
 use Rattle.std.specs.Ordering.{ordering_then}
@@ -14,7 +14,7 @@ use Rattle.sv8_asm.specs.Size.{plain}
 use Rattle.sv8_model.specs.Words.{word_of_number}
 use Rattle.sv8_source.specs.declared.names.NameKind.TheVariants as kind
 use Rattle.sv8_source.specs.Layout.{Place, define, define_label, define_number, define_equ}
-use Rattle.sv8_source.specs.Names.{Named, label_name, number_name, equ_name, line_names, defined_names, compare, HasNoTies}
+use Rattle.sv8_source.specs.Names.{Named, label_name, number_name, equ_name, defined_names, compare, HasNoTies}
 use Rattle.sv8_source.specs.Text.{Text, Assembly, assembled}
 use Rattle.sv8_source.proofs.LaidLines.{Chain, lines_chain}
 use Rattle.sv8_source.proofs.LaidNames.{define_is, defined_keeps, defined_there}

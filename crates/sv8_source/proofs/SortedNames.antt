@@ -1,8 +1,8 @@
 -- A list with no ties has one sorted order, and `in_order` gives it.
-use Rattle.std.proofs.Common.{◌≡◌, ℕ, zero, suc, ◌<◌, Bool, true, false, not, cond, List, [], ◌∷◌, ◌++◌, map, filter, get_or, set, swap, length, refl, sym, ap, ap₂, ◌∙◌, subst, arith, add-one, Ordering, Less, Equal, Greater, nat_cmp, is_lt, is_gt, is_eq, true≢false, IsPermutation, IsSorted}
+use Rattle.std.proofs.Common.{◌≡◌, ℕ, zero, suc, ◌<◌, Bool, true, false, not, cond, List, [], ◌∷◌, ◌++◌, map, filter, get_or, set, swap, length, refl, sym, ap, ap₂, ◌∙◌, subst, arith, add-one, Ordering, Less, Equal, Greater, is_lt, is_gt, is_eq, true≢false, IsPermutation, IsSorted}
 use Rattle.std.specs.List.{AllByRecursion}
 use Rattle.std.specs.Cmp.{IsTotalOrder}
-use Rattle.std.specs.Ordering.{ordering_reverse, ordering_then, on}
+use Rattle.std.specs.Ordering.{ordering_reverse, on}
 use Rattle.std.proofs.lemmas.Cmp.{tied_itself, upto, alike_right, on_total, then_total, nat_cmp_total, nat_list_cmp_total}
 use Rattle.std.proofs.lemmas.List.Elements.{recursion_from_All, All-from_recursion}
 use Rattle.std.proofs.lemmas.List.Sorted.{length_permutation, All-permutation, IsPermutation-refl, IsPermutation-cons, IsPermutation-trans, IsPermutation-middle, IsPermutation-map, IsPermutation-keeps}

@@ -25,16 +25,23 @@ pub record Named : Type 0 where
 
 -- ---- of one line
 
+-- a label that stands for a location
+abbrev pub label_named : List ℕ → ℕ → Named
+label_named name at = record { value = at; kind = kind.Label; name = name }
+
+-- a name that stands for a number, modulo 2^32
+abbrev pub number_named : List ℕ → ℤ → Named
+number_named name value = record { value = word_of_number value; kind = kind.Equ; name = name }
+
 -- a label stands for the location before its line's statement; a digit is no name
 abbrev pub label_name : Option Label → ℕ → Option Named
 label_name None at = None
-label_name (Some (label.Name name)) at = Some (record { value = at; kind = kind.Label; name = name })
+label_name (Some (label.Name name)) at = Some (label_named name at)
 label_name (Some (label.Local digit)) at = None
 
--- a number as a word, modulo 2^32
 abbrev pub number_name : List ℕ → Option ℤ → Option Named
 number_name name None = None
-number_name name (Some value) = Some (record { value = word_of_number value; kind = kind.Equ; name = name })
+number_name name (Some value) = Some (number_named name value)
 
 -- the name of `.equ` stands for its number
 abbrev pub equ_name : Option Statement → Option Named
