@@ -11,6 +11,8 @@ mod frequent;
 #[cfg(test)]
 mod lines;
 #[cfg(test)]
+mod names;
+#[cfg(test)]
 mod output;
 #[cfg(test)]
 mod places;
@@ -22,6 +24,8 @@ mod recorded;
 mod sources;
 #[cfg(test)]
 mod statements;
+#[cfg(test)]
+mod timelines;
 #[cfg(test)]
 mod translation;
 #[cfg(test)]
