@@ -1,9 +1,10 @@
 //! The workbench.
 
-ghost use Rattle.std.specs.Prelude.{◌≡◌, ℕ, ◌+◌, ◌*◌, ◌<◌, ◌≤◌, ◌⊎◌, length, None, Some, IfOk, IfErr, OnOk, OnErr, option_map};
+ghost use Rattle.std.specs.Prelude.{◌≡◌, ℕ, ◌+◌, ◌*◌, ◌<◌, ◌≤◌, ◌⊎◌, length, None, Some, IfOk, IfErr, OnOk, OnErr, map, option_map};
 ghost use Rattle.sv8_source.specs.Text.{texts, replaced};
 ghost use Rattle.sv8_source.specs.Listing.{listing, numbered};
-ghost use Rattle.sv8_source.specs.View.{shown_of};
+ghost use Rattle.sv8_source.specs.Names.{names};
+ghost use Rattle.sv8_source.specs.View.{named_of, shown_of};
 ghost use Rattle.sv8_edits.specs.Changes.{image_changes};
 ghost use Rattle.sv8_trace.specs.Recording.{recorded};
 ghost use Rattle.sv8_bench.specs.Faults.{edit_refusal};
@@ -21,7 +22,7 @@ use crate::fault::BenchFault;
 use std::alloc::{AllocError, Global};
 use std::marker::Model;
 use sv8_cpu::{Machine, Work};
-use sv8_source::{Listed, Source};
+use sv8_source::{DefinedName, Listed, Source};
 use sv8_time::Timeline;
 use sv8_trace::Trace;
 
@@ -127,6 +128,17 @@ impl<const NW: usize, const PAGES: usize, const K: u32> Bench<NW, PAGES, K> {
         ensures { option_map shown_of result ≡ numbered (listing self.now.kept.source) number }
     {
         self.source.line(number)
+    }
+
+    /// The names that the source defines, rising by value, and those of one value by their bytes.
+    ///
+    /// # Errors
+    ///
+    /// `AllocError` where memory for them cannot be had.
+    pub fn names(&self) -> Result<Vec<DefinedName<'_>>, AllocError>
+        ensures { IfOk result (λ v. map named_of v.items ≡ names self.now.kept.source) }
+    {
+        self.source.names(self.alloc)
     }
 
     /// The outside events.

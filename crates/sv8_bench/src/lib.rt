@@ -11,5 +11,5 @@ pub use fault::BenchFault;
 pub use shown::Shown;
 pub use sv8_cpu::Mmu;
 pub use sv8_phys::Timer;
-pub use sv8_source::Listed;
+pub use sv8_source::{DefinedName, Listed, NameKind};
 pub use walk::Walk;

@@ -1,7 +1,8 @@
 -- Which steps of a run are told.
-use Rattle.std.specs.Prelude.{◌≡◌, ℕ, zero, suc, ◌+◌, ◌-◌, ◌/◌, ◌*◌, ◌%◌, ◌==◌, ◌&&◌, Bool, true, List, [], ◌∷◌, ◌++◌, max, nat_le, Option, Some, None, if◌then◌else◌}
+use Rattle.std.specs.Prelude.{◌≡◌, ◌⊎◌, ℕ, zero, suc, ◌≤◌, ◌+◌, ◌-◌, ◌/◌, ◌*◌, ◌%◌, ◌==◌, ◌&&◌, Bool, true, List, [], ◌∷◌, ◌++◌, max, nat_le, Option, Some, None, if◌then◌else◌}
+use Rattle.sv8_cpu.specs.Work.{counted}
 use Rattle.sv8_history.specs.Growing.{restored}
-use Rattle.sv8_trace.specs.Recorder.{counted_by}
+use Rattle.sv8_trace.specs.Recorder.{counted_by, RaisedUpTo}
 use Rattle.sv8_bench.specs.Kept.{Kept}
 use Rattle.sv8_bench.specs.Shown.{machine_state}
 use Rattle.sv8_bench.specs.Workbench.{Workbench, checkpoints}
@@ -21,6 +22,10 @@ is_wanted k cs n = meets_any k.windows k.pages k.timeline n (machine_state k n) 
 
 abbrev pub wanted_found : Kept → List Condition → ℕ → Option Found
 wanted_found k cs n = if is_wanted k cs n then Some (found_at k n) else None
+
+abbrev pub list_of : {A : Type 0} → Option A → List A
+list_of None = []
+list_of (Some x) = x ∷ []
 
 -- the steps that are wanted among so many from n on, rising, and at most so many of them
 abbrev pub rising : (ℕ → Bool) → ℕ → ℕ → ℕ → List ℕ
@@ -72,6 +77,20 @@ pub record IsSearched (k from end : ℕ) (old new : Workbench) : Type 0 where
   pub kept : new.kept ≡ old.kept
   pub recorded : checkpoints new ≡ max (checkpoints old) (end / k)
   pub worked : new.worked ≡ counted_by (end - restored k (checkpoints old) from) old.worked
+
+-- A step was tried, and may have been made.
+pub record IsTried (k n : ℕ) (old new : Workbench) : Type 0 where
+  pub kept : new.kept ≡ old.kept
+  pub fewest : checkpoints old ≤ checkpoints new
+  pub most : checkpoints new ≤ max (checkpoints old) ((n + 1) / k)
+  pub worked : (new.worked ≡ old.worked) ⊎ (new.worked ≡ counted old.worked)
+
+-- A search from one step on and below another was given up for want of memory.
+pub record IsAbandoned (k from to : ℕ) (old new : Workbench) : Type 0 where
+  pub kept : new.kept ≡ old.kept
+  pub fewest : checkpoints old ≤ checkpoints new
+  pub most : checkpoints new ≤ max (checkpoints old) (to / k)
+  pub worked : RaisedUpTo (to - restored k (checkpoints old) from) old.worked new.worked
 
 -- ---- the bytes that conditions compare
 

@@ -8,6 +8,13 @@ use Rattle.sv8_watch.specs.declared.happening.Happening.{Happening}
 use Rattle.sv8_watch.specs.declared.happening.Outcome.{Outcome}
 use Rattle.sv8_watch.specs.declared.happening.Outcome.TheVariants as outcome
 use Rattle.std.specs.List.{range_with_len}
+use Rattle.sv8_mmu.specs.declared.place.Place.{Place}
+use Rattle.sv8_mmu.specs.declared.place.PagePlace.{PagePlace}
+use Rattle.sv8_mmu.specs.TableLevels.{level_number}
+use Rattle.sv8_source.specs.Names.{Named}
+use Rattle.sv8_source.specs.declared.names.NameKind.{NameKind}
+use Rattle.sv8_source.specs.declared.names.NameKind.TheVariants as name_kind
+use Rattle.sv8_monitor.specs.declared.difference.Difference.{Difference}
 use Rattle.sv8_regs.specs.Ring.{Registers, read}
 use Rattle.sv8_shell.specs.Text.{hex_digit, hex_byte, hex_word, numbered_text}
 use Rattle.sv8_monitor.specs.declared.found.Found.{Found}
@@ -81,14 +88,40 @@ windows_text windows r = numbered_text (λ w x. window_line w (own_registers win
 
 -- ---- places
 
--- where an address leads: the physical address, and the level and the access field of the entry that says so
-abbrev pub place_line : Place → List ℕ
-place_line p = physical p.pa ++ page_text p.page ++ codes "\n"
-  where
-    page_text : Option PagePlace → List ℕ
-    page_text None = codes " - -"
-    page_text (Some page) = codes " " ++ decimal (level_number page.level) ++ codes " " ++ decimal page.access
+-- the level of an entry, and its access field
+abbrev pub page_text : Option PagePlace → List ℕ
+page_text None = codes " - -"
+page_text (Some page) = codes " " ++ decimal (level_number page.level) ++ codes " " ++ decimal page.access
 
+-- where an address leads: the physical address, and the entry that says so, if one does
 abbrev pub place_text : Option Place → List ℕ
 place_text None = []
-place_text (Some p) = place_line p
+place_text (Some p) = physical p.pa ++ page_text p.page ++ codes "\n"
+
+-- ---- names
+
+abbrev pub name_kind_text : NameKind → List ℕ
+name_kind_text name_kind.Label = codes " label "
+name_kind_text name_kind.Equ = codes " equ "
+
+unfoldable pub name_line : Named → List ℕ
+name_line n = hex_word n.value ++ name_kind_text n.kind ++ n.name ++ codes "\n"
+
+abbrev pub names_text : List Named → List ℕ
+names_text ns = numbered_text (λ i n. name_line n) 0 ns
+
+-- ---- what differs
+
+-- the line of a step
+unfoldable pub parted_line : ℕ → List ℕ
+parted_line n = codes "step " ++ decimal n ++ codes "\n"
+
+abbrev pub parted_text : Option ℕ → List ℕ
+parted_text None = []
+parted_text (Some n) = parted_line n
+
+unfoldable pub difference_line : Difference → List ℕ
+difference_line d = hex_word d.address ++ codes " " ++ hex_word d.old ++ codes " " ++ hex_word d.new ++ codes "\n"
+
+abbrev pub differences_text : List Difference → List ℕ
+differences_text ds = numbered_text (λ i d. difference_line d) 0 ds

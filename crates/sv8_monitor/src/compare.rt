@@ -95,3 +95,31 @@ pub fn differences<const NW: usize, const PAGES: usize>(
     }
     Ok(found)
 }
+
+/// The words of RAM that differ between before at one step and now at another, rising, and at most so many.
+///
+/// # Errors
+///
+/// `StepTooLarge` where one of both steps is above 1,000,000, else `OutOfMemory`.
+pub fn differ<const NW: usize, const PAGES: usize, const K: u32>(
+    now: &mut Bench<NW, PAGES, K>,
+    before: &mut Bench<NW, PAGES, K>,
+    at_now: u32,
+    at_before: u32,
+    most: u32,
+) -> Result<Vec<Difference>, BenchFault>
+    ensures found { IfOk result (λ v. v.items ≡ differences (machine_state before.old.kept at_before).memory.ram (machine_state now.old.kept at_now).memory.ram most) }
+    ensures within { OnOk result (range_refusal at_now at_before ≡ None) }
+    ensures refused { IfErr result (IsQueryFault (range_refusal at_now at_before)) }
+    ensures now_kept { now.new.kept ≡ now.old.kept }
+    ensures before_kept { before.new.kept ≡ before.old.kept }
+{
+    if LAST_STEP < at_now || LAST_STEP < at_before {
+        return Err(BenchFault::StepTooLarge);
+    }
+    let alloc = now.alloc();
+    let now = now.machine(at_now)?;
+    let before = before.machine(at_before)?;
+    let found = differences(alloc, &before, &now, most)?;
+    Ok(found)
+}

@@ -1,17 +1,19 @@
 //! Searches for the steps of a run that meet a condition.
 
-ghost use Rattle.std.specs.Prelude.{◌≡◌, ℕ, ◌+◌, ◌-◌, ◌*◌, ◌<◌, ◌≤◌, ◌++◌, ◌∷◌, [], List, length, true, map, IfOk, OnOk, OnErr};
-ghost use Rattle.std.specs.List.{list_any};
+ghost use Rattle.std.specs.Prelude.{◌≡◌, ℕ, ◌+◌, ◌-◌, ◌*◌, ◌<◌, ◌≤◌, ◌++◌, ◌∷◌, [], List, length, true, take, map, None, IfOk, IfErr, OnOk, OnErr};
+ghost use Rattle.std.specs.List.{list_any, list_reverse};
+ghost use Rattle.sv8_bench.specs.Faults.{IsQueryFault};
+ghost use Rattle.sv8_monitor.specs.Answers.{steps_refusal};
 ghost use Rattle.sv8_phys.specs.Memory.{ram_size};
 ghost use Rattle.sv8_cpu.specs.State.{State};
-ghost use Rattle.sv8_watch.specs.Conditions.{is_met};
+ghost use Rattle.sv8_watch.specs.Conditions.{is_met, bytes_from};
 ghost use Rattle.sv8_bench.specs.Shown.{machine_state};
 ghost use Rattle.sv8_bench.specs.Walks.{IsWalk, IsMade, IsUnmade};
-ghost use Rattle.sv8_monitor.specs.Search.{old_of, olds_of, old_count, olds_count, is_inside, are_inside, found_at, is_wanted, wanted_found, rising, looked_to, IsSearched};
+ghost use Rattle.sv8_monitor.specs.Search.{old_of, olds_of, old_count, olds_count, is_inside, are_inside, found_at, is_wanted, wanted_found, list_of, rising, looked_to, falling, steps_told, IsSearched, IsTried, IsAbandoned};
 
 use crate::found::Found;
 use std::alloc::AllocError;
-use sv8_bench::{Bench, Walk};
+use sv8_bench::{Bench, BenchFault, LAST_STEP, Walk};
 use sv8_cpu::Machine;
 use sv8_phys::{Touch, Watch};
 use sv8_watch::{Before, Condition, Happening};
@@ -151,4 +153,171 @@ fn look<const NW: usize, const PAGES: usize, const K: u32>(
         None
     };
     Ok((walk, found))
+}
+
+/// Adds a step that was found, if one was.
+fn add_found(found: &mut Vec<Found>, next: Option<Found>) -> Result<(), AllocError>
+    ensures { OnOk result (found.new.items ≡ found.old.items ++ list_of next) }
+{
+    if let Some(next) = next {
+        found.push(next)?;
+    }
+    Ok(())
+}
+
+/// Adds the steps from one on and below another that meet a condition, and at most so many of them. It looks at no step
+/// behind the last one that it adds, if it adds so many.
+///
+/// # Errors
+///
+/// `AllocError` where memory for it cannot be had.
+fn search_up<const NW: usize, const PAGES: usize, const K: u32>(
+    bench: &mut Bench<NW, PAGES, K>,
+    conditions: &[Condition],
+    from: u32,
+    to: u32,
+    most: u32,
+    found: &mut Vec<Found>,
+) -> Result<(), AllocError>
+    requires ordered { from ≤ to }
+    requires within { to ≤ 1000000 }
+    requires inside { are_inside (ram_size PAGES) conditions.now ≡ true }
+    ensures found { OnOk result (found.new.items ≡ found.old.items
+        ++ map (found_at bench.old.kept) (rising (is_wanted bench.old.kept conditions.now) from (to - from) most)) }
+    ensures searched { OnOk result (IsSearched K from (looked_to (is_wanted bench.old.kept conditions.now) from (to - from) most) bench.old bench.new) }
+    ensures given_up { IsAbandoned K from to bench.old bench.new }
+{
+    let alloc = bench.alloc();
+    let mut watch = Watch::new(alloc);
+    let mut walk = bench.walk(from, &mut watch)?;
+    let mut old = Vec::new(alloc);
+    look_at_old(&mut old, conditions, walk.machine())?;
+    let mut left = most;
+    while walk.step() < to && left > 0 {
+        let (next, seen) = look(bench, walk, &mut watch, conditions, &mut old)?;
+        walk = next;
+        if seen.is_some() {
+            left -= 1;
+        }
+        add_found(found, seen)?;
+    }
+    Ok(())
+}
+
+/// Adds steps from the last one on, and at most so many; answers how many more may follow.
+fn add_falling(found: &mut Vec<Found>, seen: &[Found], most: u32) -> Result<u32, AllocError>
+    ensures found { OnOk result (found.new.items ≡ found.old.items ++ take most (list_reverse seen.now)) }
+    ensures left { IfOk result (λ left. left ≡ most - length seen.now) }
+{
+    let mut rest = seen;
+    let mut left = most;
+    while let [before @ .., last] = rest {
+        if left == 0 {
+            return Ok(0);
+        }
+        found.push(*last)?;
+        left -= 1;
+        rest = before;
+    }
+    Ok(left)
+}
+
+/// Adds the steps below one and not below another that meet a condition, from the last one down, and at most so many of
+/// them. It goes from one checkpoint to the one before it, and looks at the steps between them once.
+///
+/// # Errors
+///
+/// `AllocError` where memory for it cannot be had.
+fn search_down<const NW: usize, const PAGES: usize, const K: u32>(
+    bench: &mut Bench<NW, PAGES, K>,
+    conditions: &[Condition],
+    from: u32,
+    to: u32,
+    most: u32,
+    found: &mut Vec<Found>,
+) -> Result<(), AllocError>
+    requires ordered { to ≤ from }
+    requires within { from ≤ 1000000 }
+    requires inside { are_inside (ram_size PAGES) conditions.now ≡ true }
+    ensures found { OnOk result (found.new.items ≡ found.old.items
+        ++ map (found_at bench.old.kept) (falling (is_wanted bench.old.kept conditions.now) to (from - to) most)) }
+    ensures kept { bench.new.kept ≡ bench.old.kept }
+{
+    let alloc = bench.alloc();
+    let mut end = from;
+    let mut left = most;
+    while end > to && left > 0 {
+        let start = to.max((end - 1) / K * K);
+        let mut seen = Vec::new(alloc);
+        search_up(bench, conditions, start, end, end - start, &mut seen)?;
+        left = add_falling(found, seen.as_slice(), left)?;
+        end = start;
+    }
+    Ok(())
+}
+
+/// Whether the bytes of conditions lie in RAM, and their words.
+fn are_inside<const PAGES: usize>(conditions: &[Condition]) -> bool
+    requires few_pages { PAGES ≤ 65536 }
+    ensures { result ≡ are_inside (ram_size PAGES) conditions.now }
+{
+    let mut rest = conditions;
+    while let [first, after @ ..] = rest {
+        if !is_inside(*first, 4_096 * PAGES as u64) {
+            return false;
+        }
+        rest = after;
+    }
+    true
+}
+
+/// Whether the bytes of a condition lie in RAM of a size, or its word.
+fn is_inside(condition: Condition, size: u64) -> bool
+    ensures { result ≡ is_inside size condition }
+{
+    match condition {
+        Condition::Load { address, count }
+        | Condition::Store { address, count }
+        | Condition::Change { address, count } => u64::from(address) + u64::from(count) <= size,
+        Condition::Touch(address) => address % 4 == 0 && u64::from(address) + 4 <= size,
+        _ => true,
+    }
+}
+
+/// The steps from one on up to another, which is not looked at, or from below the one down to the other, that meet a
+/// condition, and at most so many of them.
+///
+/// # Errors
+///
+/// `StepTooLarge` where one of both steps is above 1,000,000, `BadAddress` where bytes or a word of a condition do not lie in
+/// RAM, else `OutOfMemory`.
+pub fn steps<const NW: usize, const PAGES: usize, const K: u32>(
+    bench: &mut Bench<NW, PAGES, K>,
+    from: u32,
+    to: u32,
+    most: u32,
+    conditions: &[Condition],
+) -> Result<Vec<Found>, BenchFault>
+    ensures found { IfOk result (λ v. v.items ≡ map (found_at bench.old.kept) (steps_told bench.old.kept from to most conditions.now)) }
+    ensures within { OnOk result (steps_refusal from to conditions.now bench.old.kept ≡ None) }
+    ensures refused { IfErr result (IsQueryFault (steps_refusal from to conditions.now bench.old.kept)) }
+    ensures kept { bench.new.kept ≡ bench.old.kept }
+{
+    if LAST_STEP < from || LAST_STEP < to {
+        return Err(BenchFault::StepTooLarge);
+    }
+    let _source = bench.line_count();
+    if !are_inside::<PAGES>(conditions) {
+        return Err(BenchFault::BadAddress);
+    }
+    let mut found = Vec::new(bench.alloc());
+    if from == to || most == 0 {
+        return Ok(found);
+    }
+    if from < to {
+        search_up(bench, conditions, from, to, most, &mut found)?;
+    } else {
+        search_down(bench, conditions, from, to, most, &mut found)?;
+    }
+    Ok(found)
 }

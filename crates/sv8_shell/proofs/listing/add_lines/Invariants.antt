@@ -1,0 +1,10 @@
+use Rattle.std.proofs.Common.{◌+◌, ◌-◌, take, drop}
+use Rattle.sv8_source.specs.Listing.{listing}
+use Rattle.sv8_shell.specs.Put.{Gained}
+use Rattle.sv8_shell.specs.Text.{numbered_text, listing_line}
+use Rattle.sv8_shell.proofs.listing.add_lines.Given as goal
+
+abbrev pub invariant-loop-place : goal.invariant-loop-place
+invariant-loop-place g l =
+    Gained (g.W.Write.contents l.initial.writer) (g.W.Write.contents l.writer) l.initial.text l.text
+    (numbered_text listing_line (l.from + 1) (take (l.place - l.from) (drop l.from (listing l.bench.kept.source))))
