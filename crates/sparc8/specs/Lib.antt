@@ -1,3 +1,1 @@
-pub mod Windows
-pub mod Words
 pub mod Ends

@@ -1,22 +1,20 @@
 //! `sparc8 [--windows N] [SCRIPT]`: runs a script of edits and queries on a SPARC V8 workbench.
 #![tactic(auto)]
 
-mod end;
-pub mod laws;
-mod program;
 #[cfg(test)]
 mod tests;
-mod words;
+mod workbench;
 
-pub use end::{End, end_of, ending};
 use std::process::ExitCode;
-pub use words::{Settings, settings};
+use sv8_program::{run_program, status_of};
+pub use workbench::{Sparc8, line_of};
 
 fn main(rt: HostRuntime) -> ExitCode {
-    let (status, line) = ending(program::program(&rt));
+    let end = run_program::<Sparc8>(&rt);
+    let line = line_of(end);
     if !line.is_empty() {
         // Where even this line cannot be written, the status still tells.
         let _ = eprintln!(rt; "{line}");
     }
-    ExitCode::from(status)
+    ExitCode::from(status_of(end))
 }

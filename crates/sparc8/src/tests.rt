@@ -1,34 +1,38 @@
 //! Tests of the words, of the help, and of the ends.
 
-use crate::program::{obey, refuse_bytes, serve};
-use crate::{End, ending, settings};
+use crate::{Sparc8, line_of};
 use std::io::{self, ErrorKind, Read, Write};
 use std::test::Fail;
+use sv8_program::{End, Program, obey, refuse_bytes, settings, status_of};
 
 #[test]
 fn words_are_read(rt: HostRuntime) -> Result<(), Fail> {
-    let none = settings(rt.alloc(), &[])?;
+    let none = settings(rt.alloc(), Sparc8::description(), &[])?;
     assert_eq!(rt; none.windows, 8);
     assert!(rt; none.script.is_none());
-    let two = settings(rt.alloc(), &["--windows", "2", "x"])?;
+    let two = settings(rt.alloc(), Sparc8::description(), &["--windows", "2", "x"])?;
     assert_eq!(rt; two.windows, 2);
     assert!(rt; two.script == Some("x"));
-    assert!(rt; settings(rt.alloc(), &["--windows", "3"]).is_err());
-    assert!(rt; settings(rt.alloc(), &["x", "y"]).is_err());
-    assert!(rt; settings(rt.alloc(), &["--help"]).is_err());
+    assert!(rt; settings(rt.alloc(), Sparc8::description(), &["--windows", "3"]).is_err());
+    assert!(rt; settings(rt.alloc(), Sparc8::description(), &["x", "y"]).is_err());
+    assert!(rt; settings(rt.alloc(), Sparc8::description(), &["--help"]).is_err());
     Ok(())
+}
+
+fn ends(end: End, status: u8, line: &str) -> bool {
+    status_of(end) == status && line_of(end) == line
 }
 
 #[test]
 fn ends_have_their_status(rt: HostRuntime) {
-    assert!(rt; ending(End::Done) == (0, ""));
-    assert!(rt; ending(End::Help) == (0, ""));
-    assert!(rt; ending(End::Usage) == (2, ""));
-    assert!(rt; ending(End::ReadFault) == (3, "sparc8: read fault"));
-    assert!(rt; ending(End::WriteFault) == (3, "sparc8: write fault"));
-    assert!(rt; ending(End::TooMany) == (3, "sparc8: too many commands"));
-    assert!(rt; ending(End::NoScript) == (3, "sparc8: cannot open script"));
-    assert!(rt; ending(End::Memory) == (3, "sparc8: out of memory"));
+    assert!(rt; ends(End::Done, 0, ""));
+    assert!(rt; ends(End::Help, 0, ""));
+    assert!(rt; ends(End::Usage, 2, ""));
+    assert!(rt; ends(End::ReadFault, 3, "sparc8: read fault"));
+    assert!(rt; ends(End::WriteFault, 3, "sparc8: write fault"));
+    assert!(rt; ends(End::TooMany, 3, "sparc8: too many commands"));
+    assert!(rt; ends(End::NoScript, 3, "sparc8: cannot open script"));
+    assert!(rt; ends(End::Memory, 3, "sparc8: out of memory"));
 }
 
 /// What `--help` tells: the words as `clap` lays them out, and the commands of docs/COMMANDS.md.
@@ -64,7 +68,7 @@ The guide to commands and answers is docs/COMMANDS.md, and to source lines docs/
 
 #[test]
 fn help_tells_the_commands(rt: HostRuntime) -> Result<(), Fail> {
-    let Err(error) = settings(rt.alloc(), &["--help"]) else {
+    let Err(error) = settings(rt.alloc(), Sparc8::description(), &["--help"]) else {
         return Err(Fail::from("the help is no script"));
     };
     let text = format!(in rt.alloc(); "{error}")?;
@@ -74,12 +78,12 @@ fn help_tells_the_commands(rt: HostRuntime) -> Result<(), Fail> {
 
 #[test]
 fn words_end_the_program(rt: HostRuntime) {
-    assert!(rt; obey(&rt, &["--help"]) == End::Help);
-    assert!(rt; obey(&rt, &["--windows", "3"]) == End::Usage);
-    assert!(rt; refuse_bytes(&rt) == End::Usage);
-    assert!(rt; obey(&rt, &["no such script"]) == End::NoScript);
+    assert!(rt; obey::<Sparc8>(&rt, &["--help"]) == End::Help);
+    assert!(rt; obey::<Sparc8>(&rt, &["--windows", "3"]) == End::Usage);
+    assert!(rt; refuse_bytes(&rt, Sparc8::description()) == End::Usage);
+    assert!(rt; obey::<Sparc8>(&rt, &["no such script"]) == End::NoScript);
     // A folder can be opened, and not read.
-    assert!(rt; obey(&rt, &["/"]) == End::ReadFault);
+    assert!(rt; obey::<Sparc8>(&rt, &["/"]) == End::ReadFault);
 }
 
 /// Neither gives nor takes a byte.
@@ -107,14 +111,14 @@ fn runs_end_the_program(rt: HostRuntime) -> Result<(), Fail> {
     let alloc = rt.alloc();
     let mut written = Vec::new(alloc);
     let mut script = b"list\n".as_slice();
-    assert!(rt; serve::<8, _, _>(alloc, 8, &mut script, &mut written) == End::Done);
+    assert!(rt; Sparc8::serve::<8, _, _>(alloc, &mut script, &mut written) == End::Done);
     assert!(rt; written.as_slice() == b"ok\n".as_slice());
-    assert!(rt; serve::<8, _, _>(alloc, 8, &mut Broken, &mut written) == End::ReadFault);
+    assert!(rt; Sparc8::serve::<8, _, _>(alloc, &mut Broken, &mut written) == End::ReadFault);
     let mut script = b"list\n".as_slice();
-    assert!(rt; serve::<8, _, _>(alloc, 8, &mut script, &mut Broken) == End::WriteFault);
+    assert!(rt; Sparc8::serve::<8, _, _>(alloc, &mut script, &mut Broken) == End::WriteFault);
     let lines = vec![in alloc; b'\n'; 1_000_001]?;
     let mut script = lines.as_slice();
-    assert!(rt; serve::<8, _, _>(alloc, 8, &mut script, &mut written) == End::TooMany);
+    assert!(rt; Sparc8::serve::<8, _, _>(alloc, &mut script, &mut written) == End::TooMany);
     assert!(rt; written.as_slice() == b"ok\n".as_slice());
     Ok(())
 }

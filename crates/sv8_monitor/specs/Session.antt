@@ -5,7 +5,7 @@ use Rattle.sv8_bench.specs.declared.fault.BenchFault.TheVariants.{OutOfMemory}
 use Rattle.sv8_bench.specs.Faults.{IsQueryFault}
 use Rattle.sv8_shell.specs.Refusal.{refusal_of}
 use Rattle.sv8_shell.specs.Text.{ok_line, refusal_line}
-use Rattle.sv8_bench.specs.Kept.{Kept}
+use Rattle.sv8_bench.specs.Kept.{Kept, empty}
 use Rattle.sv8_session.specs.declared.begun.Begun.{Begun}
 use Rattle.sv8_session.specs.declared.begun.Begun.TheVariants.{Bad, Takes}
 use Rattle.sv8_session.specs.Language.{Language}
@@ -29,6 +29,10 @@ use Rattle.sv8_monitor.specs.Texts.{parted_text}
 pub record Both : Type 0 where
   pub now : Kept
   pub before : Kept
+
+-- over new workbenches
+abbrev pub new_pair : ℕ → ℕ → Both
+new_pair windows pages = record { now = empty windows pages; before = empty windows pages }
 
 -- of a monitor
 abbrev pub kept_of : {windows pages k : ℕ} → Monitor windows pages k → Both

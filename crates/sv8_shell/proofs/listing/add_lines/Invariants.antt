@@ -4,7 +4,8 @@ use Rattle.sv8_shell.specs.Put.{Gained}
 use Rattle.sv8_shell.specs.Text.{numbered_text, listing_line}
 use Rattle.sv8_shell.proofs.listing.add_lines.Given as goal
 
+-- the lines up to the present one, of those that are asked for
 abbrev pub invariant-loop-place : goal.invariant-loop-place
 invariant-loop-place g l =
     Gained (g.W.Write.contents l.initial.writer) (g.W.Write.contents l.writer) l.initial.text l.text
-    (numbered_text listing_line (l.from + 1) (take (l.place - l.from) (drop l.from (listing l.bench.kept.source))))
+    (numbered_text listing_line (l.from + 1) (take (l.place - l.from) (take (l.to - l.from) (drop l.from (listing l.bench.kept.source)))))

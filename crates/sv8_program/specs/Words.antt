@@ -20,14 +20,14 @@ abbrev pub script_rule : Rule
 script_rule = new_rule (codes "SCRIPT")
 
 -- `[--windows N] [SCRIPT]`, without the program's name in front
-abbrev pub command_line : ValueParser → App
-command_line counts =
-    let bare : App = record { top = record (new_shape (codes "sparc8")) { no_binary_name = true }; subs = [] } in
+abbrev pub command_line : Text → ValueParser → App
+command_line name counts =
+    let bare : App = record { top = record (new_shape name) { no_binary_name = true }; subs = [] } in
     with_rule (with_rule bare (windows_rule counts)) script_rule
 
--- the program's command line
-abbrev pub IsSparc8 : App → Type 0
-IsSparc8 app = (counts : ValueParser) × IsFiveCounts counts × (app ≡ command_line counts)
+-- the command line of a program of this name
+abbrev pub IsCommandLine : Text → App → Type 0
+IsCommandLine name app = (counts : ValueParser) × IsFiveCounts counts × (app ≡ command_line name counts)
 
 -- the number that one of the five words names; 8 for any other
 abbrev pub count_of : Text → ℕ
@@ -43,21 +43,21 @@ windows_of (Some word) = count_of word
 windows_of None = 8
 
 -- the windows and the script that words choose
-pub record Chooses (words : List Text) (windows : ℕ) (script : Option Text) : Type 0 where
+pub record Chooses (name : Text) (words : List Text) (windows : ℕ) (script : Option Text) : Type 0 where
   pub counts : ValueParser
   pub five : IsFiveCounts counts
-  pub windows_is : windows ≡ windows_of (first_of (codes "windows") (matches_of (command_line counts) words))
-  pub script_is : script ≡ first_of (codes "SCRIPT") (matches_of (command_line counts) words)
+  pub windows_is : windows ≡ windows_of (first_of (codes "windows") (matches_of (command_line name counts) words))
+  pub script_is : script ≡ first_of (codes "SCRIPT") (matches_of (command_line name counts) words)
 
 -- the words are none that the command line takes
-abbrev pub IsNotTaken : List Text → Type 0
-IsNotTaken words = (counts : ValueParser) × IsFiveCounts counts × (takes (command_line counts) words ≡ false)
+abbrev pub IsNotTaken : Text → List Text → Type 0
+IsNotTaken name words = (counts : ValueParser) × IsFiveCounts counts × (takes (command_line name counts) words ≡ false)
 
 -- these words may have these errors: none where the command line takes them
-abbrev pub MayFailBy : List Text → Kinds → Type 0
-MayFailBy words kinds = (counts : ValueParser) × IsFiveCounts counts × (kinds ≡ fault_of (command_line counts) words)
+abbrev pub MayFailBy : Text → List Text → Kinds → Type 0
+MayFailBy name words kinds = (counts : ValueParser) × IsFiveCounts counts × (kinds ≡ fault_of (command_line name counts) words)
 
 -- an `Ok` comes only where the words have no error, and an `Err` is one of theirs, or memory could not be had
-abbrev pub IsJudged : {A : Type 0} → List Text → Result A Error → Type 0
-IsJudged words (Ok _) = MayFailBy words []
-IsJudged words (Err e) = (kind_of e ≡ OutOfMemory) ⊎ ((kinds : Kinds) × MayFailBy words kinds × IsAmong (kind_of e) kinds)
+abbrev pub IsJudged : {A : Type 0} → Text → List Text → Result A Error → Type 0
+IsJudged name words (Ok _) = MayFailBy name words []
+IsJudged name words (Err e) = (kind_of e ≡ OutOfMemory) ⊎ ((kinds : Kinds) × MayFailBy name words kinds × IsAmong (kind_of e) kinds)

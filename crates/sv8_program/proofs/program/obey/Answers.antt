@@ -2,11 +2,11 @@ use Rattle.std.proofs.Common.{◌≡◌, ◌∙◌, ◌⊎◌, inl, inr, List, [
 use Rattle.clap.specs.Words.{Kinds, IsAmong, Text, kind_of}
 use Rattle.clap.specs.declared.error.kind.ErrorKind.{ErrorKind}
 use Rattle.clap.specs.declared.error.kind.ErrorKind.TheVariants.{OutOfMemory}
-use Rattle.sparc8.specs.declared.end.End.{End}
-use Rattle.sparc8.specs.declared.end.End.TheVariants.{Memory}
-use Rattle.sparc8.specs.Words.{MayFailBy}
-use Rattle.sparc8.specs.Ends.{EndsBy, IsRefusalEnd, refusal_end}
-use Rattle.sparc8.proofs.program.obey.Goals as goal
+use Rattle.sv8_program.specs.declared.end.End.{End}
+use Rattle.sv8_program.specs.declared.end.End.TheVariants.{Memory}
+use Rattle.sv8_program.specs.Words.{MayFailBy}
+use Rattle.sv8_program.specs.Ends.{EndsBy, IsRefusalEnd, refusal_end}
+use Rattle.sv8_program.proofs.program.obey.Goals as goal
 
 among : (kinds : Kinds) (k : ErrorKind) → IsAmong k kinds → IsRefusalEnd kinds (refusal_end k)
 among [] k h = h

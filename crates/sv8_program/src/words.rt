@@ -2,8 +2,8 @@
 
 ghost use Rattle.std.specs.Prelude.{◌≡◌, ◌⊎◌, IfOk, IfErr, IsTrue, map, option_map};
 ghost use Rattle.clap.specs.Words.{app_of, kind_of};
-ghost use Rattle.sparc8.specs.Windows.{is_window_count};
-ghost use Rattle.sparc8.specs.Words.{Chooses, IsJudged, IsNotTaken, IsSparc8, windows_of};
+ghost use Rattle.sv8_program.specs.Windows.{is_window_count};
+ghost use Rattle.sv8_program.specs.Words.{Chooses, IsJudged, IsNotTaken, IsCommandLine, windows_of};
 
 mod chosen;
 
@@ -12,28 +12,22 @@ use clap::error::ErrorKind;
 use clap::{Arg, Command, Error};
 use std::alloc::{AllocError, Global};
 
-/// What the help tells behind the options: the commands of a script, and where the guide is.
-const COMMANDS: &str = "Commands of a script, one a line (N is a step):
-  edit A B COUNT      the COUNT lines that follow replace lines A to B of the source; B = A - 1 inserts before A
-  poke N ADDR VALUE   at step N the word at ADDR gets this value
-  unpoke N ADDR       clears what is poked at step N in the word at ADDR
-  pokeb N ADDR VALUE  at step N the byte at ADDR gets this value
-  unpokeb N ADDR      clears the poke of this byte at step N
-  input N BYTES       at step N these bytes come in at the console
-  uninput N           no bytes come in at step N
-  irq N LEVEL         at step N an interrupt of this level, 1 to 15, is requested
-  unirq N LEVEL       clears this request
-  list                shows the listing
-  regs N              shows the machine at step N
-  mem N ADDR COUNT    shows COUNT words of RAM at step N from ADDR on
-  out N               shows the bytes put out at the console below step N
-  quit                ends the run
-
-The guide to commands and answers is docs/COMMANDS.md, and to source lines docs/ASSEMBLER.md.";
+/// What a program is called, and what its help tells.
+#[derive(Clone, Copy)]
+pub struct Description {
+    pub name: &'static str,
+    /// What it is for, in a line.
+    pub about: &'static str,
+    /// What the help tells behind the options.
+    pub commands: &'static str,
+}
 
 /// The command line that the program takes, without the program's name in front.
-fn command_line<'a>(alloc: Global) -> Result<Command<'a>, AllocError>
-    ensures { IfOk result (λ c. IsSparc8 (app_of c)) }
+fn command_line<'a>(
+    alloc: Global,
+    description: Description,
+) -> Result<Command<'a>, AllocError>
+    ensures { IfOk result (λ c. IsCommandLine description.name.now (app_of c)) }
 {
     let windows = Arg::new(alloc, "windows")
         .long("windows")
@@ -44,9 +38,9 @@ fn command_line<'a>(alloc: Global) -> Result<Command<'a>, AllocError>
     let script = Arg::new(alloc, "SCRIPT").help(
         "The script of commands; standard input if there is none",
     );
-    let command = Command::new(alloc, "sparc8")
-        .about("A workbench for SPARC V8 programs: edits and queries at any step")
-        .after_help(COMMANDS)
+    let command = Command::new(alloc, description.name)
+        .about(description.about)
+        .after_help(description.commands)
         .no_binary_name(true)
         .arg(windows)?
         .arg(script)?;
@@ -58,15 +52,19 @@ fn command_line<'a>(alloc: Global) -> Result<Command<'a>, AllocError>
 /// # Errors
 ///
 /// The error of `clap`, which also tells that the help was asked for, or that memory could not be had.
-pub fn settings<'a>(alloc: Global, words: &'a [&'a str]) -> Result<Settings<'a>, Error>
+pub fn settings<'a>(
+    alloc: Global,
+    description: Description,
+    words: &'a [&'a str],
+) -> Result<Settings<'a>, Error>
     ensures chosen { IfOk result (λ s.
-        Chooses (map (λ w. w.now) words.entry.now) s.windows (option_map (λ t. t.now) s.script)) }
+        Chooses description.name.now (map (λ w. w.now) words.entry.now) s.windows (option_map (λ t. t.now) s.script)) }
     ensures windows { IfOk result (λ s. IsTrue (is_window_count s.windows)) }
     ensures refused { IfErr result (λ e.
-        (kind_of e ≡ ErrorKind.OutOfMemory) ⊎ IsNotTaken (map (λ w. w.now) words.entry.now)) }
-    ensures judged { IsJudged (map (λ w. w.now) words.entry.now) result }
+        (kind_of e ≡ ErrorKind.OutOfMemory) ⊎ IsNotTaken description.name.now (map (λ w. w.now) words.entry.now)) }
+    ensures judged { IsJudged description.name.now (map (λ w. w.now) words.entry.now) result }
 {
-    let command = command_line(alloc)?;
+    let command = command_line(alloc, description)?;
     let matches = match command.try_get_matches_from(words) {
         Ok(matches) => matches,
         Err(error) => return Err(error),
@@ -82,10 +80,10 @@ pub fn settings<'a>(alloc: Global, words: &'a [&'a str]) -> Result<Settings<'a>,
 /// # Errors
 ///
 /// Memory could not be had.
-pub fn not_text(alloc: Global) -> Result<Error, AllocError>
+pub fn not_text(alloc: Global, description: Description) -> Result<Error, AllocError>
     ensures { IfOk result (λ e. kind_of e ≡ ErrorKind.InvalidValue) }
 {
-    let mut command = command_line(alloc)?;
+    let mut command = command_line(alloc, description)?;
     command.error(
         ErrorKind::InvalidValue,
         "invalid UTF-8 was detected in one or more arguments",

@@ -1,8 +1,8 @@
 use Rattle.std.proofs.Common.{rules, ap, ap₂, sym, subst, codes, true, map, [], ◌∷◌, ◌≡◌, ◌∙◌}
 use Rattle.clap.specs.Words.{App, rule_of, with_rule}
 use Rattle.clap.specs.Simple.{app_of_fields}
-use Rattle.sparc8.specs.Words.{IsFiveCounts, windows_rule, script_rule}
-use Rattle.sparc8.proofs.words.command_line.Goals as goal
+use Rattle.sv8_program.specs.Words.{IsFiveCounts, windows_rule, script_rule}
+use Rattle.sv8_program.proofs.words.command_line.Goals as goal
 
 abbrev nameless : App → App
 nameless a = record a { top = record a.top { no_binary_name = true } }

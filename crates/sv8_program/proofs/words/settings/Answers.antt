@@ -5,8 +5,8 @@ use Rattle.clap.specs.declared.error.kind.ErrorKind.TheVariants.{OutOfMemory}
 use Rattle.clap.specs.declared.builder.value_parser.ValueParser.{ValueParser}
 use Rattle.clap.proofs.WalkLemmas.{first_value-rows}
 use Rattle.clap.proofs.OnLiterals.{clap_on_literals}
-use Rattle.sparc8.specs.Words.{IsFiveCounts, IsNotTaken, MayFailBy, command_line, windows_of}
-use Rattle.sparc8.proofs.words.settings.Goals as goal
+use Rattle.sv8_program.specs.Words.{IsFiveCounts, IsNotTaken, MayFailBy, command_line, windows_of}
+use Rattle.sv8_program.proofs.words.settings.Goals as goal
 
 is_plain : (counts : ValueParser) → is_simple (command_line counts) ≡ true
 is_plain counts = refl

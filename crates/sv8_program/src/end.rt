@@ -1,12 +1,12 @@
-//! How the program ends.
+//! How a program ends.
 
 ghost use Rattle.std.specs.Prelude.{◌≡◌, IsTrue};
-ghost use Rattle.sparc8.specs.Ends.{status_of, line_of, end_of, is_run_end, refusal_end};
+ghost use Rattle.sv8_program.specs.Ends.{status_of, end_of, is_run_end, refusal_end};
 
 use clap::error::ErrorKind;
-use sv8_shell::RunFault;
+use sv8_session::RunFault;
 
-/// How the program ends.
+/// How a program ends.
 #[derive(Debug, Drop, Clone, Copy, PartialEq, Eq)]
 pub enum End {
     /// The script ended, or `quit` was read.
@@ -51,18 +51,13 @@ pub fn refusal_end(kind: ErrorKind) -> End
     }
 }
 
-/// The exit status of an end, and the line that goes to standard error, empty if there is none.
-pub fn ending(end: End) -> (u8, &'static str)
-    ensures status { result.0 ≡ status_of end }
-    ensures line { result.1.now ≡ line_of end }
+/// The exit status of an end.
+pub fn status_of(end: End) -> u8
+    ensures { result ≡ status_of end }
 {
     match end {
-        End::Done | End::Help => (0, ""),
-        End::Usage => (2, ""),
-        End::ReadFault => (3, "sparc8: read fault"),
-        End::WriteFault => (3, "sparc8: write fault"),
-        End::TooMany => (3, "sparc8: too many commands"),
-        End::NoScript => (3, "sparc8: cannot open script"),
-        End::Memory => (3, "sparc8: out of memory"),
+        End::Done | End::Help => 0,
+        End::Usage => 2,
+        End::ReadFault | End::WriteFault | End::TooMany | End::NoScript | End::Memory => 3,
     }
 }

@@ -1,0 +1,138 @@
+//! A program's run: the words, the script, the answers.
+
+ghost use Rattle.std.specs.Prelude.{◌≡◌, ◌⊎◌, ◌≤◌, ℕ, List, Option, IsTrue, map};
+ghost use Rattle.clap.specs.Words.{Kinds, kind_of};
+ghost use Rattle.sv8_program.specs.declared.end.End.{End};
+ghost use Rattle.sv8_program.specs.Windows.{is_window_count};
+ghost use Rattle.sv8_program.specs.Words.{MayFailBy};
+ghost use Rattle.sv8_program.specs.Ends.{EndsBy, IntoSome, is_run_end, refusal_end};
+
+use crate::end::{End, refusal_end};
+use crate::words::{Description, not_text, settings};
+use std::alloc::Global;
+use std::env;
+use std::fs::File;
+use std::io::{self, BufWriter, Read, Write};
+
+/// A program that runs a script, as a name for what it does.
+pub trait Program {
+    // What a run over so many windows has done with its reader and its writer, by how it ends.
+    ghost Serves: { ℕ → End → Option (List ℕ) → Option (List ℕ) → Option (List ℕ) → Option (List ℕ) → Type 0 };
+
+    // What it is called.
+    ghost NAME: { List ℕ };
+
+    /// What it is called, and what its help tells.
+    fn description() -> Description
+        ensures { result.name.now ≡ NAME };
+
+    /// Runs a script over `NW` register windows.
+    fn serve<const NW: usize, R: Read, W: Write>(
+        alloc: Global,
+        reader: &mut R,
+        writer: &mut W,
+    ) -> End
+        requires some_windows { 2 ≤ NW }
+        requires few_windows { NW ≤ 32 }
+        ensures run { IsTrue (is_run_end result) }
+        ensures serves { Serves NW result (R.remaining reader.old) (R.remaining reader.new) (W.contents writer.old) (W.contents writer.new) };
+}
+
+/// Calls `serve` with the number of windows that was chosen.
+macro_rules! serve_with {
+    ($program:ident, $windows:expr, $alloc:expr, $reader:expr, $writer:expr, [$($count:literal)*]) => {
+        match $windows {
+            $($count => $program::serve::<$count, _, _>($alloc, $reader, $writer),)*
+            _ => $program::serve::<8, _, _>($alloc, $reader, $writer),
+        }
+    };
+}
+
+/// Runs a script over as many windows as were chosen.
+fn serve_chosen<P: Program, R: Read, W: Write>(
+    alloc: Global,
+    windows: u32,
+    reader: &mut R,
+    writer: &mut W,
+) -> End
+    requires { IsTrue (is_window_count windows) }
+    ensures run { IsTrue (is_run_end result) }
+    ensures serves { P.Serves windows result (R.remaining reader.old) (R.remaining reader.new)
+        (W.contents writer.old) (W.contents writer.new) }
+{
+    serve_with!(P, windows, alloc, reader, writer, [2 4 16 32])
+}
+
+/// Runs what a reader gives, and writes the answers to standard output.
+fn answer<P: Program, R: Read>(rt: &HostRuntime, windows: u32, reader: &mut R) -> End
+    requires { IsTrue (is_window_count windows) }
+    ensures run { IsTrue (is_run_end result) }
+    ensures serves { IntoSome (P.Serves windows result (R.remaining reader.old) (R.remaining reader.new))
+        ⊎ ((result ≡ End.Memory) × (R.remaining reader.new ≡ R.remaining reader.old)) }
+{
+    let alloc = rt.alloc();
+    let Ok(mut writer) = BufWriter::new(alloc, rt.stdout()) else {
+        return End::Memory;
+    };
+    serve_chosen::<P, R, _>(alloc, windows, reader, &mut writer)
+}
+
+/// Reads the words, then opens the script.
+pub fn obey<P: Program>(rt: &HostRuntime, words: &[&str]) -> End
+    ensures { (result ≡ End.Memory)
+        ⊎ ((kinds : Kinds) × MayFailBy P.NAME (map (λ w. w.now) words.now) kinds × EndsBy kinds result) }
+{
+    let chosen = match settings(rt.alloc(), P::description(), words) {
+        Ok(chosen) => chosen,
+        Err(error) => return refuse(rt, &error),
+    };
+    match chosen.script {
+        None => answer::<P, _>(rt, chosen.windows, &mut rt.stdin()),
+        Some(path) => match File::open(rt, path) {
+            Ok(mut file) => answer::<P, _>(rt, chosen.windows, &mut file),
+            Err(_) => End::NoScript,
+        },
+    }
+}
+
+/// Prints what `clap` says of the words.
+fn refuse(rt: &HostRuntime, error: &clap::Error) -> End
+    ensures { result ≡ refusal_end (kind_of error.now) }
+{
+    let end = refusal_end(error.kind());
+    if end != End::Memory {
+        // Where the text cannot be written, the status still tells.
+        let _ = error.print(rt);
+    }
+    end
+}
+
+/// Prints that a word is no text.
+pub fn refuse_bytes(rt: &HostRuntime, description: Description) -> End
+    ensures { (result ≡ End.Memory) ⊎ (result ≡ End.Usage) }
+{
+    match not_text(rt.alloc(), description) {
+        Ok(error) => refuse(rt, &error),
+        Err(_) => End::Memory,
+    }
+}
+
+/// The whole run.
+pub fn run_program<P: Program>(rt: &HostRuntime) -> End {
+    let all = match env::args(rt) {
+        Ok(all) => all,
+        Err(error) if error.kind() == io::ErrorKind::OutOfMemory => return End::Memory,
+        Err(_) => return refuse_bytes(rt, P::description()),
+    };
+    let Ok(owned) = all.skip(1).collect::<Vec<String>>(rt.alloc()) else {
+        return End::Memory;
+    };
+    let Ok(words) = owned
+        .iter()
+        .map(|word| word.as_str())
+        .collect::<Vec<&str>>(rt.alloc())
+    else {
+        return End::Memory;
+    };
+    obey::<P>(rt, &words)
+}
