@@ -111,14 +111,14 @@ fn runs_end_the_program(rt: HostRuntime) -> Result<(), Fail> {
     let alloc = rt.alloc();
     let mut written = Vec::new(alloc);
     let mut script = b"list\n".as_slice();
-    assert!(rt; Sparc8::serve::<8, _, _>(alloc, &mut script, &mut written) == End::Done);
+    assert!(rt; Sparc8::serve(alloc, 8, &mut script, &mut written) == End::Done);
     assert!(rt; written.as_slice() == b"ok\n".as_slice());
-    assert!(rt; Sparc8::serve::<8, _, _>(alloc, &mut Broken, &mut written) == End::ReadFault);
+    assert!(rt; Sparc8::serve(alloc, 8, &mut Broken, &mut written) == End::ReadFault);
     let mut script = b"list\n".as_slice();
-    assert!(rt; Sparc8::serve::<8, _, _>(alloc, &mut script, &mut Broken) == End::WriteFault);
+    assert!(rt; Sparc8::serve(alloc, 8, &mut script, &mut Broken) == End::WriteFault);
     let lines = vec![in alloc; b'\n'; 1_000_001]?;
     let mut script = lines.as_slice();
-    assert!(rt; Sparc8::serve::<8, _, _>(alloc, &mut script, &mut written) == End::TooMany);
+    assert!(rt; Sparc8::serve(alloc, 8, &mut script, &mut written) == End::TooMany);
     assert!(rt; written.as_slice() == b"ok\n".as_slice());
     Ok(())
 }

@@ -53,6 +53,20 @@ fn run_on<const NW: usize, R: Read, W: Write>(
     end_of(run(alloc, bench, reader, writer))
 }
 
+/// Runs a script over `NW` register windows.
+fn serve<const NW: usize, R: Read, W: Write>(alloc: Global, reader: &mut R, writer: &mut W) -> End
+    requires some_windows { 2 ≤ NW }
+    requires few_windows { NW ≤ 32 }
+    ensures run { IsTrue (is_run_end result) }
+    ensures serves { Serves (empty NW 256) result (R.remaining reader.old) (R.remaining reader.new)
+        (W.contents writer.old) (W.contents writer.new) }
+{
+    let Ok(mut bench) = Bench::<NW, PAGES, CHECKPOINT_STEPS>::new(alloc) else {
+        return End::Memory;
+    };
+    run_on(alloc, &mut bench, reader, writer)
+}
+
 impl Program for Sparc8 {
     ghost use Rattle.std.specs.Prelude.{codes};
     ghost use Rattle.sv8_bench.specs.Kept.{empty};
@@ -70,15 +84,19 @@ impl Program for Sparc8 {
         }
     }
 
-    fn serve<const NW: usize, R: Read, W: Write>(
+    fn serve<R: Read, W: Write>(
         alloc: Global,
+        windows: u32,
         reader: &mut R,
         writer: &mut W,
     ) -> End {
-        let Ok(mut bench) = Bench::<NW, PAGES, CHECKPOINT_STEPS>::new(alloc) else {
-            return End::Memory;
-        };
-        run_on(alloc, &mut bench, reader, writer)
+        match windows {
+            2 => serve::<2, _, _>(alloc, reader, writer),
+            4 => serve::<4, _, _>(alloc, reader, writer),
+            16 => serve::<16, _, _>(alloc, reader, writer),
+            32 => serve::<32, _, _>(alloc, reader, writer),
+            _ => serve::<8, _, _>(alloc, reader, writer),
+        }
     }
 }
 

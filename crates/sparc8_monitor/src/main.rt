@@ -7,7 +7,6 @@ pub use monitoring::{Sparc8Monitor, line_of};
 use std::process::ExitCode;
 use sv8_program::{run_program, status_of};
 
-
 fn main(rt: HostRuntime) -> ExitCode {
     let end = run_program::<Sparc8Monitor>(&rt);
     let line = line_of(end);

@@ -69,6 +69,24 @@ fn run_on<const NW: usize, R: Read, W: Write>(
     end_of(run(alloc, monitor, reader, writer))
 }
 
+/// Runs a script over `NW` register windows.
+fn serve<const NW: usize, R: Read, W: Write>(alloc: Global, reader: &mut R, writer: &mut W) -> End
+    requires some_windows { 2 ≤ NW }
+    requires few_windows { NW ≤ 32 }
+    ensures run { IsTrue (is_run_end result) }
+    ensures serves { Serves (new_pair NW 256) result (R.remaining reader.old) (R.remaining reader.new)
+        (W.contents writer.old) (W.contents writer.new) }
+{
+    let Ok(current) = Bench::<NW, PAGES, CHECKPOINT_STEPS>::new(alloc) else {
+        return End::Memory;
+    };
+    let Ok(before) = Bench::<NW, PAGES, CHECKPOINT_STEPS>::new(alloc) else {
+        return End::Memory;
+    };
+    let mut monitor = Monitor { current, before };
+    run_on(alloc, &mut monitor, reader, writer)
+}
+
 impl Program for Sparc8Monitor {
     ghost use Rattle.std.specs.Prelude.{codes};
     ghost use Rattle.sv8_monitor.specs.Session.{new_pair};
@@ -86,19 +104,19 @@ impl Program for Sparc8Monitor {
         }
     }
 
-    fn serve<const NW: usize, R: Read, W: Write>(
+    fn serve<R: Read, W: Write>(
         alloc: Global,
+        windows: u32,
         reader: &mut R,
         writer: &mut W,
     ) -> End {
-        let Ok(current) = Bench::<NW, PAGES, CHECKPOINT_STEPS>::new(alloc) else {
-            return End::Memory;
-        };
-        let Ok(before) = Bench::<NW, PAGES, CHECKPOINT_STEPS>::new(alloc) else {
-            return End::Memory;
-        };
-        let mut monitor = Monitor { current, before };
-        run_on(alloc, &mut monitor, reader, writer)
+        match windows {
+            2 => serve::<2, _, _>(alloc, reader, writer),
+            4 => serve::<4, _, _>(alloc, reader, writer),
+            16 => serve::<16, _, _>(alloc, reader, writer),
+            32 => serve::<32, _, _>(alloc, reader, writer),
+            _ => serve::<8, _, _>(alloc, reader, writer),
+        }
     }
 }
 

@@ -126,7 +126,7 @@ module _ (k : ℕ) (pos : 0 < k) (kept : Kept) where
 
   module _ (recording : Recording) (worked : ℕ) (run : IsRun k (record { kept = kept; recording = recording; worked = worked })) where
     -- a checkpoint is the state of its step
-    point_is : (i : ℕ) → i ≤ length recording.intervals → (trace_of kept.windows kept.pages k recording).point (k * i) ≡ machine_state kept (k * i)
+    pub point_is : (i : ℕ) → i ≤ length recording.intervals → (trace_of kept.windows kept.pages k recording).point (k * i) ≡ machine_state kept (k * i)
     point_is i h = run.trace.points i h ∙ state_is kept.windows kept.pages kept.source kept.timeline run.events (k * i)
 
     -- of the last one, and of that from which a query goes on

@@ -50,7 +50,7 @@ query_outcome (Where step address) k =
     unless_refused (step_refusal step) (told true (place_text (place_of (4096 * k.pages) (machine_state k step).mmu (machine_state k step).memory.ram address)))
 query_outcome (Lines first last) k = unless_refused (lines_refusal first last k) (told false (lines_told first last k))
 query_outcome Names k = told true (names_text (names k.source))
-query_outcome (Events first last) k = unless_refused (range_refusal first last) (told false (events_text k.timeline first last))
+query_outcome (Events first last) k = unless_refused (range_refusal first last) (told false (events_text k.timeline first (last + 1)))
 
 -- ---- both
 

@@ -8,11 +8,13 @@ ghost use Rattle.sv8_session.specs.Put.{Puts};
 ghost use Rattle.sv8_shell.specs.Put.{Replies};
 ghost use Rattle.sv8_shell.specs.Text.{ok_line};
 ghost use Rattle.sv8_monitor.specs.Answers.{steps_refusal, are_lines, lines_told, query_outcome};
+ghost use Rattle.sv8_monitor.specs.Events.{events_text};
 ghost use Rattle.sv8_monitor.specs.Search.{found_at, steps_told, are_inside};
 ghost use Rattle.sv8_monitor.specs.Texts.{steps_text, windows_text, place_text, names_text};
 ghost use Rattle.sv8_monitor.specs.declared.question.Query.TheVariants.{Steps, Windows, Where, Lines, Names, Events};
 
 use crate::conditions::Conditions;
+use crate::event_lines::put_events;
 use crate::found::Found;
 use crate::lines::{add_place, put_names};
 use crate::question::Query;
@@ -20,13 +22,14 @@ use crate::search::steps;
 use crate::step_lines::put_steps;
 use crate::window_lines::put_windows;
 use std::io::Write;
-use sv8_bench::{Bench, BenchFault, DefinedName};
+use sv8_bench::{Bench, BenchFault, DefinedName, LAST_STEP};
 use sv8_cpu::Place;
 use sv8_regs::Regs;
 use sv8_shell::listing::add_lines;
-use sv8_shell::put::{WriteFault, accept, refuse};
+use sv8_shell::put::{WriteFault, accept, done, refuse};
 use sv8_shell::refusal::refusal_of;
 use sv8_shell::text::Text;
+use sv8_time::Timeline;
 
 /// Answers a question of a workbench.
 pub fn answer_query<const NW: usize, const PAGES: usize, const K: u32, W: Write>(
@@ -188,6 +191,39 @@ fn tell_lines<const NW: usize, const PAGES: usize, const K: u32, W: Write>(
 {
     let mut text = Text::new();
     match add_lines(bench, writer, &mut text, first as usize - 1, last as usize) {
+        Ok(()) => accept(writer, &mut text),
+        Err(fault) => Err(fault),
+    }
+}
+
+fn answer_events<const NW: usize, const PAGES: usize, const K: u32, W: Write>(
+    bench: &Bench<NW, PAGES, K>,
+    writer: &mut W,
+    first: u32,
+    last: u32,
+) -> Result<(), WriteFault>
+    ensures { Replies result (W.contents writer.old) (W.contents writer.new) bench.now.kept (query_outcome (Events first last) bench.now.kept) bench.now.kept }
+{
+    if LAST_STEP < first || LAST_STEP < last {
+        return refuse(writer, refusal_of(BenchFault::StepTooLarge));
+    }
+    if last < first {
+        return done(writer);
+    }
+    tell_events(writer, bench.timeline(), first, last + 1)
+}
+
+fn tell_events<W: Write>(
+    writer: &mut W,
+    timeline: &Timeline,
+    from: u32,
+    to: u32,
+) -> Result<(), WriteFault>
+    requires { from ≤ to }
+    ensures { Puts result (W.contents writer.old) (W.contents writer.new) (events_text timeline.now from to ++ ok_line) }
+{
+    let mut text = Text::new();
+    match put_events(writer, &mut text, timeline, from, to) {
         Ok(()) => accept(writer, &mut text),
         Err(fault) => Err(fault),
     }

@@ -6,6 +6,7 @@ mod compare;
 mod conditions;
 mod difference;
 mod driver;
+mod event_lines;
 mod found;
 mod lines;
 mod monitor;

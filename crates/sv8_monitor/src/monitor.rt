@@ -107,7 +107,7 @@ fn answer_keep<const NW: usize, const PAGES: usize, const K: u32, W: Write>(
 ) -> Result<(), WriteFault>
     ensures { Replies language result (W.contents writer.old) (W.contents writer.new) (kept_of monitor.old) (ask Keep) (kept_of monitor.new) }
 {
-    match monitor.current.copy() {
+    match monitor.current.copy(monitor.current.alloc()) {
         Ok(copy) => {
             monitor.before = copy;
             done(writer)

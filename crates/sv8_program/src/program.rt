@@ -26,41 +26,16 @@ pub trait Program {
     fn description() -> Description
         ensures { result.name.now ≡ NAME };
 
-    /// Runs a script over `NW` register windows.
-    fn serve<const NW: usize, R: Read, W: Write>(
+    /// Runs a script over so many register windows.
+    fn serve<R: Read, W: Write>(
         alloc: Global,
+        windows: u32,
         reader: &mut R,
         writer: &mut W,
     ) -> End
-        requires some_windows { 2 ≤ NW }
-        requires few_windows { NW ≤ 32 }
+        requires { IsTrue (is_window_count windows) }
         ensures run { IsTrue (is_run_end result) }
-        ensures serves { Serves NW result (R.remaining reader.old) (R.remaining reader.new) (W.contents writer.old) (W.contents writer.new) };
-}
-
-/// Calls `serve` with the number of windows that was chosen.
-macro_rules! serve_with {
-    ($program:ident, $windows:expr, $alloc:expr, $reader:expr, $writer:expr, [$($count:literal)*]) => {
-        match $windows {
-            $($count => $program::serve::<$count, _, _>($alloc, $reader, $writer),)*
-            _ => $program::serve::<8, _, _>($alloc, $reader, $writer),
-        }
-    };
-}
-
-/// Runs a script over as many windows as were chosen.
-fn serve_chosen<P: Program, R: Read, W: Write>(
-    alloc: Global,
-    windows: u32,
-    reader: &mut R,
-    writer: &mut W,
-) -> End
-    requires { IsTrue (is_window_count windows) }
-    ensures run { IsTrue (is_run_end result) }
-    ensures serves { P.Serves windows result (R.remaining reader.old) (R.remaining reader.new)
-        (W.contents writer.old) (W.contents writer.new) }
-{
-    serve_with!(P, windows, alloc, reader, writer, [2 4 16 32])
+        ensures serves { Serves windows result (R.remaining reader.old) (R.remaining reader.new) (W.contents writer.old) (W.contents writer.new) };
 }
 
 /// Runs what a reader gives, and writes the answers to standard output.
@@ -74,7 +49,7 @@ fn answer<P: Program, R: Read>(rt: &HostRuntime, windows: u32, reader: &mut R) -
     let Ok(mut writer) = BufWriter::new(alloc, rt.stdout()) else {
         return End::Memory;
     };
-    serve_chosen::<P, R, _>(alloc, windows, reader, &mut writer)
+    P::serve(alloc, windows, reader, &mut writer)
 }
 
 /// Reads the words, then opens the script.
