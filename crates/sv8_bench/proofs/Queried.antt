@@ -129,13 +129,17 @@ module _ (k : ℕ) (pos : 0 < k) (kept : Kept) where
     pub point_is : (i : ℕ) → i ≤ length recording.intervals → (trace_of kept.windows kept.pages k recording).point (k * i) ≡ machine_state kept (k * i)
     point_is i h = run.trace.points i h ∙ state_is kept.windows kept.pages kept.source kept.timeline run.events (k * i)
 
-    -- of the last one, and of that from which a query goes on
+    -- so is the last one
+    pub last_is : last_point recording ≡ machine_state kept (recorded k recording)
+    last_is =
+        let count = length recording.intervals in
+        ap (λ i. get_or recording.points i blank) (sym (mul-div_cancel_left count pos)) ∙ point_is count (omega arith)
+
+    -- the bytes that it has taken have come in, and those of the checkpoint from which a query goes on
     pub last_fed : (last_point recording).memory.taken ≤ bytes_below (recorded k recording) kept.timeline.inputs
     last_fed =
-        let count = length recording.intervals in
-        let last : last_point recording ≡ machine_state kept (k * count) =
-        ap (λ i. get_or recording.points i blank) (sym (mul-div_cancel_left count pos)) ∙ point_is count (omega arith) in
-        subst (λ (s : State). s.memory.taken ≤ bytes_below (k * count) kept.timeline.inputs) (sym last) (fed kept.windows kept.pages kept.source kept.timeline (k * count))
+        subst (λ (s : State). s.memory.taken ≤ bytes_below (recorded k recording) kept.timeline.inputs) (sym last_is)
+        (fed kept.windows kept.pages kept.source kept.timeline (recorded k recording))
 
     pub restored_fed : (n from : ℕ) (s : State) → from ≡ restored k (length recording.intervals) n
         → s ≡ (trace_of kept.windows kept.pages k recording).point (restored k (length recording.intervals) n) → s.memory.taken ≤ bytes_below from kept.timeline.inputs

@@ -13,7 +13,7 @@ use Rattle.sv8_trace.specs.Recorder.{steps_on, counted_by, RaisedUpTo}
 use Rattle.sv8_trace.specs.Recording.{Recording, recorded, trace_of, IsExtended}
 use Rattle.sv8_bench.specs.Kept.{Kept}
 use Rattle.sv8_bench.specs.Shown.{machine_state}
-use Rattle.sv8_bench.specs.Workbench.{Workbench, checkpoints, IsRun}
+use Rattle.sv8_bench.specs.Workbench.{Workbench, checkpoints, run_of_kept, IsRun}
 use Rattle.sv8_bench.proofs.Queried.{full, run_further, extended_keeps}
 
 -- ---- states
@@ -74,3 +74,12 @@ drafted_further windows pages k count schedule old new pos few same longer start
   go false t =
       let whole : count + 1 ≡ k = let most : k ≤ count + 1 = ltb-false (count + 1) k t in omega (arith, most, few) in
       extended_keeps windows pages k schedule old new pos (longer whole) start valid h
+
+-- a run of which nothing more was recorded
+pub run_same : (k : ℕ) (kept : Kept) (old new : Recording) (before after : ℕ) → IsRun k (record { kept = kept; recording = old; worked = before }) → new ≡ old
+    → IsRun k (record { kept = kept; recording = new; worked = after })
+run_same k kept old new before after run e = record {
+  events = run.events;
+  sound = run.sound;
+  trace = subst (λ (r : Recording). IsTraceOf (machine kept.windows kept.pages) k (run_of_kept kept run.events) (trace_of kept.windows kept.pages k r)) (sym e) run.trace;
+}
