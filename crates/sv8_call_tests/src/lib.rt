@@ -9,6 +9,8 @@ mod frequent;
 #[cfg(test)]
 mod lines;
 #[cfg(test)]
+mod names;
+#[cfg(test)]
 mod output;
 #[cfg(test)]
 mod recorded;
@@ -16,6 +18,8 @@ mod recorded;
 mod sources;
 #[cfg(test)]
 mod statements;
+#[cfg(test)]
+mod timelines;
 #[cfg(test)]
 mod translation;
 #[cfg(test)]

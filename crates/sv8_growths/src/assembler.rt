@@ -1,9 +1,9 @@
-//! Reads lines, defines names, assembles, and edits a source: each call that is refused memory leaves all as it was, and each other one does
-//! what it should.
+//! Reads lines, defines names, assembles, edits a source, copies it and tells its names: each call that is refused
+//! memory leaves all as it was, and each other one does what it should.
 
 use std::alloc::{AllocError, Global};
 use sv8_asm::{Symbols, assemble, size_of};
-use sv8_source::{Source, SourceFault};
+use sv8_source::{DefinedName, Source, SourceFault};
 use sv8_syntax::{LineFault, Stmt, parse_line};
 
 /// Lines, and what each places as line 3 at location 16, where `x` is 8 and the local label 1 stands in line 2 at 4 and in line 5 at 32.
@@ -159,6 +159,42 @@ fn is_planned(alloc: Global, source: &mut Source, lines: &[Vec<u8>]) -> bool {
         }
 }
 
+/// Whether a copy has the same image, at the second try where memory was refused at the first.
+fn is_copied(alloc: Global, source: &Source, due: [u32; 5]) -> bool {
+    let copied = match source.copy(alloc) {
+        Ok(copy) => has_image(alloc, &copy, due),
+        Err(_) => match source.copy(alloc) {
+            Ok(copy) => has_image(alloc, &copy, due),
+            Err(_) => false,
+        },
+    };
+    copied && has_image(alloc, source, due)
+}
+
+/// Whether names are `start` at 0 and `end`.
+fn are_due(names: &[DefinedName<'_>], end: u32) -> bool {
+    match names {
+        [first, second] => {
+            first.text == b"start".as_slice()
+                && first.value == 0
+                && second.text == b"end".as_slice()
+                && second.value == end
+        }
+        _ => false,
+    }
+}
+
+/// Whether the names are told, at the second try where memory was refused at the first.
+fn tells_names(alloc: Global, source: &Source, end: u32) -> bool {
+    match source.names(alloc) {
+        Ok(names) => are_due(&names, end),
+        Err(_) => match source.names(alloc) {
+            Ok(names) => are_due(&names, end),
+            Err(_) => false,
+        },
+    }
+}
+
 pub fn keeps(alloc: Global) -> Result<bool, AllocError> {
     let text = lines(alloc, &TEXT)?;
     let put_in = lines(alloc, &PUT_IN)?;
@@ -171,6 +207,8 @@ pub fn keeps(alloc: Global) -> Result<bool, AllocError> {
             && is_replaced(alloc, &mut source, (1, 0), &text, [0; 5], BEFORE)
             && is_replaced(alloc, &mut source, (2, 2), &put_in, BEFORE, AFTER)
             && is_replaced(alloc, &mut source, (2, 3), &back, AFTER, BEFORE)
-            && is_planned(alloc, &mut source, &put_in),
+            && is_planned(alloc, &mut source, &put_in)
+            && is_copied(alloc, &source, AFTER)
+            && tells_names(alloc, &source, 12),
     )
 }

@@ -1,4 +1,5 @@
-//! Sets events in a timeline: each call that is refused memory leaves the timeline as it was, and each other one changes it.
+//! Sets events in a timeline, and copies it: each call that is refused memory leaves the timeline as it was, and each
+//! other one does its work.
 
 use std::alloc::{AllocError, Global};
 use sv8_time::{TimeFault, Timeline};
@@ -44,6 +45,19 @@ fn is_kept(answer: Result<(), TimeFault>, before: Seen, after: Seen) -> bool {
     }
 }
 
+/// Whether a copy has the same events, at the second try where memory was refused at the first.
+fn is_copied(alloc: Global, timeline: &Timeline) -> bool {
+    let before = look_at(timeline);
+    let copied = match timeline.copy(alloc) {
+        Ok(copy) => before == look_at(&copy),
+        Err(_) => match timeline.copy(alloc) {
+            Ok(copy) => before == look_at(&copy),
+            Err(_) => false,
+        },
+    };
+    copied && before == look_at(timeline)
+}
+
 pub fn keeps(alloc: Global) -> Result<bool, AllocError> {
     let mut timeline = Timeline::new(alloc, 4_096);
     let mut kept = true;
@@ -69,5 +83,5 @@ pub fn keeps(alloc: Global) -> Result<bool, AllocError> {
         );
         kept = kept && is_kept(answer, before, look_at(&timeline));
     }
-    Ok(kept)
+    Ok(kept && is_copied(alloc, &timeline))
 }

@@ -56,11 +56,11 @@ define_is name value old new h = go (defined old.named name) refl (define name v
 abbrev IsName : List ℕ → ℤ → List ℕ → ℤ → Type 0
 IsName name value q x = (q ≡ name) × (x ≡ value)
 
-defined_keeps : (name : List ℕ) (value : ℤ) (old new : Names) → Defined name value old new → (q : List ℕ) (x : ℤ) → defined old.named q ≡ Some x → defined new.named q ≡ Some x
+pub defined_keeps : (name : List ℕ) (value : ℤ) (old new : Names) → Defined name value old new → (q : List ℕ) (x : ℤ) → defined old.named q ≡ Some x → defined new.named q ≡ Some x
 defined_keeps name value old new d q x h =
     ap (λ m. defined m.named q) d.made ∙ defined_append old.named ((name, value) ∷ []) q ∙ ap (λ o. option_or o (defined ((name, value) ∷ []) q)) h
 
-defined_there : (name : List ℕ) (value : ℤ) (old new : Names) → Defined name value old new → defined new.named name ≡ Some value
+pub defined_there : (name : List ℕ) (value : ℤ) (old new : Names) → Defined name value old new → defined new.named name ≡ Some value
 defined_there name value old new d =
     ap (λ m. defined m.named name) d.made ∙ defined_append old.named ((name, value) ∷ []) name ∙ ap (λ o. option_or o (defined ((name, value) ∷ []) name)) d.absent
     ∙ ap (λ b. cond b (Some value) None) ((bytes_eq-Decides name name).1 refl)
@@ -128,7 +128,7 @@ number_there : (name : List ℕ) (value : Expr) (o : Option ℤ) (old new : Name
 number_there name value None old new p h = absurd (cc)
 number_there name value (Some v) old new p h = (v, p, defined_there name v old new (define_is name v old new h))
 
-equ_there : (t : Option Statement) (old new : Names) (name : List ℕ) (value : Expr) → define_equ t old ≡ Ok new → t ≡ Some (statement.Equ name value) → Stands new name value
+pub equ_there : (t : Option Statement) (old new : Names) (name : List ℕ) (value : Expr) → define_equ t old ≡ Ok new → t ≡ Some (statement.Equ name value) → Stands new name value
 equ_there t old new name value h e = number_there name value (plain value) old new refl (ap (λ x. define_equ x old) (sym e) ∙ h)
 
 -- ---- all lines

@@ -145,6 +145,23 @@ impl Assembled {
         }
     }
 
+    /// The same once more: other handles of the same lines, names and bytes.
+    pub fn copy(&self, alloc: Global) -> Result<Assembled, AllocError>
+        ensures { IfOk result (λ a. a ≡ self.now) }
+    {
+        let mut code = Vec::with_capacity(alloc, self.code.len())?;
+        share_code(&mut code, &self.code)?;
+        let symbols = share_table(&self.symbols)?;
+        let mut places = Vec::with_capacity(alloc, self.places.len())?;
+        share_places(&mut places, &self.places)?;
+        Ok(Assembled {
+            places,
+            symbols,
+            at: self.at,
+            code,
+        })
+    }
+
     /// The same lines up to `front` and from `back` on, both counted from 0, and one line between them; `at` is the
     /// location behind all. None for want of memory.
     pub fn with_line(

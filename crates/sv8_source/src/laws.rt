@@ -1,8 +1,10 @@
 //! What is true of every source, as contracts of functions that do nothing, and some sources worked out.
 
-ghost use Rattle.std.specs.Prelude.{◌≡◌, Some, codes, map, [], ◌∷◌};
+ghost use Rattle.std.specs.Prelude.{◌≡◌, Some, codes, map, [], ◌∷◌, pos, negsuc};
 ghost use Rattle.sv8_source.specs.declared.fault.SourceFault.TheVariants.{Syntax, UnknownName, DuplicateLabel, OutOfRange, BadAlignment, OrgBackwards, ImageTooLarge};
 ghost use Rattle.sv8_source.specs.Listing.{listing};
+ghost use Rattle.sv8_source.specs.Names.{names, label_named, number_named};
+ghost use Rattle.sv8_source.specs.NameLaws.{NamesAreTold};
 ghost use Rattle.sv8_source.specs.Text.{fault};
 ghost use Rattle.sv8_source.specs.Laws.{TextsAreLines, LinesRise, LowestLineIsNamed, LeastFaultIsNamed};
 ghost use Rattle.sv8_source.specs.LayoutLaws.{LocationsFollow, NamesAreDefined, NearestLabelsCount, NothingBeyond};
@@ -40,6 +42,12 @@ pub fn names_are_defined()
     ensures { NamesAreDefined }
 {}
 
+/// The names of a source are its labels, each with the location of its line, and the names of `.equ`, each with its
+/// number modulo 2^32, and no others. Each one comes before all behind it.
+pub fn names_are_told()
+    ensures { NamesAreTold }
+{}
+
 /// A reference to a local label stands for the nearest line that has its digit: `f` for the first one behind the line of the reference,
 /// `b` for the last one up to and with that line.
 pub fn nearest_labels_count()
@@ -49,6 +57,13 @@ pub fn nearest_labels_count()
 /// No line of a source places a byte at the limit or above it.
 pub fn nothing_beyond()
     ensures { NothingBeyond }
+{}
+
+/// The names of sources, in their order: by value without sign, and then by their bytes, whichever kind.
+#[tactic(auto, unfolding(crate::proofs::OnLiterals::source_on_literals, crate::specs::Names::names))]
+pub fn worked_names()
+    ensures mixed { names (record { limit = 0x100000; lines = codes "nop" ∷ codes "z: .equ a, 4" ∷ codes ".equ n, -1" ∷ codes "1: nop" ∷ codes "m: nop" ∷ [] }) ≡ number_named (codes "a") (pos 4) ∷ label_named (codes "z") 4 ∷ label_named (codes "m") 8 ∷ number_named (codes "n") (negsuc 0) ∷ [] }
+    ensures begins { names (record { limit = 0x100000; lines = codes "ab: nop" ∷ codes ".equ a, 0" ∷ codes ".equ B, 0" ∷ [] }) ≡ number_named (codes "B") (pos 0) ∷ number_named (codes "a") (pos 0) ∷ label_named (codes "ab") 0 ∷ [] }
 {}
 
 /// Sources that are refused, with the line at fault.

@@ -1,9 +1,10 @@
 //! A source: its lines, its edits, its listing and its image.
 
-ghost use Rattle.std.specs.Prelude.{◌≡◌, ◌+◌, ◌≤◌, ◌⊎◌, [], length, ◌-◌, None, Some, IfOk, IfErr, OnErr, OnOk, MatchResult, option_map, nat_lt, true};
+ghost use Rattle.std.specs.Prelude.{◌≡◌, ◌+◌, ◌≤◌, ◌⊎◌, [], length, map, ◌-◌, None, Some, IfOk, IfErr, OnErr, OnOk, MatchResult, option_map, nat_lt, true};
 ghost use Rattle.sv8_source.specs.Text.{texts, replaced, is_range, edit_fault, fault};
 ghost use Rattle.sv8_source.specs.Listing.{listing, numbered};
-ghost use Rattle.sv8_source.specs.View.{shown_of};
+ghost use Rattle.sv8_source.specs.Names.{names};
+ghost use Rattle.sv8_source.specs.View.{shown_of, named_of};
 ghost use Rattle.sv8_source.specs.Image.{image_word, image_bytes, changes};
 
 use crate::assembled::Assembled;
@@ -11,6 +12,7 @@ use crate::changes::changes_between;
 use crate::edited::edit;
 use crate::fault::SourceFault;
 use crate::image::Change;
+use crate::names::{DefinedName, names_in_order};
 use std::alloc::{AllocError, Global};
 use std::marker::Model;
 
@@ -109,6 +111,36 @@ impl Source {
             limit,
             parts: Assembled::empty(alloc),
         }
+    }
+
+    /// The same source once more. It shares lines, names and bytes with this one, which no edit of either changes in
+    /// the other.
+    ///
+    /// # Errors
+    ///
+    /// `AllocError` where memory for the lists of lines and bytes cannot be had.
+    pub fn copy(&self, alloc: Global) -> Result<Source, AllocError>
+        ensures { IfOk result (λ s. s ≡ self.now) }
+    {
+        let parts = self.parts.copy(alloc)?;
+        Ok(Source {
+            limit: self.limit,
+            parts,
+        })
+    }
+
+    /// The names that the source defines, each with what it stands for: rising by value, without sign, and those of one
+    /// value by their bytes, a name before each other one that it begins. Local labels are no names.
+    ///
+    /// # Errors
+    ///
+    /// `AllocError` where memory for the list cannot be had.
+    #[tactic(auto, unfolding(crate::specs::Names::names))]
+    pub fn names(&self, alloc: Global) -> Result<Vec<DefinedName<'_>>, AllocError>
+        ensures { IfOk result (λ v. map named_of v.items ≡ names self.now) }
+    {
+        let names = names_in_order(alloc, self.parts.places())?;
+        Ok(names)
     }
 
     /// The plan of an edit of lines that are there, which leads to no more lines than a source may have.

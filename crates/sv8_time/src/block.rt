@@ -1,6 +1,6 @@
 //! The input bytes of one stretch of steps.
 
-ghost use Rattle.std.specs.Prelude.{◌≡◌, ℕ, ◌+◌, ◌≤◌, ◌<◌, List, [], ◌∷◌, ◌++◌, take, length, MatchResult, OnOk, OnErr, nat_lt, true, false, slice_get, slice_set, vec_len, if◌then◌else◌, option_map, Some};
+ghost use Rattle.std.specs.Prelude.{◌≡◌, ℕ, ◌+◌, ◌≤◌, ◌<◌, List, [], ◌∷◌, ◌++◌, take, length, MatchResult, IfOk, OnOk, OnErr, nat_lt, true, false, slice_get, slice_set, vec_len, if◌then◌else◌, option_map, Some};
 ghost use Rattle.std.specs.List.{prefix_len, insert, remove};
 ghost use Rattle.sv8_time.specs.Order.{Stands, Misses, passes_at};
 ghost use Rattle.sv8_time.specs.Schedule.{input_of, input_before, is_input_at, has_input, put_input, cut_input, bytes_of_step, input_bytes, bytes_below, byte_count};
@@ -35,6 +35,30 @@ impl Model for Block {
     ghost view = { λ i. givens i.entries.items };
 
     ghost invariant = { λ i. Kept (givens i.entries.items) i.starts.items i.total };
+}
+
+impl Entry {
+    /// The same bytes at the same step once more.
+    fn copy(&self, alloc: Global) -> Result<Entry, AllocError>
+        ensures { IfOk result (λ e. given e ≡ given self.now) }
+    {
+        let bytes = Vec::from_slice(alloc, &self.bytes)?;
+        Ok(Entry {
+            step: self.step,
+            bytes,
+        })
+    }
+}
+
+/// Copies of entries.
+fn copies_of(alloc: Global, entries: &[Entry]) -> Result<Vec<Entry>, AllocError>
+    ensures { IfOk result (λ v. givens v.items ≡ givens entries.now) }
+{
+    let mut copies = Vec::with_capacity(alloc, entries.len())?;
+    for entry in entries {
+        copies.push(entry.copy(alloc)?)?;
+    }
+    Ok(copies)
 }
 
 impl Holder for Entry {
@@ -108,6 +132,19 @@ impl Block {
             starts: Vec::new(alloc),
             total: 0,
         }
+    }
+
+    /// The same inputs once more.
+    pub(crate) fn copy(&self, alloc: Global) -> Result<Block, AllocError>
+        ensures { IfOk result (λ b. b ≡ self.now) }
+    {
+        let entries = copies_of(alloc, &self.entries)?;
+        let starts = Vec::from_slice(alloc, &self.starts)?;
+        Ok(Block {
+            entries,
+            starts,
+            total: self.total,
+        })
     }
 
     /// The number of all bytes.

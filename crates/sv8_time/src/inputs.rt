@@ -1,6 +1,6 @@
 //! The input bytes of a timeline.
 
-ghost use Rattle.std.specs.Prelude.{◌≡◌, ℕ, ◌+◌, ◌/◌, ◌≤◌, ◌<◌, [], ◌∷◌, ◌++◌, length, OnOk, OnErr, true, false, slice_get, slice_index_or, slice_set, if◌then◌else◌};
+ghost use Rattle.std.specs.Prelude.{◌≡◌, ℕ, ◌+◌, ◌/◌, ◌≤◌, ◌<◌, [], ◌∷◌, ◌++◌, length, IfOk, OnOk, OnErr, true, false, slice_get, slice_index_or, slice_set, if◌then◌else◌};
 ghost use Rattle.sv8_time.specs.Schedule.{input_of, has_input, put_input, cut_input, bytes_of_step, input_bytes, bytes_below};
 ghost use Rattle.sv8_time.specs.Inputs.{joined, Spread};
 
@@ -89,6 +89,17 @@ fn grow(
     Ok(())
 }
 
+/// Copies of blocks.
+fn copies_of(alloc: Global, blocks: &[Block]) -> Result<Vec<Block>, AllocError>
+    ensures { IfOk result (λ v. v.items ≡ blocks.now) }
+{
+    let mut copies = Vec::with_capacity(alloc, blocks.len())?;
+    for block in blocks {
+        copies.push(block.copy(alloc)?)?;
+    }
+    Ok(copies)
+}
+
 /// Puts the bytes of a step into a block.
 fn put_in(
     blocks: &mut Vec<Block>,
@@ -128,6 +139,20 @@ impl Inputs {
             total: 0,
             count: 0,
         }
+    }
+
+    /// The same inputs once more.
+    pub(crate) fn copy(&self, alloc: Global) -> Result<Inputs, AllocError>
+        ensures { IfOk result (λ i. i ≡ self.now) }
+    {
+        let blocks = copies_of(alloc, &self.blocks)?;
+        let starts = Vec::from_slice(alloc, &self.starts)?;
+        Ok(Inputs {
+            blocks,
+            starts,
+            total: self.total,
+            count: self.count,
+        })
     }
 
     pub(crate) fn count(&self) -> usize

@@ -1,6 +1,6 @@
 //! The steps that may have events.
 
-ghost use Rattle.std.specs.Prelude.{◌≡◌, ℕ, ◌≤◌, ◌<◌, [], length, OnOk, OnErr, true};
+ghost use Rattle.std.specs.Prelude.{◌≡◌, ℕ, ◌≤◌, ◌<◌, [], length, IfOk, OnOk, OnErr, true};
 ghost use Rattle.sv8_time.specs.Marks.{is_marked, Covers};
 
 use std::alloc::{AllocError, Global};
@@ -27,6 +27,14 @@ impl Marks {
         Marks {
             flags: Vec::new(alloc),
         }
+    }
+
+    /// The same marks once more.
+    pub(crate) fn copy(&self, alloc: Global) -> Result<Marks, AllocError>
+        ensures { IfOk result (λ m. m ≡ self.now) }
+    {
+        let flags = Vec::from_slice(alloc, &self.flags)?;
+        Ok(Marks { flags })
     }
 
     /// Whether a step is marked.

@@ -1,6 +1,6 @@
 //! Elements of one kind in the order of their places.
 
-ghost use Rattle.std.specs.Prelude.{◌≡◌, ℕ, ◌+◌, ◌≤◌, [], length, MatchResult, OnOk, OnErr, if◌then◌else◌, not, nat_lt, nat_le, true, slice_range};
+ghost use Rattle.std.specs.Prelude.{◌≡◌, ℕ, ◌+◌, ◌≤◌, [], length, MatchResult, IfOk, OnOk, OnErr, if◌then◌else◌, not, nat_lt, nat_le, true, slice_range};
 ghost use Rattle.std.specs.List.{prefix_len, list_any, filter};
 ghost use Rattle.std.specs.Option.{option_to_list};
 ghost use Rattle.sv8_time.specs.Order.{Rising, Stands, Misses, passes_at, place_before, comes_before, is_at, of_major, of_major_behind, behind_major, placed, cleared_at};
@@ -48,6 +48,14 @@ impl<E: Keyed> Ordered<E> {
         Ordered {
             entries: Vec::new(alloc),
         }
+    }
+
+    /// The same elements once more.
+    pub(crate) fn copy(&self, alloc: Global) -> Result<Self, AllocError>
+        ensures { IfOk result (λ o. o ≡ self.now) }
+    {
+        let entries = Vec::from_slice(alloc, &self.entries)?;
+        Ok(Ordered { entries })
     }
 
     pub(crate) fn count(&self) -> usize

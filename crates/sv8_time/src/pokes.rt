@@ -1,6 +1,6 @@
 //! The poked bytes of a timeline.
 
-ghost use Rattle.std.specs.Prelude.{◌≡◌, ℕ, ◌+◌, ◌*◌, ◌/◌, ◌%◌, ◌^◌, [], ◌∷◌, length, if◌then◌else◌, true, OnOk, OnErr, None, Some, is_some, List, map, find, option_map, ◌<◌, ◌≤◌};
+ghost use Rattle.std.specs.Prelude.{◌≡◌, ℕ, ◌+◌, ◌*◌, ◌/◌, ◌%◌, ◌^◌, [], ◌∷◌, length, if◌then◌else◌, true, IfOk, OnOk, OnErr, None, Some, is_some, List, map, find, option_map, ◌<◌, ◌≤◌};
 ghost use Rattle.sv8_time.specs.Order.{Each, Rising, passes_at};
 ghost use Rattle.sv8_time.specs.Schedule.{poke_of, has_poke, poked_at, put_poke, cut_poke, pokes_of_step, word_of, has_word, word_count, IsNextPoke};
 ghost use Rattle.sv8_time.specs.Words.{is_poked, poked_bytes, bytes_of_words, word_before, with_bytes};
@@ -92,6 +92,15 @@ impl Pokes {
             words: Ordered::new(alloc),
             by_address: Ordered::new(alloc),
         }
+    }
+
+    /// The same poked bytes once more.
+    pub(crate) fn copy(&self, alloc: Global) -> Result<Pokes, AllocError>
+        ensures { IfOk result (λ p. p ≡ self.now) }
+    {
+        let words = self.words.copy(alloc)?;
+        let by_address = self.by_address.copy(alloc)?;
+        Ok(Pokes { words, by_address })
     }
 
     /// The number of steps and words with poked bytes.

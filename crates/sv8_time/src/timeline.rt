@@ -1,6 +1,6 @@
 //! The timeline.
 
-ghost use Rattle.std.specs.Prelude.{◌≡◌, ◌<◌, ◌≤◌, [], length, None, Some, OnOk, OnErr, IfErr, IfSome, nat_le, slice_get};
+ghost use Rattle.std.specs.Prelude.{◌≡◌, ◌<◌, ◌≤◌, [], length, None, Some, OnOk, OnErr, IfOk, IfErr, IfSome, nat_le, slice_get};
 ghost use Rattle.sv8_time.specs.Schedule.{Schedule, with_poke, without_poke, with_poke_byte, without_poke_byte, with_input, without_input, with_request, without_request, set_poke_fault, clear_poke_fault, set_poke_byte_fault, clear_poke_byte_fault, set_input_fault, clear_input_fault, set_request_fault, clear_request_fault, pokes_of_step, bytes_of_step, requests_of_step, poke_after, request_after, bytes_below, input_bytes, has_poke, poked_at, has_word, has_input, has_request, event_count, request_before, input_before, IsRefused, IsNextPoke, IsNextRequest, IsRequestPlace, IsTimeline};
 ghost use Rattle.sv8_time.specs.Words.{bytes_of_words, word_before, IsWordIn};
 ghost use Rattle.sv8_time.specs.Order.{Each, Rising};
@@ -72,6 +72,23 @@ impl Timeline {
             inputs: Inputs::new(alloc),
             requests: Requests::new(alloc),
         }
+    }
+
+    /// The same timeline once more, with memory of its own: an edit of one does not change the other.
+    ///
+    /// # Errors
+    ///
+    /// `AllocError` where memory for it cannot be had.
+    pub fn copy(&self, alloc: Global) -> Result<Timeline, AllocError>
+        ensures { IfOk result (λ t. t ≡ self.now) }
+    {
+        Ok(Timeline {
+            limit: self.limit,
+            marks: self.marks.copy(alloc)?,
+            pokes: self.pokes.copy(alloc)?,
+            inputs: self.inputs.copy(alloc)?,
+            requests: self.requests.copy(alloc)?,
+        })
     }
 
     /// The size of RAM in bytes. `timeline` says what every timeline is.
