@@ -1,6 +1,6 @@
 //! Places for columns, one for each page or level, most of which are empty.
 
-ghost use Rattle.std.specs.Prelude.{◌≡◌, ℕ, length, map, IfOk};
+ghost use Rattle.std.specs.Prelude.{◌≡◌, length, map, IfOk};
 ghost use Rattle.sv8_trace.specs.Overlaid.{cut_column, put_over, ArePut};
 
 use crate::column::{LevelColumn, PageColumn};

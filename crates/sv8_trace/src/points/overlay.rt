@@ -1,6 +1,6 @@
 //! What is seen of a machine once columns of changed pages and levels are in their places.
 
-ghost use Rattle.std.specs.Prelude.{◌≡◌, ◌+◌, ◌<◌, ◌≤◌, ◌/◌, ◌%◌, ◌∷◌, [], length, slice_index_or, false, Some, IfOk, OnOk};
+ghost use Rattle.std.specs.Prelude.{◌≡◌, ◌+◌, ◌<◌, ◌≤◌, ◌/◌, ◌∷◌, [], length, slice_index_or, false, Some, IfOk, OnOk};
 ghost use Rattle.sv8_phys.specs.Memory.{ram_size, page_of};
 ghost use Rattle.sv8_trace.specs.Overlaid.{live, byte_over, page_over, level_over, pages_from, levels_from};
 

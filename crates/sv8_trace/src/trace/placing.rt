@@ -1,6 +1,6 @@
 //! What was prepared is put in its place, which takes no memory.
 
-ghost use Rattle.std.specs.Prelude.{◌≡◌, ℕ, ◌+◌, ◌*◌, ◌<◌, ◌≤◌, ◌/◌, ◌%◌, [], length, slice_index_or, slice_set, false, None, MatchOption, ⊤, OnOk, OnErr};
+ghost use Rattle.std.specs.Prelude.{◌≡◌, ℕ, ◌+◌, ◌<◌, ◌≤◌, ◌/◌, ◌%◌, [], length, slice_index_or, None, OnOk, OnErr};
 ghost use Rattle.std.specs.List.{All};
 ghost use Rattle.sv8_history.specs.Trace.{Agrees};
 ghost use Rattle.sv8_history.specs.Patches.{cut, patch_all};

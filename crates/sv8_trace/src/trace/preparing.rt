@@ -1,10 +1,10 @@
 //! What patches make of a trace, built in full before anything changes.
 
-ghost use Rattle.std.specs.Prelude.{◌≡◌, ℕ, ◌+◌, ◌*◌, ◌<◌, ◌≤◌, ◌/◌, ◌%◌, ◌==◌, ◌&&◌, [], cond, not, leb, ltb, false, true, length, take, map, replicate, slice_index_or, slice_set, option_map, Option, Some, None, IfOk, OnOk, OnErr, IfSome};
+ghost use Rattle.std.specs.Prelude.{◌≡◌, ℕ, ◌+◌, ◌*◌, ◌<◌, ◌≤◌, ◌/◌, ◌%◌, ◌==◌, ◌&&◌, [], cond, not, leb, ltb, true, length, slice_index_or, slice_set, option_map, Option, Some, None, IfOk, OnOk, OnErr, IfSome};
 ghost use Rattle.std.specs.List.{All};
 ghost use Rattle.sv8_model.specs.Cells as model;
 ghost use Rattle.sv8_model.specs.Cells.{ram_byte, byte, pending_level, held};
-ghost use Rattle.sv8_phys.specs.Memory.{ram_size, page_of};
+ghost use Rattle.sv8_phys.specs.Memory.{ram_size};
 ghost use Rattle.sv8_history.specs.Trace.{Trace};
 ghost use Rattle.sv8_history.specs.Patches as history;
 ghost use Rattle.sv8_history.specs.Patches.{set_poke, spread, uncover, kept_by_poke};
@@ -17,17 +17,15 @@ ghost use Rattle.sv8_trace.specs.Prepared.{list_at, placed, prepared_trace, IsPr
 ghost use Rattle.sv8_trace.specs.Patching.{IsFirstWrite, KeptPut, PointsSet, RaisedAt};
 
 use crate::cell::{Cell, Content, level_numbered};
-use crate::column::{LevelColumn, empty_places};
+use crate::column::empty_places;
 use crate::kept::KeptList;
 use crate::marks::PAGE_SIZE;
 use crate::notes::Sought;
 use crate::patch::{Cause, Patch};
 use crate::points::LEVELS;
 use crate::prepared::{Prepared, Staged};
-use crate::runs::PageRuns;
 use crate::trace::{NO_END, Trace};
 use std::alloc::{AllocError, Global};
-use sv8_model::Level;
 
 /// How far a change reaches: the step of its cause, the step of the next event of its cell, and the first step from its cause on that
 /// writes the cell (`NO_END` where none does).
