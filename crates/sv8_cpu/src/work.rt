@@ -5,7 +5,7 @@ ghost use Rattle.sv8_cpu.specs.Work.{counted};
 
 use std::marker::Model;
 
-/// How many steps were made with it. It cannot be copied, so no step is counted in a copy that is then lost.
+/// How many steps were made with it. It is moved and not copied as a number is, so no step is counted in a copy that is then lost.
 #[derive(Drop)]
 pub struct Work {
     done: u64,
@@ -32,6 +32,13 @@ impl Work {
         ensures { result ≡ self.now }
     {
         self.done
+    }
+
+    /// The count once more, for whoever counts the same steps so far and goes on alone.
+    pub fn copy(&self) -> Self
+        ensures { result ≡ self.now }
+    {
+        Work { done: self.done }
     }
 
     /// One step more.

@@ -1,10 +1,10 @@
 -- What was prepared is put in its place.
-use Rattle.std.proofs.Common.{◌≡◌, ◌≢◌, ℕ, add-one, ◌+◌, ◌*◌, ◌/◌, ◌%◌, ◌<◌, ◌≤◌, List, [], ◌∷◌, ◌++◌, length, take, get_or, set, Bool, true, false, cond, ltb, Option, Some, None, sym, ◌∙◌, ap, arith, inl, inr, ◌⊎◌, lt-ltb, le-ltb, length-set, length-take-le, get_or-set_same, get_or-set_other, mul_comm, div-lt_iff_lt-mul}
+use Rattle.std.proofs.Common.{◌≡◌, ◌≢◌, ℕ, suc, ◌+◌, ◌*◌, ◌/◌, ◌%◌, ◌<◌, ◌≤◌, List, [], ◌∷◌, ◌++◌, length, take, get_or, set, Bool, true, cond, ltb, Option, Some, None, MatchOption, sym, ◌∙◌, ap, arith, inl, inr, ◌⊎◌, lt-ltb, le-ltb, length-take-le, get_or-set_same, get_or-set_other, mul_comm, div-lt_iff_lt-mul}
+use Rattle.std.specs.Bool.{⊤}
 use Rattle.std.proofs.lemmas.Bool.{cases_order, cases_lt}
 use Rattle.std.proofs.lemmas.List.{get_or_append_left, get_or_default, get_or-take, get_or_past}
 use Rattle.std.proofs.Math.Seq.{get_or-append_seam}
 use Rattle.std.proofs.Math.Nat.{mul-div_cancel_left}
-use Rattle.sv8_phys.specs.Contents.{AreContents}
 use Rattle.sv8_history.specs.Trace as history
 use Rattle.sv8_history.proofs.Common.{footprint_same}
 use Rattle.sv8_model.specs.Cells.{Cell}
@@ -14,8 +14,9 @@ use Rattle.sv8_trace.specs.declared.interval.Interval.{Interval}
 use Rattle.sv8_trace.specs.declared.prepared.Staged.{Staged}
 use Rattle.sv8_trace.specs.Kept.{kept_in}
 use Rattle.sv8_trace.specs.Recording.{Recording, blank, no_interval, trace_of}
-use Rattle.sv8_trace.specs.Prepared.{placed, placed_pages, placed_levels, list_at, prepared_trace, IsPreparedFor}
-use Rattle.sv8_trace.specs.Placing.{with_ram_page, with_level, placed_pages_in, placed_levels_in, with_kept, AreSound}
+use Rattle.sv8_trace.specs.Prepared.{placed, list_at, prepared_trace, IsPageColumn, IsPreparedFor}
+use Rattle.sv8_trace.specs.Placing.{placed_pages_in, placed_levels_in, with_kept}
+use Rattle.sv8_trace.specs.Overlaid.{AreFull}
 
 -- one item more has got what stands for it
 pub more_put : (X O : Type 0) (put : O → X → X) (dx : X) (none : O) (i : ℕ) (yielded : List O) (o : O) (first now : List X) (m m' : X) → i ≡ length yielded → i < length now → m ≡ get_or now i m → m' ≡ put o m
@@ -42,47 +43,34 @@ more_put X O put dx none i yielded o first now m m' count h is made done j = go 
         let n : j ≢ i = omega arith in
         get_or-set_other now i j m' dx n ∙ done j ∙ rw (le-ltb j i (omega arith), le-ltb j (i + 1) (omega arith))
 
--- a checkpoint that is set is sound
-pub sound_set : (pages : ℕ) (points : List State) (i : ℕ) (s : State) → i < length points → AreSound pages points → AreContents pages s.memory → AreSound pages (set points i s)
-sound_set pages points i s h sound here j l = go (cases_order j i)
+-- columns of whole pages, and of levels, for the checkpoints that stay
+pub full_pages : (pages : ℕ) (r : Recording) (s : Staged) → IsPreparedFor pages r s → (n : ℕ) → n ≡ s.count + 1 → (p : ℕ) → MatchOption (get_or s.pages.items p None) ⊤ (AreFull n)
+full_pages pages r s fits n e p = go (get_or s.pages.items p None) (fits.whole_pages p)
   where
-    m : j < length points
-    m = rw length-set at l
+    go : (o : Option (List (List ℕ))) → MatchOption o ⊤ (IsPageColumn s.count) → MatchOption o ⊤ (AreFull n)
+    go None w = w
+    go (Some c) w = (omega (arith, e, w.0), λ i h. w.1 i (omega (arith, w.0, h)))
 
-    go : (j ≡ i) ⊎ ((j < i) ⊎ (i < j)) → AreContents pages (get_or (set points i s) j blank).memory
-    go (inl e) = rw (e, get_or-set_same points i s blank h) here
-    go (inr (inl q)) = let n : j ≢ i = omega arith in rw (get_or-set_other points i j s blank n) (sound j m)
-    go (inr (inr q)) = let n : j ≢ i = omega arith in rw (get_or-set_other points i j s blank n) (sound j m)
+pub full_levels : (pages : ℕ) (r : Recording) (s : Staged) → IsPreparedFor pages r s → (n : ℕ) → n ≡ s.count + 1 → (l : ℕ) → MatchOption (get_or s.levels.items l None) ⊤ (λ c. length c ≡ n)
+full_levels pages r s fits n e l = go (get_or s.levels.items l None) (fits.whole_levels l)
+  where
+    go : (o : Option (List Bool)) → MatchOption o ⊤ (λ c. length c ≡ suc s.count) → MatchOption o ⊤ (λ c. length c ≡ n)
+    go None w = w
+    go (Some c) w = omega (arith, e, w)
 
--- ---- columns, one after another
-
-abbrev pub pages_from : ℕ → List (Option (List (List ℕ))) → ℕ → State → State
-pages_from p cs i s = record s { memory = record s.memory { ram = placed_pages p cs i s.memory.ram } }
-
-pub pages_none : (p i : ℕ) (o : Option (List (List ℕ))) (rest later : List (Option (List (List ℕ)))) (s s' w : State) → rest ≡ o ∷ later → o ≡ None → s' ≡ s → pages_from p rest i s ≡ w → pages_from (p + 1) later i s' ≡ w
-pages_none p i o rest later s s' w e n kept h = let f = rw (e, n) at h in rw (add-one, kept) f
-
-pub pages_some : (p i : ℕ) (o : Option (List (List ℕ))) (rest later : List (Option (List (List ℕ)))) (c : List (List ℕ)) (s s' w : State) → rest ≡ o ∷ later → o ≡ Some c → s' ≡ with_ram_page p (get_or c i []) s → pages_from p rest i s ≡ w → pages_from (p + 1) later i s' ≡ w
-pages_some p i o rest later c s s' w e n put h = let f = rw (e, n) at h in rw (add-one, put) f
-
-abbrev pub levels_from : ℕ → List (Option (List Bool)) → ℕ → State → State
-levels_from l cs i s = record s { memory = record s.memory { pending = placed_levels l cs i s.memory.pending } }
-
-pub levels_none : (l i : ℕ) (o : Option (List Bool)) (rest later : List (Option (List Bool))) (s s' w : State) → rest ≡ o ∷ later → o ≡ None → s' ≡ s → levels_from l rest i s ≡ w → levels_from (l + 1) later i s' ≡ w
-levels_none l i o rest later s s' w e n kept h = let f = rw (e, n) at h in rw (add-one, kept) f
-
-pub levels_some : (l i : ℕ) (o : Option (List Bool)) (rest later : List (Option (List Bool))) (c : List Bool) (s s' w : State) → rest ≡ o ∷ later → o ≡ Some c → s' ≡ with_level l (get_or c i false) s → levels_from l rest i s ≡ w → levels_from (l + 1) later i s' ≡ w
-levels_some l i o rest later c s s' w e n put h = let f = rw (e, n) at h in rw (add-one, put) f
+pub count_left : (pages : ℕ) (r : Recording) (s : Staged) → IsPreparedFor pages r s → (points cut : List State) (intervals : List Interval) → intervals ≡ r.intervals → length points ≡ length intervals + 1
+    → cut ≡ take (s.count + 1) points → length cut ≡ s.count + 1
+count_left pages r s fits points cut intervals same long is =
+    let e = ap length same in
+    ap length is ∙ length-take-le (s.count + 1) points (omega (arith, e, long, fits.count))
 
 -- ---- the whole
 
-module _ (windows pages k : ℕ) (pos : 0 < k) (r : Recording) (s : Staged) (fits : IsPreparedFor pages r s) (points cut mid last : List State) (intervals short lists : List Interval)
+module _ (windows pages k : ℕ) (pos : 0 < k) (r : Recording) (s : Staged) (fits : IsPreparedFor pages r s) (points cut last : List State) (intervals short lists : List Interval)
     (points_are : points ≡ r.points) (intervals_are : intervals ≡ r.intervals) (long : length points ≡ length intervals + 1)
     (cut_is : cut ≡ take (s.count + 1) points) (short_is : short ≡ take s.count intervals)
-    (mid_long : length mid ≡ length cut)
-    (mid_is : (i : ℕ) → i < length cut → get_or mid i blank ≡ placed_pages_in s.pages.items i (get_or cut i blank))
-    (last_long : length last ≡ length mid)
-    (last_is : (i : ℕ) → i < length mid → get_or last i blank ≡ placed_levels_in s.levels.items i (get_or mid i blank))
+    (last_long : length last ≡ length cut)
+    (last_is : (i : ℕ) → i < length cut → get_or last i blank ≡ placed_levels_in s.levels.items i (placed_pages_in s.pages.items i (get_or cut i blank)))
     (lists_long : length lists ≡ length short)
     (lists_are : (i : ℕ) → i < length short → get_or lists i no_interval ≡ with_kept (get_or s.kept.items i None) (get_or short i no_interval)) where
   cut_fits : s.count ≤ length intervals
@@ -91,8 +79,8 @@ module _ (windows pages k : ℕ) (pos : 0 < k) (r : Recording) (s : Staged) (fit
   lists_count : length lists ≡ s.count
   lists_count = lists_long ∙ ap length short_is ∙ length-take-le s.count intervals cut_fits
 
-  mid_count : length mid ≡ s.count + 1
-  mid_count = mid_long ∙ ap length cut_is ∙ length-take-le (s.count + 1) points (omega (arith, cut_fits, long))
+  cut_count : length cut ≡ s.count + 1
+  cut_count = ap length cut_is ∙ length-take-le (s.count + 1) points (omega (arith, cut_fits, long))
 
   cut_point : (i : ℕ) → i ≤ s.count → get_or cut i blank ≡ get_or r.points i blank
   cut_point i h = ap (λ ps. get_or ps i blank) cut_is ∙ get_or-take (s.count + 1) points i blank (omega arith) ∙ ap (λ ps. get_or ps i blank) points_are
@@ -102,9 +90,8 @@ module _ (windows pages k : ℕ) (pos : 0 < k) (r : Recording) (s : Staged) (fit
 
   point_is : (i : ℕ) → i ≤ s.count → get_or last i blank ≡ placed s i (get_or r.points i blank)
   point_is i h =
-      let w : i < length mid = omega (arith, mid_count, h) in
-      let v : i < length cut = omega (arith, mid_long, w) in
-      last_is i w ∙ ap (placed_levels_in s.levels.items i) (mid_is i v ∙ ap (placed_pages_in s.pages.items i) (cut_point i h))
+      let v : i < length cut = omega (arith, cut_count, h) in
+      last_is i v ∙ ap (λ x. placed_levels_in s.levels.items i (placed_pages_in s.pages.items i x)) (cut_point i h)
 
   interval_is : (i : ℕ) → i < s.count → get_or lists i no_interval ≡ with_kept (get_or s.kept.items i None) (get_or r.intervals i no_interval)
   interval_is i h =

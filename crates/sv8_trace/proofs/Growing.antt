@@ -3,15 +3,14 @@ use Rattle.std.proofs.Common.{◌-◌, take, ◌≡◌, ℕ, ◌+◌, ◌<◌, �
 use Rattle.std.proofs.lemmas.Bool.{cases_lt}
 use Rattle.std.proofs.lemmas.List.{get_or_append_left}
 use Rattle.std.proofs.Math.Seq.{get_or-append_seam}
-use Rattle.sv8_phys.specs.Contents.{AreContents}
 use Rattle.sv8_cpu.specs.State.{State}
 use Rattle.sv8_trace.specs.Recording.{blank}
-use Rattle.sv8_trace.specs.Placing.{AreSound}
+use Rattle.sv8_trace.specs.Placing.{IsSound, AreSound}
 
-pub sound_more : (pages : ℕ) (points more : List State) (s : State) → more ≡ points ++ s ∷ [] → AreSound pages points → AreContents pages s.memory → AreSound pages more
+pub sound_more : (pages : ℕ) (points more : List State) (s : State) → more ≡ points ++ s ∷ [] → AreSound pages points → IsSound pages s.memory → AreSound pages more
 sound_more pages points more s is sound here i h = rw is (go (cases_lt i (length points)))
   where
-    go : (i < length points) ⊎ (length points ≤ i) → AreContents pages (get_or (points ++ s ∷ []) i blank).memory
+    go : (i < length points) ⊎ (length points ≤ i) → IsSound pages (get_or (points ++ s ∷ []) i blank).memory
     go (inl l) = rw (get_or_append_left points (s ∷ []) blank i l) (sound i l)
     go (inr l) =
         let n : length more ≡ length points + 1 = ap length is ∙ length-append points (s ∷ []) in

@@ -5,6 +5,7 @@ pub mod Firsts
 pub mod Nearness
 pub mod RunLists
 pub mod Placed
+pub mod Overlays
 pub mod Below
 pub mod Recorded
 pub mod Searching

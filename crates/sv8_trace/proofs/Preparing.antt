@@ -7,7 +7,6 @@ use Rattle.std.proofs.Math.ListN.{get_or-map}
 use Rattle.std.proofs.Math.Nat.{mul-div_cancel_left, div-add-mod}
 use Rattle.sv8_model.specs.Cells.{Cell, Value, ram_byte, pending_level, byte, held, same_cell}
 use Rattle.sv8_phys.specs.Memory.{ram_size, page_of}
-use Rattle.sv8_phys.specs.Contents.{AreContents}
 use Rattle.sv8_history.specs.Machine.{Machine}
 use Rattle.sv8_history.specs.Trace.{Trace}
 use Rattle.sv8_history.specs.Patches as history
@@ -22,7 +21,7 @@ use Rattle.sv8_trace.specs.Recording.{Recording, blank, no_interval, trace_of}
 use Rattle.sv8_trace.specs.Prepared.{placed, placed_pages, placed_levels, list_at, prepared_trace, IsPageColumn, IsPreparedFor, Near}
 use Rattle.sv8_trace.specs.Steps.{IsFirstBelow}
 use Rattle.sv8_trace.specs.Patching.{IsFirstWrite, PointsSet, RaisedAt}
-use Rattle.sv8_trace.specs.Placing.{AreSound}
+use Rattle.sv8_trace.specs.Placing.{IsSound, AreSound}
 use Rattle.sv8_trace.proofs.Nearness.{near_all, near_along}
 use Rattle.sv8_trace.proofs.Placed.{page_byte, page_length, pages_get, pages_set, levels_get, levels_set, shown_byte, shown_level}
 
@@ -107,7 +106,7 @@ whole_at pages i r s fits h q = go (get_or s.pages.items q None) (fits.whole_pag
     go None w = w
     go (Some c) w = w.1 i h
 
-module _ (pages i : ℕ) (r : Recording) (s : Staged) (fits : IsPreparedFor pages r s) (le : i ≤ s.count) (p : State) (contents : AreContents pages p.memory) where
+module _ (pages i : ℕ) (r : Recording) (s : Staged) (fits : IsPreparedFor pages r s) (le : i ≤ s.count) (p : State) (contents : IsSound pages p.memory) where
   room : 4096 * length s.pages.items ≤ length p.memory.ram
   room = omega (arith, ap (λ n. 4096 * n) fits.pages_count, contents.size)
 
@@ -115,7 +114,7 @@ module _ (pages i : ℕ) (r : Recording) (s : Staged) (fits : IsPreparedFor page
   byte_at a o e = ap byte (pages_get s.pages.items i p.memory.ram room (whole_at pages i r s fits le) a ∙ ap (λ x. shown_byte x i a (get_or p.memory.ram a 0)) e)
 
   pub level_at : (l : ℕ) (o : Option (List Bool)) → l ≤ 15 → get_or s.levels.items l None ≡ o → get (pending_level l) (placed s i p) ≡ held (shown_level o i (get_or p.memory.pending l false))
-  level_at l o h e = ap held (levels_get s.levels.items i p.memory.pending l (omega (arith, contents.levels.count)) ∙ ap (λ x. shown_level x i (get_or p.memory.pending l false)) e)
+  level_at l o h e = ap held (levels_get s.levels.items i p.memory.pending l (omega (arith, contents.count)) ∙ ap (λ x. shown_level x i (get_or p.memory.pending l false)) e)
 
 -- ---- one patch after another
 
@@ -143,8 +142,8 @@ first_write_is m v c from end recorded (Some s) le few h = record {
 
 -- ---- the points and the slots
 
-pub contents_at : (pages i : ℕ) (xs : List State) (r : Recording) → AreSound pages xs → xs ≡ r.points → i < length xs → AreContents pages (get_or r.points i blank).memory
-contents_at pages i xs r sound is h = subst (λ ps. AreContents pages (get_or ps i blank).memory) is (sound i h)
+pub contents_at : (pages i : ℕ) (xs : List State) (r : Recording) → AreSound pages xs → xs ≡ r.points → i < length xs → IsSound pages (get_or r.points i blank).memory
+contents_at pages i xs r sound is h = subst (λ ps. IsSound pages (get_or ps i blank).memory) is (sound i h)
 
 pub slot_is : {X : Type 0} (cs : List (Option X)) (i : ℕ) (o p : Option X) → i < length cs → o ≡ get_or cs i o → o ≡ p → get_or cs i None ≡ p
 slot_is cs i o p h e f = get_or_default cs i None o h ∙ sym e ∙ f
@@ -156,7 +155,7 @@ pub record HasPage (a i : ℕ) (s : Staged) (p : State) (c : List (List ℕ)) : 
   pub whole : length (get_or c i []) ≡ 4096
   pub bytes : (j : ℕ) → j < 4096 → get_or (get_or c i []) j 0 ≡ get_or (placed_pages 0 s.pages.items i p.memory.ram) (4096 * (a / 4096) + j) 0
 
-module _ (pages i a : ℕ) (r : Recording) (s : Staged) (fits : IsPreparedFor pages r s) (le : i ≤ s.count) (p : State) (contents : AreContents pages p.memory) where
+module _ (pages i a : ℕ) (r : Recording) (s : Staged) (fits : IsPreparedFor pages r s) (le : i ≤ s.count) (p : State) (contents : IsSound pages p.memory) where
   enough : 4096 * length s.pages.items ≤ length p.memory.ram
   enough = omega (arith, ap (λ n. 4096 * n) fits.pages_count, contents.size)
 
@@ -275,9 +274,9 @@ level_set i l s now p d v b h law levels_are pages_are =
     whole_state false = refl
 
 -- the level of checkpoint i, as a column that was taken, or gathered, has it
-pub level_of : (pages i l : ℕ) (r : Recording) (s : Staged) (p : State) → AreContents pages p.memory → l ≤ 15 → (o : Option (List Bool)) → get_or s.levels.items l None ≡ o
+pub level_of : (pages i l : ℕ) (r : Recording) (s : Staged) (p : State) → IsSound pages p.memory → l ≤ 15 → (o : Option (List Bool)) → get_or s.levels.items l None ≡ o
     → get_or (placed_levels 0 s.levels.items i p.memory.pending) l false ≡ shown_level o i (get_or p.memory.pending l false)
-level_of pages i l r s p contents h o e = levels_get s.levels.items i p.memory.pending l (omega (arith, contents.levels.count)) ∙ ap (λ x. shown_level x i (get_or p.memory.pending l false)) e
+level_of pages i l r s p contents h o e = levels_get s.levels.items i p.memory.pending l (omega (arith, contents.count)) ∙ ap (λ x. shown_level x i (get_or p.memory.pending l false)) e
 
 pub gathered_page : (p n i : ℕ) (points : List State) (c : List (List ℕ)) → c ≡ map (λ s. page_of s.memory.ram p) (take n points) → i < n → n ≤ length points
     → get_or c i [] ≡ page_of (get_or points i blank).memory.ram p

@@ -12,3 +12,4 @@ pub mod PageRuns
 pub mod Prepared
 pub mod Patching
 pub mod Placing
+pub mod Overlaid

@@ -2,10 +2,8 @@
 
 ghost use Rattle.std.specs.Prelude.{◌≡◌, ◌≤◌};
 ghost use Rattle.sv8_model.specs.Cells.{same_cell, byte_of, held_of};
-ghost use Rattle.sv8_cpu.specs.Recorded.{get};
-ghost use Rattle.sv8_trace.specs.Cells.{cell_of, content_of, word_of_cell, IsCell};
+ghost use Rattle.sv8_trace.specs.Cells.{cell_of, content_of, word_of_cell};
 
-use sv8_cpu::Machine;
 use sv8_model::Level;
 
 /// A part of the state that outside events may set.
@@ -67,21 +65,6 @@ impl Cell {
         match self {
             Cell::Byte(address) => Some(4 * (address / 4)),
             Cell::Level(_) => None,
-        }
-    }
-
-    /// What stands in the cell of a machine.
-    pub(crate) fn content<const NW: usize, const PAGES: usize>(
-        self,
-        machine: &Machine<NW, PAGES>,
-    ) -> Content
-        requires few_windows { NW ≤ 32 }
-        requires cell { IsCell PAGES self }
-        ensures { content_of result ≡ get (cell_of self) machine.now }
-    {
-        match self {
-            Cell::Byte(address) => Content::Byte(machine.byte(address)),
-            Cell::Level(level) => Content::Pending(machine.is_pending(level_numbered(level))),
         }
     }
 }

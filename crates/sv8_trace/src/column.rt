@@ -1,10 +1,24 @@
-//! One part of each checkpoint of a trace that is to change.
+//! One part of each checkpoint of a trace, where it was changed or is to change.
 
-ghost use Rattle.std.specs.Prelude.{◌≡◌, ℕ, ◌≤◌, ◌<◌, ◌&&◌, ◌++◌, ◌∷◌, [], false, cond, leb, ltb, length, slice_index_or, OnOk};
+ghost use Rattle.std.specs.Prelude.{◌≡◌, ℕ, ◌≤◌, ◌<◌, ◌%◌, ◌&&◌, ◌++◌, ◌∷◌, [], false, cond, leb, ltb, take, length, replicate, slice_index_or, None, IfOk, OnOk};
 
 use std::alloc::{AllocError, Global};
 use std::marker::Model;
 use sv8_phys::Page;
+
+/// So many places, with nothing in them.
+pub(crate) fn empty_places<T: Drop>(
+    alloc: Global,
+    count: usize,
+) -> Result<Vec<Option<T>>, AllocError>
+    ensures { IfOk result (λ v. v.items ≡ replicate count None) }
+{
+    let mut places = Vec::with_capacity(alloc, count)?;
+    for _place in 0..count {
+        places.push(None)?;
+    }
+    Ok(places)
+}
 
 /// One page of each checkpoint.
 #[derive(Drop)]
@@ -28,11 +42,49 @@ impl PageColumn {
         PageColumn { pages }
     }
 
-    /// The pages, in the order of the checkpoints.
-    pub(crate) fn into_pages(self) -> Vec<Page>
-        ensures { result.items ≡ self }
+    /// How many checkpoints it has a page of.
+    pub(crate) fn len(&self) -> usize
+        ensures { result ≡ length self.now }
     {
-        self.pages
+        self.pages.len()
+    }
+
+    /// The page of a checkpoint, shared.
+    pub(crate) fn share(&self, index: usize) -> Result<Page, AllocError>
+        requires { index < length self.now }
+        ensures { IfOk result (λ p. p ≡ slice_index_or self.now index []) }
+    {
+        self.pages[index].share()
+    }
+
+    /// A byte of the page of a checkpoint.
+    pub(crate) fn byte(&self, index: usize, address: u32) -> u8
+        requires { index < length self.now }
+        ensures { result ≡ slice_index_or (slice_index_or self.now index []) (address % 4096) 0 }
+    {
+        self.pages[index].byte(address)
+    }
+
+    /// Leaves the pages of the first `count` checkpoints.
+    pub(crate) fn truncate(&mut self, count: usize)
+        ensures { self.new ≡ take count self.old }
+    {
+        self.pages.truncate(count);
+    }
+
+    /// The same pages once more, shared.
+    ///
+    /// # Errors
+    ///
+    /// `AllocError` where memory for their handles cannot be had.
+    pub(crate) fn copy(&self, alloc: Global) -> Result<PageColumn, AllocError>
+        ensures { IfOk result (λ c. c ≡ self.now) }
+    {
+        let mut pages = Vec::with_capacity(alloc, self.pages.len())?;
+        for page in &self.pages {
+            pages.push(page.share()?)?;
+        }
+        Ok(PageColumn { pages })
     }
 }
 
@@ -90,10 +142,29 @@ impl LevelColumn {
         }
     }
 
-    /// Whether the level is pending, in the order of the checkpoints.
-    pub(crate) fn into_pending(self) -> Vec<bool>
-        ensures { result.items ≡ self }
+    /// How many checkpoints it has the level of.
+    pub(crate) fn len(&self) -> usize
+        ensures { result ≡ length self.now }
     {
-        self.pending
+        self.pending.len()
+    }
+
+    /// Leaves the level of the first `count` checkpoints.
+    pub(crate) fn truncate(&mut self, count: usize)
+        ensures { self.new ≡ take count self.old }
+    {
+        self.pending.truncate(count);
+    }
+
+    /// The same once more.
+    ///
+    /// # Errors
+    ///
+    /// `AllocError` where memory for it cannot be had.
+    pub(crate) fn copy(&self) -> Result<LevelColumn, AllocError>
+        ensures { IfOk result (λ c. c ≡ self.now) }
+    {
+        let pending = self.pending.clone()?;
+        Ok(LevelColumn { pending })
     }
 }

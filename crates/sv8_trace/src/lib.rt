@@ -6,11 +6,13 @@
 mod cell;
 mod column;
 mod draft;
+mod finished;
 mod interval;
 mod kept;
 mod marks;
 mod notes;
 mod patch;
+mod points;
 mod prepared;
 mod recorder;
 mod runs;

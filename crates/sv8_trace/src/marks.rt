@@ -1,6 +1,6 @@
 //! How far the notes of each word of RAM reach.
 
-ghost use Rattle.std.specs.Prelude.{◌≡◌, ℕ, ◌≤◌, ◌<◌, [], length, slice_index_or, OnOk};
+ghost use Rattle.std.specs.Prelude.{◌≡◌, ℕ, ◌≤◌, ◌<◌, [], length, slice_index_or, IfOk, OnOk};
 ghost use Rattle.sv8_trace.specs.Marks.{mark_of};
 
 use std::alloc::{AllocError, Global};
@@ -34,6 +34,14 @@ impl PageMarks {
         PageMarks {
             words: Vec::new(alloc),
         }
+    }
+
+    /// The same marks once more.
+    fn copy(&self) -> Result<PageMarks, AllocError>
+        ensures { IfOk result (λ p. p ≡ self.now) }
+    {
+        let words = self.words.clone()?;
+        Ok(PageMarks { words })
     }
 
     /// The mark of a word; 0 where it has none.
@@ -93,6 +101,21 @@ impl Marks {
         Marks {
             pages: Vec::new(alloc),
         }
+    }
+
+    /// The same marks once more.
+    ///
+    /// # Errors
+    ///
+    /// `AllocError` where memory for them cannot be had.
+    pub(crate) fn copy(&self, alloc: Global) -> Result<Marks, AllocError>
+        ensures { IfOk result (λ m. m ≡ self.now) }
+    {
+        let mut pages = Vec::with_capacity(alloc, self.pages.len())?;
+        for page in &self.pages {
+            pages.push(page.copy()?)?;
+        }
+        Ok(Marks { pages })
     }
 
     /// The mark of the word that a byte is in.

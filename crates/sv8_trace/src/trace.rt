@@ -3,19 +3,21 @@
 ghost use Rattle.std.specs.Prelude.{◌≡◌, ℕ, ◌+◌, ◌*◌, ◌<◌, ◌≤◌, ◌/◌, ◌++◌, ◌∷◌, [], length, IfOk, OnOk, OnErr};
 ghost use Rattle.sv8_time.specs.Schedule.{bytes_below};
 ghost use Rattle.sv8_phys.specs.Memory.{ram_size};
-ghost use Rattle.sv8_phys.specs.Contents.{AreContents};
 ghost use Rattle.sv8_history.specs.Growing.{restored};
 ghost use Rattle.sv8_trace.specs.Recorder.{counted_by, RaisedUpTo};
 ghost use Rattle.sv8_trace.specs.Recording.{fresh, last_point, recorded, trace_of, IsExtended};
 
+mod copying;
 mod drafting;
 mod edits;
 mod placing;
 mod preparing;
 mod search;
 
+use crate::finished::Finished;
 use crate::interval::Interval;
 use crate::marks::Marks;
+use crate::points::Points;
 use crate::recorder::record;
 use crate::step_notes::StepNotes;
 use std::alloc::{AllocError, Global};
@@ -30,8 +32,8 @@ pub const NO_END: u32 = u32::MAX;
 /// `K`th step (1 to 1,000,000) from step 0 on, and of the steps between what each touched.
 #[derive(Drop)]
 pub struct Trace<const NW: usize, const PAGES: usize, const K: u32> {
-    points: Vec<Machine<NW, PAGES>>,
-    intervals: Vec<Interval>,
+    points: Points<NW, PAGES>,
+    intervals: Vec<Finished>,
     marks: Marks,
     /// Places for the notes of the step and of the interval under way.
     touches: StepNotes,
@@ -39,18 +41,18 @@ pub struct Trace<const NW: usize, const PAGES: usize, const K: u32> {
 }
 
 impl<const NW: usize, const PAGES: usize, const K: u32> Model for Trace<NW, PAGES, K> {
-    ghost use Rattle.std.specs.Prelude.{◌≡◌, ℕ, ◌+◌, ◌*◌, ◌≤◌, ◌<◌, length, slice_index_or};
-    ghost use Rattle.sv8_phys.specs.Contents.{AreContents};
-    ghost use Rattle.sv8_trace.specs.Recording.{Recording, blank};
+    ghost use Rattle.std.specs.Prelude.{◌≡◌, ℕ, ◌+◌, ◌*◌, ◌≤◌, length};
+    ghost use Rattle.sv8_trace.specs.Recording.{Recording};
     ghost use Rattle.sv8_trace.specs.Marks.{AreMarked};
+    ghost use Rattle.sv8_trace.specs.Placing.{AreSound};
 
     ghost Value = { Recording };
 
-    ghost view = { λ t. record { points = t.points.items; intervals = t.intervals.items } };
+    ghost view = { λ t. record { points = t.points; intervals = t.intervals.items } };
 
     ghost invariant = { λ t. (2 ≤ NW) × (NW ≤ 32) × (PAGES ≤ 65536) × (1 ≤ K) × (K ≤ 1000000)
-        × (length t.points.items ≡ length t.intervals.items + 1) × (K * length t.intervals.items ≤ 1000000)
-        × ((i : ℕ) → i < length t.points.items → AreContents PAGES (slice_index_or t.points.items i blank).memory)
+        × (length t.points ≡ length t.intervals.items + 1) × (K * length t.intervals.items ≤ 1000000)
+        × AreSound PAGES t.points
         × AreMarked t.marks t.intervals.items };
 }
 
@@ -68,9 +70,7 @@ impl<const NW: usize, const PAGES: usize, const K: u32> Trace<NW, PAGES, K> {
         requires few_steps { K ≤ 1000000 }
         ensures { IfOk result (λ t. t ≡ fresh machine.entry) }
     {
-        let _size = machine.ram_size();
-        let mut points = Vec::new(alloc);
-        points.push(machine)?;
+        let points = Points::new(alloc, machine)?;
         Ok(Trace {
             points,
             intervals: Vec::new(alloc),
@@ -100,7 +100,7 @@ impl<const NW: usize, const PAGES: usize, const K: u32> Trace<NW, PAGES, K> {
     {
         let count = self.intervals.len();
         let index = count.min((step / K) as usize);
-        let machine = self.points[index].snapshot(alloc)?;
+        let machine = self.points.snapshot(alloc, index)?;
         Ok(machine)
     }
 
@@ -127,7 +127,7 @@ impl<const NW: usize, const PAGES: usize, const K: u32> Trace<NW, PAGES, K> {
         ensures refused { OnErr result (self.new ≡ self.old) }
     {
         let count = self.intervals.len();
-        let machine = self.points[count].snapshot(alloc)?;
+        let machine = self.points.snapshot(alloc, count)?;
         let n = K * count as u32;
         let touches = &mut self.touches;
         let draft = &mut self.draft;
@@ -148,15 +148,15 @@ impl<const NW: usize, const PAGES: usize, const K: u32> Trace<NW, PAGES, K> {
         ensures intervals { OnOk result (self.new.intervals ≡ self.old.intervals ++ interval ∷ []) }
         ensures refused { OnErr result (self.new ≡ self.old) }
     {
-        let _size = machine.ram_size();
         let count = self.intervals.len() as u32 + 1;
         interval.notes.mark_words(alloc, &mut self.marks, count)?;
-        self.points.push(machine)?;
-        match self.intervals.push(interval) {
+        let finished = Finished::new(alloc, interval)?;
+        self.intervals.push(finished)?;
+        match self.points.push(alloc, machine) {
             Ok(()) => Ok(()),
             Err(failed) => {
-                self.points.pop();
-                Err(AllocError::from(failed))
+                self.intervals.pop();
+                Err(failed)
             }
         }
     }

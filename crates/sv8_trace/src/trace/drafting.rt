@@ -28,7 +28,7 @@ impl<const NW: usize, const PAGES: usize, const K: u32> Trace<NW, PAGES, K> {
         ensures draft { IfOk result (λ d. (schedule : Schedule) → IsDraft NW PAGES K schedule self.now d) }
     {
         let count = self.intervals.len();
-        let machine = self.points[count].snapshot(alloc)?;
+        let machine = self.points.snapshot(alloc, count)?;
         Ok(Draft {
             machine,
             interval: Interval::new(alloc),

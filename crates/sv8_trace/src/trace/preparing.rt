@@ -1,10 +1,10 @@
 //! What patches make of a trace, built in full before anything changes.
 
-ghost use Rattle.std.specs.Prelude.{◌≡◌, ℕ, ◌+◌, ◌*◌, ◌<◌, ◌≤◌, ◌/◌, ◌%◌, ◌==◌, ◌&&◌, [], cond, not, leb, ltb, false, true, length, take, map, replicate, slice_index_or, slice_set, option_map, Option, Some, None, IfOk, OnOk, OnErr, IfSome};
+ghost use Rattle.std.specs.Prelude.{◌≡◌, ℕ, ◌+◌, ◌*◌, ◌<◌, ◌≤◌, ◌/◌, ◌%◌, ◌==◌, ◌&&◌, [], cond, not, leb, ltb, true, length, slice_index_or, slice_set, option_map, Option, Some, None, IfOk, OnOk, OnErr, IfSome};
 ghost use Rattle.std.specs.List.{All};
 ghost use Rattle.sv8_model.specs.Cells as model;
 ghost use Rattle.sv8_model.specs.Cells.{ram_byte, byte, pending_level, held};
-ghost use Rattle.sv8_phys.specs.Memory.{ram_size, page_of};
+ghost use Rattle.sv8_phys.specs.Memory.{ram_size};
 ghost use Rattle.sv8_history.specs.Trace.{Trace};
 ghost use Rattle.sv8_history.specs.Patches as history;
 ghost use Rattle.sv8_history.specs.Patches.{set_poke, spread, uncover, kept_by_poke};
@@ -17,19 +17,15 @@ ghost use Rattle.sv8_trace.specs.Prepared.{list_at, placed, prepared_trace, IsPr
 ghost use Rattle.sv8_trace.specs.Patching.{IsFirstWrite, KeptPut, PointsSet, RaisedAt};
 
 use crate::cell::{Cell, Content, level_numbered};
-use crate::column::LevelColumn;
+use crate::column::empty_places;
 use crate::kept::KeptList;
 use crate::marks::PAGE_SIZE;
 use crate::notes::Sought;
 use crate::patch::{Cause, Patch};
+use crate::points::LEVELS;
 use crate::prepared::{Prepared, Staged};
-use crate::runs::PageRuns;
 use crate::trace::{NO_END, Trace};
 use std::alloc::{AllocError, Global};
-use sv8_model::Level;
-
-/// How many interrupt levels there are, with level 0, which is none.
-const LEVELS: usize = 16;
 
 /// How far a change reaches: the step of its cause, the step of the next event of its cell, and the first step from its cause on that
 /// writes the cell (`NO_END` where none does).
@@ -38,17 +34,6 @@ struct Reach {
     from: u32,
     to: u32,
     wrote: u32,
-}
-
-/// So many places, with nothing in them.
-fn empty_places<T: Drop>(alloc: Global, count: usize) -> Result<Vec<Option<T>>, AllocError>
-    ensures { IfOk result (λ v. v.items ≡ replicate count None) }
-{
-    let mut places = Vec::with_capacity(alloc, count)?;
-    for _place in 0..count {
-        places.push(None)?;
-    }
-    Ok(places)
 }
 
 impl<const NW: usize, const PAGES: usize, const K: u32> Trace<NW, PAGES, K> {
@@ -89,7 +74,7 @@ impl<const NW: usize, const PAGES: usize, const K: u32> Trace<NW, PAGES, K> {
         }
         match &staged.kept[index] {
             Some(list) => list.find(step % K, cell),
-            None => self.intervals[index].kept.find(step % K, cell),
+            None => self.intervals[index].kept().find(step % K, cell),
         }
     }
 
@@ -104,7 +89,7 @@ impl<const NW: usize, const PAGES: usize, const K: u32> Trace<NW, PAGES, K> {
         let _points = &self.points;
         match staged.kept[index].take() {
             Some(list) => Ok(list),
-            None => self.intervals[index].kept.copy(),
+            None => self.intervals[index].kept().copy(),
         }
     }
 
@@ -146,41 +131,6 @@ impl<const NW: usize, const PAGES: usize, const K: u32> Trace<NW, PAGES, K> {
         Ok(())
     }
 
-    /// The page of an address in each of the first checkpoints.
-    fn gather_pages(
-        &self,
-        alloc: Global,
-        address: u32,
-        count: usize,
-    ) -> Result<PageRuns, AllocError>
-        requires address { address < ram_size PAGES }
-        requires count { count ≤ length self.now.points }
-        ensures { IfOk result (λ c. c ≡ map (λ s. page_of s.memory.ram (address / 4096)) (take count self.now.points)) }
-    {
-        let mut runs = PageRuns::new(alloc);
-        for point in &self.points[..count] {
-            runs.push(point.page(address)?)?;
-        }
-        Ok(runs)
-    }
-
-    /// Whether a level is pending in each of the first checkpoints.
-    fn gather_levels(
-        &self,
-        alloc: Global,
-        level: Level,
-        count: usize,
-    ) -> Result<LevelColumn, AllocError>
-        requires { count ≤ length self.now.points }
-        ensures { IfOk result (λ c. c ≡ map (λ s. slice_index_or s.memory.pending level false) (take count self.now.points)) }
-    {
-        let mut column = LevelColumn::new(alloc);
-        for point in &self.points[..count] {
-            column.push(point.is_pending(level))?;
-        }
-        Ok(column)
-    }
-
     /// What stands in a cell of a checkpoint.
     fn content(&self, staged: &Staged, index: usize, cell: Cell) -> Content
         requires fits { IsPreparedFor PAGES self.now staged.now }
@@ -188,15 +138,15 @@ impl<const NW: usize, const PAGES: usize, const K: u32> Trace<NW, PAGES, K> {
         requires cell { IsCell PAGES cell }
         ensures { content_of result ≡ get (cell_of cell) (placed staged.now index (slice_index_or self.now.points index blank)) }
     {
-        let point = &self.points[index];
+        let _points = &self.points;
         match cell {
             Cell::Byte(address) => match &staged.pages[(address / PAGE_SIZE) as usize] {
                 Some(runs) => Content::Byte(runs.byte(index, address)),
-                None => cell.content(point),
+                None => Content::Byte(self.points.byte(index, address)),
             },
             Cell::Level(level) => match &staged.levels[level as usize] {
                 Some(column) => Content::Pending(column.is_pending(index)),
-                None => cell.content(point),
+                None => Content::Pending(self.points.is_pending(index, level_numbered(level))),
             },
         }
     }
@@ -222,7 +172,7 @@ impl<const NW: usize, const PAGES: usize, const K: u32> Trace<NW, PAGES, K> {
         let page = (address / PAGE_SIZE) as usize;
         let mut runs = match staged.pages[page].take() {
             Some(runs) => runs,
-            None => self.gather_pages(alloc, address, staged.count + 1)?,
+            None => self.points.gather_pages(alloc, address, staged.count + 1)?,
         };
         runs.set(low, end, address, value)?;
         staged.pages[page] = Some(runs);
@@ -251,7 +201,9 @@ impl<const NW: usize, const PAGES: usize, const K: u32> Trace<NW, PAGES, K> {
         let place = level as usize;
         let mut column = match staged.levels[place].take() {
             Some(column) => column,
-            None => self.gather_levels(alloc, level_numbered(level), staged.count + 1)?,
+            None => self
+                .points
+                .gather_levels(alloc, level_numbered(level), staged.count + 1)?,
         };
         column.set(low, end, pending);
         staged.levels[place] = Some(column);

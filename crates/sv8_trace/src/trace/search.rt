@@ -49,7 +49,7 @@ impl<const NW: usize, const PAGES: usize, const K: u32> Trace<NW, PAGES, K> {
             let base = K * index as u32;
             let stop = K.min(end - base);
             let found = self.intervals[index]
-                .notes
+                .notes()
                 .first_from(sought, start % K, stop);
             match found {
                 Some(offset) => return Some(base + offset),

@@ -1,14 +1,14 @@
 use Rattle.std.proofs.Common.{rules, vec_len, ◌≡◌, ◌*◌, ap, length, arith}
 use Rattle.sv8_trace.specs.Recording.{Recording}
-use Rattle.sv8_trace.proofs.Growing.{longer, popped, sound_more}
+use Rattle.sv8_trace.proofs.Growing.{longer, popped}
 use Rattle.sv8_trace.proofs.Marking.{marked_still, marked_more}
 use Rattle.sv8_trace.proofs.trace.Trace.add.Goals as goal
 
 pub invariant_of-self-in-Ok : goal.invariant_of-self-in-Ok
 invariant_of-self-in-Ok g c =
     let inv = c.self.invariant in
-    let points = longer c.self.inside.points.items c.push.new.self.items c.args.machine c.in_ok-push.ensures.items in
-    let intervals = longer c.self.inside.intervals.items c.push-2.new.self.items c.args.interval c.in-Ok.ensures.items in
+    let points = longer c.self.inside.points c.push-2.new.self c.args.machine c.in-Ok.ensures.pushed in
+    let intervals = longer c.self.inside.intervals.items c.push.new.self.items c.in_ok-finished.finished c.in_ok-push.ensures.items in
     let count = ap (λ (r : Recording). g.row.K * length r.intervals) c.self.view_is in
     let size : c.len.result ≡ length c.self.inside.intervals.items = search rules in
     let marked = rw size at c.in_ok-mark_words.ensures.marked in (
@@ -19,16 +19,16 @@ invariant_of-self-in-Ok g c =
       inv.4,
       omega (arith, points, intervals, inv.5),
       rw intervals (omega (arith, count, c.requires.room)),
-      sound_more g.row.PAGES c.self.inside.points.items c.push.new.self.items c.args.machine c.in_ok-push.ensures.items inv.7 c.ram_size-size.ensures.contents,
-      marked_more c.self.inside.marks c.mark_words.new.marks c.mark_words.ensures.grows c.self.inside.intervals.items inv.8 c.push-2.new.self.items c.args.interval c.in-Ok.ensures.items marked,
+      c.push-2.ensures.sound,
+      marked_more c.self.inside.marks c.mark_words.new.marks c.mark_words.ensures.grows c.self.inside.intervals.items inv.8 c.push.new.self.items c.in_ok-finished.finished c.in_ok-push.ensures.items (rw c.in_ok-finished.ensures marked),
     )
 
 pub invariant_of-self-in-Err : goal.invariant_of-self-in-Err
 invariant_of-self-in-Err g c =
     let inv = c.self.invariant in
     let long : vec_len c.push.new.self ≡ length c.push.new.self.items = search rules in
-    let points = popped c.self.inside.points.items c.push.new.self.items c.pop.new.self.items c.args.machine (vec_len c.push.new.self) c.in_ok-push.ensures.items long c.pop.ensures.rest in
-    let intervals : c.push-2.new.self.items ≡ c.self.inside.intervals.items = search rules in
+    let intervals = popped c.self.inside.intervals.items c.push.new.self.items c.pop.new.self.items c.in_ok-finished.finished (vec_len c.push.new.self) c.in_ok-push.ensures.items long c.pop.ensures.rest in
+    let points = c.in-Err.ensures.refused in
     rw (points, intervals) (inv.0, inv.1, inv.2, inv.3, inv.4, inv.5, inv.6, inv.7, marked_still c.self.inside.marks c.mark_words.new.marks c.mark_words.ensures.grows c.self.inside.intervals.items inv.8)
 
 pub invariant_of-self-in_err-push : goal.invariant_of-self-in_err-push

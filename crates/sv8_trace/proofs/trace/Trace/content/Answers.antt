@@ -1,6 +1,5 @@
-use Rattle.std.proofs.Common.{◌/◌, ◌<◌, Some, None, length, get_or, ap, sym, ◌∙◌, arith}
-use Rattle.std.proofs.lemmas.List.{get_or_default}
-use Rattle.sv8_model.specs.Cells.{ram_byte, byte, pending_level, held}
+use Rattle.std.proofs.Common.{◌/◌, ◌<◌, false, Some, None, length, get_or, ap, ap₂, sym, ◌∙◌, arith}
+use Rattle.sv8_model.specs.Cells.{byte, held}
 use Rattle.sv8_cpu.specs.Recorded.{get}
 use Rattle.sv8_trace.specs.Cells.{cell_of}
 use Rattle.sv8_trace.specs.Recording.{Recording, blank}
@@ -14,8 +13,8 @@ returns-in-Some g c =
     let fits = c.requires.fits in
     let points = ap (λ (r : Recording). r.points) c.self.view_is in
     let count = ap (λ (r : Recording). length r.intervals) c.self.view_is in
-    let there : c.args.index < length c.self.inside.points.items = omega (arith, count, inv.5, fits.count, c.requires.index) in
-    let contents = contents_at g.row.PAGES c.args.index c.self.inside.points.items c.args.self.now inv.7 points there in
+    let there : c.args.index < length c.self.inside.points = omega (arith, count, inv.5, fits.count, c.requires.index) in
+    let contents = contents_at g.row.PAGES c.args.index c.self.inside.points c.args.self.now inv.7 points there in
     let cell = c.requires.cell in
     let inside = rw c.in-Byte.is at cell in
     let place : c.in-Byte.address / 4096 < length c.args.staged.now.pages.items = omega (arith, fits.pages_count, inside) in
@@ -30,14 +29,13 @@ returns-in-None g c =
     let fits = c.requires.fits in
     let points = ap (λ (r : Recording). r.points) c.self.view_is in
     let count = ap (λ (r : Recording). length r.intervals) c.self.view_is in
-    let there : c.args.index < length c.self.inside.points.items = omega (arith, count, inv.5, fits.count, c.requires.index) in
-    let contents = contents_at g.row.PAGES c.args.index c.self.inside.points.items c.args.self.now inv.7 points there in
+    let there : c.args.index < length c.self.inside.points = omega (arith, count, inv.5, fits.count, c.requires.index) in
+    let contents = contents_at g.row.PAGES c.args.index c.self.inside.points c.args.self.now inv.7 points there in
     let cell = c.requires.cell in
     let inside = rw c.in-Byte.is at cell in
     let place : c.in-Byte.address / 4096 < length c.args.staged.now.pages.items = omega (arith, fits.pages_count, inside) in
     let slot = slot_is c.args.staged.now.pages.items (c.in-Byte.address / 4096) c.index.result.now None place c.index.ensures c.in-None.is in
-    let point = c.index-point.ensures ∙ get_or_default c.self.inside.points.items c.args.index _ blank there ∙ ap (λ ps. get_or ps c.args.index blank) points in
-    c.content.ensures ∙ ap (get (ram_byte c.in-Byte.address)) point
+    ap byte (c.byte-in-None.ensures ∙ ap (λ ps. get_or (get_or ps c.args.index blank).memory.ram c.in-Byte.address 0) points)
     ∙ sym (byte_at g.row.PAGES c.args.index c.args.self.now c.args.staged.now fits c.requires.index (get_or c.args.self.now.points c.args.index blank) contents c.in-Byte.address None slot)
     ∙ ap (λ x. get (cell_of x) (placed c.args.staged.now c.args.index (get_or c.args.self.now.points c.args.index blank))) (sym c.in-Byte.is)
 
@@ -47,8 +45,8 @@ returns-in-Some-index g c =
     let fits = c.requires.fits in
     let points = ap (λ (r : Recording). r.points) c.self.view_is in
     let count = ap (λ (r : Recording). length r.intervals) c.self.view_is in
-    let there : c.args.index < length c.self.inside.points.items = omega (arith, count, inv.5, fits.count, c.requires.index) in
-    let contents = contents_at g.row.PAGES c.args.index c.self.inside.points.items c.args.self.now inv.7 points there in
+    let there : c.args.index < length c.self.inside.points = omega (arith, count, inv.5, fits.count, c.requires.index) in
+    let contents = contents_at g.row.PAGES c.args.index c.self.inside.points c.args.self.now inv.7 points there in
     let cell = c.requires.cell in
     let bounds = rw c.in-Level.is at cell in
     let place : c.in-Level.level < length c.args.staged.now.levels.items = omega (arith, fits.levels_count, bounds.1) in
@@ -63,13 +61,12 @@ returns-in-None-index g c =
     let fits = c.requires.fits in
     let points = ap (λ (r : Recording). r.points) c.self.view_is in
     let count = ap (λ (r : Recording). length r.intervals) c.self.view_is in
-    let there : c.args.index < length c.self.inside.points.items = omega (arith, count, inv.5, fits.count, c.requires.index) in
-    let contents = contents_at g.row.PAGES c.args.index c.self.inside.points.items c.args.self.now inv.7 points there in
+    let there : c.args.index < length c.self.inside.points = omega (arith, count, inv.5, fits.count, c.requires.index) in
+    let contents = contents_at g.row.PAGES c.args.index c.self.inside.points c.args.self.now inv.7 points there in
     let cell = c.requires.cell in
     let bounds = rw c.in-Level.is at cell in
     let place : c.in-Level.level < length c.args.staged.now.levels.items = omega (arith, fits.levels_count, bounds.1) in
     let slot = slot_is c.args.staged.now.levels.items c.in-Level.level c.index-in-Level.result.now None place c.index-in-Level.ensures c.in-None-index.is in
-    let point = c.index-point.ensures ∙ get_or_default c.self.inside.points.items c.args.index _ blank there ∙ ap (λ ps. get_or ps c.args.index blank) points in
-    c.content-in-None-index.ensures ∙ ap (get (pending_level c.in-Level.level)) point
+    ap held (c.is_pending-in-None-index.ensures ∙ ap₂ (λ ps l. get_or (get_or ps c.args.index blank).memory.pending l false) points c.level_numbered.ensures)
     ∙ sym (level_at g.row.PAGES c.args.index c.args.self.now c.args.staged.now fits c.requires.index (get_or c.args.self.now.points c.args.index blank) contents c.in-Level.level None bounds.1 slot)
     ∙ ap (λ x. get (cell_of x) (placed c.args.staged.now c.args.index (get_or c.args.self.now.points c.args.index blank))) (sym c.in-Level.is)

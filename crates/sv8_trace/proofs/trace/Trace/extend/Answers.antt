@@ -1,5 +1,4 @@
-use Rattle.std.proofs.Common.{rules, ◌≡◌, ◌+◌, ◌*◌, ◌<◌, ◌≤◌, ◌++◌, ◌∷◌, [], ap, ap₂, ◌∙◌, length, get_or, arith, subst}
-use Rattle.std.proofs.lemmas.List.{get_or_default}
+use Rattle.std.proofs.Common.{rules, ◌≡◌, ◌+◌, ◌*◌, ◌≤◌, ◌++◌, ◌∷◌, [], ap, ap₂, ◌∙◌, length, get_or, arith, subst}
 use Rattle.sv8_time.specs.Schedule.{bytes_below}
 use Rattle.sv8_trace.specs.Recorder.{steps_on, IsRecorded}
 use Rattle.sv8_trace.specs.Recording.{Recording, blank, last_point}
@@ -16,8 +15,7 @@ returns-clause-extended g c =
     let size : c.len-count.result ≡ length c.self.inside.intervals.items = search rules in
     let count : c.len-count.result ≡ length old.intervals = size ∙ ap length intervals in
     let long : length old.points ≡ length old.intervals + 1 = omega (arith, ap length points, ap length intervals, inv.5) in
-    let there : c.len-count.result < length c.self.inside.points.items = omega (arith, size, inv.5) in
-    let first : c.in_ok-machine.machine ≡ last_point old = c.in_ok-machine.ensures ∙ c.index.ensures ∙ get_or_default c.self.inside.points.items c.len-count.result _ blank there ∙ ap₂ (λ ps i. get_or ps i blank) points count in
+    let first : c.in_ok-machine.machine ≡ last_point old = c.in_ok-machine.ensures ∙ ap₂ (λ ps i. get_or ps i blank) points count in
     let n : k * c.len-count.result ≡ k * length old.intervals = ap (λ x. k * x) count in
     extended_is g.row.NW g.row.PAGES k inv.3 c.args.timeline.now old c.add.new.self c.in_ok-machine-2.machine c.in_ok-machine-2.interval long (c.in_ok-add.ensures.points ∙ ap (λ ps. ps ++ c.in_ok-machine-2.machine ∷ []) points) (c.in_ok-add.ensures.intervals ∙ ap (λ is. is ++ c.in_ok-machine-2.interval ∷ []) intervals)
     (c.in_ok-machine-2.ensures.state ∙ ap₂ (λ x s. steps_on g.row.NW g.row.PAGES c.args.timeline.now x s k) n first)

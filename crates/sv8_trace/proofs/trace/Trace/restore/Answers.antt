@@ -1,5 +1,4 @@
-use Rattle.std.proofs.Common.{rules, ◌≡◌, ◌/◌, ◌<◌, min, length, get_or, ap, ap₂, sym, ◌∙◌, arith}
-use Rattle.std.proofs.lemmas.List.{get_or_default}
+use Rattle.std.proofs.Common.{rules, ◌≡◌, ◌/◌, min, length, get_or, ap, ap₂, sym, ◌∙◌}
 use Rattle.std.proofs.Math.Nat.{mul-div_cancel_left}
 use Rattle.sv8_history.specs.Growing.{restored}
 use Rattle.sv8_trace.specs.Recording.{Recording, blank}
@@ -13,6 +12,5 @@ returns g c =
     let count = ap (λ (r : Recording). length r.intervals) c.self.view_is in
     let long : c.len-count.result ≡ length c.self.inside.intervals.items = search rules in
     let index : c.min-index.result ≡ min (length c.args.self.now.intervals) (c.args.step / k) = c.min-index.ensures ∙ ap (λ n. min n (c.args.step / k)) (long ∙ count) in
-    let there : c.min-index.result < length c.self.inside.points.items = omega (arith, c.min-index.ensures, long, inv.5) in
     let same : restored k (length c.args.self.now.intervals) c.args.step / k ≡ min (length c.args.self.now.intervals) (c.args.step / k) = mul-div_cancel_left (min (length c.args.self.now.intervals) (c.args.step / k)) inv.3 in
-    c.in_ok-machine.ensures ∙ c.index.ensures ∙ get_or_default c.self.inside.points.items c.min-index.result _ blank there ∙ ap₂ (λ ps i. get_or ps i blank) points (index ∙ sym same)
+    c.in_ok-machine.ensures ∙ ap₂ (λ ps i. get_or ps i blank) points (index ∙ sym same)

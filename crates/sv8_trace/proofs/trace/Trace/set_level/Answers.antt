@@ -1,5 +1,6 @@
 use Rattle.std.proofs.Common.{◌≡◌, ℕ, ◌+◌, ◌<◌, ◌≤◌, ◌&&◌, false, cond, leb, ltb, Some, None, length, get_or, set, map, take, ap, sym, ◌∙◌, arith, refl}
 use Rattle.std.specs.Vec.{with_item}
+use Rattle.sv8_cpu.specs.State.{State}
 use Rattle.sv8_trace.specs.Recording.{Recording, blank}
 use Rattle.sv8_trace.specs.Prepared.{placed_levels}
 use Rattle.sv8_trace.proofs.Preparing.{contents_at, slot_is, gathered_level, level_of, level_set}
@@ -16,12 +17,12 @@ has_level g c i h =
     let length_points = ap (λ (r : Recording). length r.points) c.self.view_is in
     let count = ap (λ (r : Recording). length r.intervals) c.self.view_is in
     let place : c.args.level < length c.args.staged.now.levels.items = omega (arith, fits.levels_count, c.requires.level) in
-    let there : i < length c.self.inside.points.items = omega (arith, count, inv.5, fits.count, h) in
-    let contents = contents_at g.row.PAGES i c.self.inside.points.items c.args.self.now inv.7 points there in
+    let there : i < length c.self.inside.points = omega (arith, count, inv.5, fits.count, h) in
+    let contents = contents_at g.row.PAGES i c.self.inside.points c.args.self.now inv.7 points there in
     elim c.match-take.branch [
       | in-Some w ↦ sym (level_of g.row.PAGES i c.args.level c.args.self.now c.args.staged.now (get_or c.args.self.now.points i blank) contents c.requires.level (Some c.match-take.column)
           (slot_is c.args.staged.now.levels.items c.args.level c.index_mut.result.now (Some c.match-take.column) place c.index_mut.ensures.value (sym c.take.ensures.value ∙ w.in-Some.is ∙ ap Some (sym w.column-is))))
-      | in-None+in_ok-column-in-None w ↦ gathered_level c.args.level (c.args.staged.now.count + 1) i c.args.self.now.points c.match-take.column (w.column-is ∙ w.in_ok-column-in-None.ensures ∙ ap (λ l. map (λ s. get_or s.memory.pending l false) (take (c.args.staged.now.count + 1) c.args.self.now.points)) w.level_numbered.ensures) (omega arith) (omega (arith, fits.count, count, length_points, inv.5))
+      | in-None+in_ok-column-in-None w ↦ gathered_level c.args.level (c.args.staged.now.count + 1) i c.args.self.now.points c.match-take.column (w.column-is ∙ w.in_ok-column-in-None.ensures ∙ ap (λ l. map (λ s. get_or s.memory.pending l false) (take (c.args.staged.now.count + 1) c.self.inside.points)) w.level_numbered.ensures ∙ ap (λ ps. map (λ (s : State). get_or s.memory.pending c.args.level false) (take (c.args.staged.now.count + 1) ps)) points) (omega arith) (omega (arith, fits.count, count, length_points, inv.5))
           ∙ sym (level_of g.row.PAGES i c.args.level c.args.self.now c.args.staged.now (get_or c.args.self.now.points i blank) contents c.requires.level None
           (slot_is c.args.staged.now.levels.items c.args.level c.index_mut.result.now None place c.index_mut.ensures.value (sym c.take.ensures.value ∙ w.in-None.is)))
     ]

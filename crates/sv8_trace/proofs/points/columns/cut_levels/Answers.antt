@@ -1,0 +1,10 @@
+use Rattle.std.proofs.Common.{rules, arith, ◌≡◌, ◌<◌, length}
+use Rattle.std.proofs.lemmas.List.Edits.{map_over_more}
+use Rattle.sv8_trace.specs.Overlaid.{cut_column}
+use Rattle.sv8_trace.proofs.points.columns.cut_levels.Goals as goal
+
+pub loop-index-preserved : goal.loop-index-preserved
+loop-index-preserved c =
+    let size : c.len-index-end.result ≡ length c.args.places.now.items = search rules in
+    let below : c.loop-index.index < length c.args.places.now.items = omega (arith, size, c.loop-index-test.true) in
+    rw c.cut_level.ensures (map_over_more (cut_column c.args.count) c.args.places.now.items c.loop-index.places.items c.loop-index.index c.index_mut.result.now below c.loop-index.invariant c.index_mut.ensures.value)
