@@ -13,6 +13,9 @@ use Rattle.sv8_trace.specs.Recorder.{steps_on, counted_by, RaisedUpTo}
 use Rattle.sv8_trace.specs.Recording.{Recording, recorded, trace_of, IsExtended}
 use Rattle.sv8_bench.specs.Kept.{Kept}
 use Rattle.sv8_bench.specs.Shown.{machine_state}
+use Rattle.sv8_bench.specs.Walks.{IsPlaced}
+use Rattle.sv8_bench.specs.declared.walk.Place.{Place}
+use Rattle.sv8_bench.specs.declared.walk.Place.TheVariants.{Restored}
 use Rattle.sv8_bench.specs.Workbench.{Workbench, checkpoints, run_of_kept, IsRun}
 use Rattle.sv8_bench.proofs.Queried.{full, run_further, extended_keeps}
 
@@ -83,3 +86,38 @@ run_same k kept old new before after run e = record {
   sound = run.sound;
   trace = subst (λ (r : Recording). IsTraceOf (machine kept.windows kept.pages) k (run_of_kept kept run.events) (trace_of kept.windows kept.pages k r)) (sym e) run.trace;
 }
+
+-- ---- several steps
+
+-- a step below the next checkpoint leaves the count of checkpoints
+pub none_more : (k count n step : ℕ) → 0 < k → n < step → step / k ≤ count → max count ((n + 1) / k) ≡ count
+none_more k count n step pos below all =
+    let most : (n + 1) / k ≤ count = div_up k count n step pos below all in
+    omega (arith, most)
+  where
+    div_up : (k count n step : ℕ) → 0 < k → n < step → step / k ≤ count → (n + 1) / k ≤ count
+    div_up k count n step pos below all =
+        let over : step < (count + 1) * k = (div-lt_iff_lt-mul pos).0 (omega (arith, all)) in
+        let under : (n + 1) / k < count + 1 = (div-lt_iff_lt-mul pos).1 (omega (arith, over, below)) in
+        omega (arith, under)
+
+-- one step more
+pub step_counted : (n from first now new : ℕ) → from ≤ n → now ≡ counted_by (n - from) first → new ≡ counted now → new ≡ counted_by (n + 1 - from) first
+step_counted n from first now new low e f =
+    let more : suc (n - from) ≡ n + 1 - from = omega (arith, low) in
+    f ∙ ap counted e ∙ ap (λ x. counted_by x first) more
+
+-- a step that is not below the last checkpoint, where another one can follow, is its step
+pub at_the_last : (k n last : ℕ) → last + k ≤ 1000000 → last ≤ n → (n ≤ last) ⊎ (1000000 < last + k) → n ≡ last
+at_the_last k n last room low (inl high) = omega (arith, low, high)
+at_the_last k n last room low (inr over) = absurd (omega (arith, room, over))
+
+-- where a walk stands that has the machine alone
+pub placed_restored : {windows pages : ℕ} (k : ℕ) (w : Workbench) (n : ℕ) (p : Place windows pages) (s : State) → p ≡ Restored s → IsPlaced k w n p
+    → (n ≤ recorded k w.recording) ⊎ (1000000 < recorded k w.recording + k)
+placed_restored {windows} {pages} k w n p s e h = subst (λ (q : Place windows pages). IsPlaced k w n q) e h
+
+-- a step that was tried after others
+pub raised_tried : (n from all first now new : ℕ) → from ≤ n → n < all → now ≡ counted_by (n - from) first → (new ≡ now) ⊎ (new ≡ counted now) → RaisedUpTo (all - from) first new
+raised_tried n from all first now new low below e (inl same) = (n - from, omega (arith, below), same ∙ e)
+raised_tried n from all first now new low below e (inr more) = (n + 1 - from, omega (arith, below, low), step_counted n from first now new low e more)

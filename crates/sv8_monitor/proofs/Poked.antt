@@ -57,11 +57,12 @@ alone_2 : (p q r : BytePoke) (ps : List BytePoke) → AreAbove (p.address + 4) p
 alone_2 p q r [] h = refl
 alone_2 p q r (s ∷ ps) h = apart p s h.0
 
-module _ (step a : ℕ) (aligned : a % 4 ≡ 0) (rest : List BytePoke) (above : AreAbove (a + 4) rest) where
-  -- the line of a byte within the word, and what follows it
-  within : (i : ℕ) (b : Option ℕ) (ps : List BytePoke) → 0 < i → i < 4 → pokes_text (poked_from step (a + i) (b ∷ []) ++ ps) ≡ some_line step (a + i) b ++ pokes_text ps
-  within i None ps pos few = refl
-  within i (Some v) ps pos few = single (poke_of step (a + i) v) ps (inside (poke_of step (a + i) v) ps (not_aligned i pos few))
-    where
-      not_aligned : (i : ℕ) → 0 < i → i < 4 → ((a + i) % 4 == 0) ≡ false
-      not_aligned i pos few = search (arith, tests, aligned, pos, few)
+module _ (step a : ℕ) (aligned : a % 4 ≡ 0) where
+  not_aligned : (i : ℕ) → 0 < i → i < 4 → ((a + i) % 4 == 0) ≡ false
+  not_aligned i pos few = search (arith, tests, aligned, pos, few)
+
+  -- the line of a byte behind the first of its word
+  later : (i : ℕ) (b : Option ℕ) (ps qs : List BytePoke) → 0 < i → i < 4 → qs ≡ poked_from step (a + i) (b ∷ []) ++ ps → pokes_text qs ≡ some_line step (a + i) b ++ pokes_text ps
+  later i None ps qs pos few e = ap pokes_text e
+  later i (Some v) ps qs pos few e =
+      ap pokes_text e ∙ single (poke_of step (a + i) v) ps (inside (poke_of step (a + i) v) ps (not_aligned i pos few))

@@ -186,7 +186,7 @@ fn add_request(text: &mut Text, request: &Request)
     text.add(b"irq ");
     text.add_decimal(request.step);
     text.add(b" ");
-    text.add_decimal(request.level);
+    text.add_decimal(u32::from(request.level.number()));
     text.add(b"\n");
 }
 

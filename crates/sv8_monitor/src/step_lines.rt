@@ -9,7 +9,7 @@ use crate::found::Found;
 use std::io::Write;
 use sv8_phys::AccessKind;
 use sv8_shell::put::{WriteFault, make_room};
-use sv8_shell::text::{Text, hex_byte};
+use sv8_shell::text::{Text, hex_byte, hex_digit};
 use sv8_watch::{Access, Fetch, Happening, Outcome};
 
 /// How long a line is at most.

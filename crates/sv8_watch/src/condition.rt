@@ -38,6 +38,13 @@ pub enum Condition {
     Every(u32),
 }
 
+/// Any step that traps, where a condition is wanted and none is there yet.
+impl Default for Condition {
+    fn default() -> Condition {
+        Condition::Trap
+    }
+}
+
 fn loads(kind: AccessKind) -> bool
     ensures { result ≡ loads kind }
 {

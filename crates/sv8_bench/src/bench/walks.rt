@@ -31,9 +31,11 @@ impl<const NW: usize, const PAGES: usize, const K: u32> Bench<NW, PAGES, K> {
         ensures answered { OnOk result (IsAnswered K step self.old self.new) }
         ensures given_up { IsGivenUp K step self.old self.new }
     {
+        let _trace = &self.trace;
         self.record_below(step)?;
-        let walk = self.restored(step)?;
-        self.walk_to(walk, step, watch)
+        let begun = self.restored(step)?;
+        let walk = self.walk_to(begun, step, watch)?;
+        Ok(walk)
     }
 
     /// Makes the next step of a walk. `watch` has afterwards what the step touches, and what an observer sees of it.
@@ -98,6 +100,7 @@ impl<const NW: usize, const PAGES: usize, const K: u32> Bench<NW, PAGES, K> {
         ensures counted { OnOk result (self.new.worked ≡ counted_by (step - walk.entry.step) self.old.worked) }
         ensures raised { RaisedUpTo (step - walk.entry.step) self.old.worked self.new.worked }
     {
+        let _trace = &self.trace;
         let mut walk = walk;
         while walk.step() < step {
             walk = self.walk_on(walk, watch)?;

@@ -11,7 +11,7 @@ watch-requires g c =
     let inv = c.self.invariant in
     let kept : Kept = record { windows = g.row.NW; pages = g.row.PAGES; source = c.self.inside.source; timeline = c.self.inside.timeline } in
     let state : c.args.machine ≡ machine_state kept c.args.step = c.requires.state ∙ sym (ap (λ (w : Workbench). machine_state w.kept c.args.step) c.self.view_is) in
-    (inv.7, state_fed kept c.args.step c.args.machine state)
+    (omega arith, (inv.7, state_fed kept c.args.step c.args.machine state))
 
 pub returns-clause-walk : goal.returns-clause-walk
 returns-clause-walk g c =
