@@ -1,15 +1,21 @@
 //! Tests of the calls of crates below the commands: lines, statements and sources, translations and probes, which
 //! instructions have a way of their own, what a machine has put out and what is seen of its steps, and the workbench
-//! with its edits and its recorded run. These stand here, and not in the crates that they test, as each
+//! with its edits and its recorded run; where addresses lie, and in what two machines differ. These stand here, and not in the crates that they test, as each
 //! crate with tests is proved twice.
 #![tactic(auto)]
 
+#[cfg(test)]
+mod differences;
 #[cfg(test)]
 mod frequent;
 #[cfg(test)]
 mod lines;
 #[cfg(test)]
 mod output;
+#[cfg(test)]
+mod places;
+#[cfg(test)]
+mod processors;
 #[cfg(test)]
 mod recorded;
 #[cfg(test)]

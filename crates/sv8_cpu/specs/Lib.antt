@@ -3,6 +3,7 @@ pub mod Access
 pub mod Step
 pub mod Events
 pub mod State
+pub mod Sameness
 pub mod Run
 pub mod Recorded
 pub mod RecordedLaws

@@ -14,5 +14,5 @@ mod spaces;
 mod work;
 
 pub use machine::Machine;
-pub use sv8_mmu::{Fault, Mmu};
+pub use sv8_mmu::{AccessPermissions, Fault, Mmu, PagePlace, Place, TableLevel};
 pub use work::Work;

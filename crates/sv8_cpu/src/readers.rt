@@ -1,19 +1,22 @@
 //! What is read of a machine, and what its keeper does with its state.
 
-ghost use Rattle.std.specs.Prelude.{◌≡◌, ◌<◌, ◌≤◌, ◌%◌, ◌/◌, length, drop, false, option_map, IfOk, slice_index_or, slice_set};
+ghost use Rattle.std.specs.Prelude.{◌≡◌, ◌<◌, ◌≤◌, ◌%◌, ◌/◌, ◌^◌, length, drop, false, option_map, IfOk, IfSome, MatchBool, slice_index_or, slice_set};
 ghost use Rattle.sv8_model.specs.Levels.{levels_word};
 ghost use Rattle.sv8_model.specs.Outside.{word_of};
 ghost use Rattle.sv8_time.specs.Schedule.{bytes_below};
 ghost use Rattle.sv8_phys.specs.Memory.{ram_size, page_of, with_page};
 ghost use Rattle.sv8_phys.specs.Contents.{AreContents};
+ghost use Rattle.sv8_phys.specs.Differences.{next_difference};
 ghost use Rattle.sv8_phys.specs.Ends.{IsEnd};
 ghost use Rattle.sv8_phys.specs.Pieces.{piece_of};
+ghost use Rattle.sv8_mmu.specs.Place.{place_of};
+ghost use Rattle.sv8_cpu.specs.Sameness.{IsSameProcessor};
 ghost use Rattle.sv8_cpu.specs.State.{waiting};
 
 use crate::machine::Machine;
 use crate::parts::Parts;
 use std::alloc::{AllocError, Global};
-use sv8_mmu::Mmu;
+use sv8_mmu::{Mmu, Place, place_of};
 use sv8_model::Level;
 use sv8_phys::{OutputPlace, Page, StepTouches, Timer};
 use sv8_regs::Regs;
@@ -62,6 +65,27 @@ impl<const NW: usize, const PAGES: usize> Machine<NW, PAGES> {
         ensures { result ≡ self.now.mmu }
     {
         self.parts.memory.mmu()
+    }
+
+    /// Where a virtual address lies by the registers of the memory management unit and the tables in RAM as they stand (Appendix
+    /// H): the address itself where addresses are not translated, else what the entry of its page maps it to. `None` where the
+    /// walk from the context table on meets an entry that is invalid (ET 0), reserved (ET 3), a pointer in a table of level 3, or
+    /// not in RAM. It is no access: nothing is checked, marked or recorded, and whether RAM or a device is there is not asked.
+    pub fn place(&self, va: u32) -> Option<Place>
+        ensures value { result ≡ place_of (ram_size PAGES) self.now.mmu self.now.memory.ram va }
+        ensures offset { IfSome result (λ p. p.pa % 4096 ≡ va % 4096) }
+        ensures small { IfSome result (λ p. p.pa < 2 ^ 36) }
+    {
+        place_of(&self.mmu(), self.parts.memory.phys(), va)
+    }
+
+    /// Whether another machine has the same processor: the same mode (it runs, or it is in error mode), PC, nPC, annul flag,
+    /// registers of all windows and globals, PSR, WIM, TBR and Y, and the same five registers of the memory management unit. RAM
+    /// and the devices are not compared.
+    pub fn has_same_processor(&self, other: &Machine<NW, PAGES>) -> bool
+        ensures { MatchBool result (IsSameProcessor self.now other.now) (IsSameProcessor self.now other.now → ⊥) }
+    {
+        self.mmu().is_same(&other.mmu()) && self.parts.processor.is_same(&other.parts.processor)
     }
 
     /// The timer.
@@ -127,6 +151,20 @@ impl<const NW: usize, const PAGES: usize> Machine<NW, PAGES> {
         ensures { result ≡ word_of self.now.memory.ram (at / 4) }
     {
         self.parts.memory.phys().word(at)
+    }
+
+    /// The physical address of the first word of RAM, from the word at an address on, that is another one in a second machine.
+    /// `None` where there is no such word, and where the address is behind RAM. A caller that goes on from the word behind each
+    /// one found gets all that differ; `word` reads both.
+    pub fn next_difference(&self, other: &Machine<NW, PAGES>, from: u32) -> Option<u32>
+        requires { from % 4 ≡ 0 }
+        ensures value { result ≡ next_difference (ram_size PAGES) self.now.memory.ram other.now.memory.ram from }
+        ensures word { IfSome result (λ at. (at % 4 ≡ 0) × (at < ram_size PAGES)) }
+    {
+        self.parts
+            .memory
+            .phys()
+            .next_difference(other.parts.memory.phys(), from)
     }
 
     /// The byte of RAM at a physical address.

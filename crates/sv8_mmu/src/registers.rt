@@ -1,6 +1,6 @@
 //! The registers of the memory management unit, and the faults that they record.
 
-ghost use Rattle.std.specs.Prelude.{◌≡◌, ◌≢◌, false, None};
+ghost use Rattle.std.specs.Prelude.{◌≡◌, ◌≢◌, false, None, MatchBool};
 ghost use Rattle.sv8_mmu.specs.Registers.{registers_at_reset, translates, has_no_fault, table_pointer_address, register_at, after_read, is_register, after_write, has_fault, status_of, recorded};
 
 use crate::access_type::AccessType;
@@ -78,6 +78,19 @@ impl Mmu {
             fault_status: 0,
             fault_address: 0,
         }
+    }
+
+    /// Whether each of the five registers is the same as in a second unit.
+    pub fn is_same(&self, other: &Mmu) -> bool
+        ensures { MatchBool result (self.now ≡ other.now) (self.now ≢ other.now) }
+    {
+        if self.control != other.control || self.context != other.context {
+            return false;
+        }
+        if self.fault_status != other.fault_status || self.fault_address != other.fault_address {
+            return false;
+        }
+        self.table_pointer == other.table_pointer
     }
 
     /// Whether addresses are translated: E is set.

@@ -85,7 +85,7 @@ joined : (ram other : List ℕ) (p rest count l from limit : ℕ) (r : Option �
     → Continues ram other p rest count l r
     → p ≡ from / 4096 → rest ≡ limit / 4 - (from / 4096 * 4096 + 4096) / 4
     → MatchOption (option_map (λ k. 4 * k) r) (next_difference limit ram other from ≡ next_difference limit ram other (from / 4096 * 4096 + 4096))
-      (λ at. next_difference limit ram other from ≡ Some (from / 4096 * 4096 + at))
+    (λ at. next_difference limit ram other from ≡ Some (from / 4096 * 4096 + at))
 joined ram other p rest count l from limit None all h page left =
     let next : 1024 * p + 1024 ≡ (from / 4096 * 4096 + 4096) / 4 = omega arith in
     ap (option_map (λ k. 4 * k)) (all ∙ h ∙ ap₂ (differing_word ram other) left next)
@@ -97,7 +97,7 @@ joined ram other p rest count l from limit (Some w) all h page left =
 pub in_page : (ram other : List ℕ) (limit from : ℕ) (r : Option ℕ) → limit % 4096 ≡ 0 → from < limit → from % 4 ≡ 0
     → r ≡ next_difference 4096 (page_of ram (from / 4096)) (page_of other (from / 4096)) (from % 4096)
     → MatchOption r (next_difference limit ram other from ≡ next_difference limit ram other (from / 4096 * 4096 + 4096))
-      (λ at. next_difference limit ram other from ≡ Some (from / 4096 * 4096 + at))
+    (λ at. next_difference limit ram other from ≡ Some (from / 4096 * 4096 + at))
 in_page ram other limit from r whole below aligned e =
     let p = from / 4096 in
     let l = from % 4096 / 4 in
@@ -108,7 +108,7 @@ in_page ram other limit from r whole below aligned e =
     let k : from / 4 ≡ 1024 * p + l = omega arith in
     let all : differing_word ram other (limit / 4 - from / 4) (from / 4) ≡ differing_word ram other (count + rest) (1024 * p + l) = ap₂ (differing_word ram other) n k in
     subst (λ r. MatchOption r (next_difference limit ram other from ≡ next_difference limit ram other (from / 4096 * 4096 + 4096))
-      (λ at. next_difference limit ram other from ≡ Some (from / 4096 * 4096 + at))) (sym e)
+    (λ at. next_difference limit ram other from ≡ Some (from / 4096 * 4096 + at))) (sym e)
     (joined ram other p rest count l from limit (differing_word (page_of ram p) (page_of other p) count l) all h refl refl)
 
 -- ---- what is found is the least
@@ -126,11 +126,15 @@ module _ (ram other : List ℕ) where
   ]
   word_more count k (Some w) e h =
       let low = h.0 in
-      let high = h.1 in
-      (omega (arith, low), omega (arith, high), h.2, λ j from below. elim (cases_eq j k) [
-        | inl here ↦ subst (λ j. word_of ram j ≡ word_of other j) (sym here) e
-        | inr behind ↦ h.3 j (omega arith) below
-      ])
+      let high = h.1 in (
+        omega (arith, low),
+        omega (arith, high),
+        h.2,
+        λ j from below. elim (cases_eq j k) [
+          | inl here ↦ subst (λ j. word_of ram j ≡ word_of other j) (sym here) e
+          | inr behind ↦ h.3 j (omega arith) below
+        ],
+      )
 
   least_word : (count k : ℕ) → IsLeast ram other count k (differing_word ram other count k)
   least_word zero k = subst (IsLeast ram other 0 k) (sym (none_left ram other k)) (λ j low high. absurd (omega arith))

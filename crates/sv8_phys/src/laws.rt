@@ -79,5 +79,4 @@ pub fn worked_accesses()
 /// all words from the address on are the same.
 pub fn differences_are_least()
     ensures { DifferencesAreLeast }
-{
-}
+{}

@@ -18,8 +18,8 @@ returns-in-Some g c =
     in_page c.args.self.now c.args.other.now (ram_size n) c.args.from _ (omega arith) c.requires.within c.requires.aligned
     (sym c.in-Some.is ∙ c.next_difference.ensures.value
     ∙ ap₂ (λ xs ys. next_difference 4096 xs ys (c.args.from % 4096))
-      (page ∙ ap (λ ram. page_of ram p) c.self.view_is)
-      (other_page ∙ ap (λ ram. page_of ram p) c.other.view_is))
+    (page ∙ ap (λ ram. page_of ram p) c.self.view_is)
+    (other_page ∙ ap (λ ram. page_of ram p) c.other.view_is))
 
 pub returns-in-None : goal.returns-in-None
 returns-in-None g c =
@@ -34,5 +34,5 @@ returns-in-None g c =
     in_page c.args.self.now c.args.other.now (ram_size n) c.args.from _ (omega arith) c.requires.within c.requires.aligned
     (sym c.in-None.is ∙ c.next_difference.ensures.value
     ∙ ap₂ (λ xs ys. next_difference 4096 xs ys (c.args.from % 4096))
-      (page ∙ ap (λ ram. page_of ram p) c.self.view_is)
-      (other_page ∙ ap (λ ram. page_of ram p) c.other.view_is))
+    (page ∙ ap (λ ram. page_of ram p) c.self.view_is)
+    (other_page ∙ ap (λ ram. page_of ram p) c.other.view_is))
