@@ -38,35 +38,41 @@ fn same_words(alloc: Global) -> Result<bool, Fail> {
     let memory = three_pages(alloc)?;
     let shared = memory.snapshot()?;
     let copied = poked(&memory, &[(0x1123, 7), (0x1123, 2)])?;
-    Ok(is_next(&memory, &memory, 0, None)
-        && is_next(&memory, &shared, 0, None)
-        && is_next(&memory, &copied, 0, None)
-        && is_next(&memory, &copied, 0x1120, None))
+    Ok(
+        is_next(&memory, &memory, 0, None)
+            && is_next(&memory, &shared, 0, None)
+            && is_next(&memory, &copied, 0, None)
+            && is_next(&memory, &copied, 0x1120, None),
+    )
 }
 
 /// Other words at both ends of RAM and of a page; each byte of a word counts. What lies below the address does not, nor what is behind RAM.
 fn other_words(alloc: Global) -> Result<bool, Fail> {
     let memory = three_pages(alloc)?;
     let other = poked(&memory, &[(0, 9), (0x0ffd, 9), (0x1002, 9), (0x2fff, 9)])?;
-    Ok(is_next(&memory, &other, 0, Some(0))
-        && is_next(&memory, &other, 4, Some(0x0ffc))
-        && is_next(&memory, &other, 0x0ffc, Some(0x0ffc))
-        && is_next(&memory, &other, 0x1000, Some(0x1000))
-        && is_next(&memory, &other, 0x1004, Some(0x2ffc))
-        && is_next(&memory, &other, 0x2000, Some(0x2ffc))
-        && is_next(&memory, &other, 0x2ffc, Some(0x2ffc))
-        && is_next(&memory, &other, 0x3000, None)
-        && is_next(&memory, &other, 0xffff_fffc, None))
+    Ok(
+        is_next(&memory, &other, 0, Some(0))
+            && is_next(&memory, &other, 4, Some(0x0ffc))
+            && is_next(&memory, &other, 0x0ffc, Some(0x0ffc))
+            && is_next(&memory, &other, 0x1000, Some(0x1000))
+            && is_next(&memory, &other, 0x1004, Some(0x2ffc))
+            && is_next(&memory, &other, 0x2000, Some(0x2ffc))
+            && is_next(&memory, &other, 0x2ffc, Some(0x2ffc))
+            && is_next(&memory, &other, 0x3000, None)
+            && is_next(&memory, &other, 0xffff_fffc, None),
+    )
 }
 
 /// A page that both share lies between.
 fn shared_between(alloc: Global) -> Result<bool, Fail> {
     let memory = three_pages(alloc)?;
     let other = poked(&memory, &[(0x0008, 9), (0x2008, 9)])?;
-    Ok(is_next(&memory, &other, 0, Some(8))
-        && is_next(&memory, &other, 0x000c, Some(0x2008))
-        && is_next(&memory, &other, 0x1000, Some(0x2008))
-        && is_next(&memory, &other, 0x200c, None))
+    Ok(
+        is_next(&memory, &other, 0, Some(8))
+            && is_next(&memory, &other, 0x000c, Some(0x2008))
+            && is_next(&memory, &other, 0x1000, Some(0x2008))
+            && is_next(&memory, &other, 0x200c, None),
+    )
 }
 
 #[test]

@@ -67,10 +67,12 @@ fn in_context(context: u32) -> Mmu {
 /// Whether an address lies in a page: at a physical address, by an entry of a level, with these access permissions.
 fn is_mapped(place: Option<Place>, pa: u64, level: TableLevel, access: u8) -> bool {
     match place {
-        Some(Place {
-            pa: at,
-            page: Some(page),
-        }) => at == pa && page.level == level && page.access.number() == access,
+        Some(
+            Place {
+                pa: at,
+                page: Some(page),
+            },
+        ) => at == pa && page.level == level && page.access.number() == access,
         _ => false,
     }
 }
@@ -213,12 +215,14 @@ fn a_machine_tells_places(alloc: Global) -> Result<bool, Fail> {
     let machine = translator(alloc)?;
     let before = is_plain(machine.place(0x1abc), 0x1abc);
     let machine = after_four(alloc, machine)?;
-    Ok(before
-        && is_mapped(machine.place(0x1abc), 0x1abc, TableLevel::Level3, 5)
-        && is_mapped(machine.place(0x10), 0x10, TableLevel::Level3, 3)
-        && machine.place(0x2000).is_none()
-        && machine.word(0x1904) == 0x116
-        && machine.mmu().fault_status == 0)
+    Ok(
+        before
+            && is_mapped(machine.place(0x1abc), 0x1abc, TableLevel::Level3, 5)
+            && is_mapped(machine.place(0x10), 0x10, TableLevel::Level3, 3)
+            && machine.place(0x2000).is_none()
+            && machine.word(0x1904) == 0x116
+            && machine.mmu().fault_status == 0,
+    )
 }
 
 #[test]

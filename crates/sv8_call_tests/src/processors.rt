@@ -118,10 +118,12 @@ fn error_modes(alloc: Global) -> Result<bool, Fail> {
     let first = after(alloc, &[b"nop", b"ta 1"], 9)?;
     let second = after(alloc, &[b"nop", b"ta 1"], 10)?;
     let other = after(alloc, &[b"mov 1, %l0", b"ta 1"], 9)?;
-    Ok(!first.is_running()
-        && !other.is_running()
-        && first.has_same_processor(&second)
-        && !first.has_same_processor(&other))
+    Ok(
+        !first.is_running()
+            && !other.is_running()
+            && first.has_same_processor(&second)
+            && !first.has_same_processor(&other),
+    )
 }
 
 #[test]
