@@ -10,6 +10,7 @@ ghost use Rattle.sv8_bench.specs.Faults.{edit_refusal};
 ghost use Rattle.sv8_bench.specs.Kept.{edited};
 ghost use Rattle.sv8_bench.specs.Workbench.{IsRun, IsNew, IsEdited};
 
+mod copies;
 mod edits;
 mod patches;
 mod queries;
