@@ -67,6 +67,16 @@ fn serve<const NW: usize, R: Read, W: Write>(alloc: Global, reader: &mut R, writ
     run_on(alloc, &mut bench, reader, writer)
 }
 
+/// Calls `serve` with the number of windows that was chosen.
+macro_rules! serve_with {
+    ($windows:expr, $alloc:expr, $reader:expr, $writer:expr, [$($count:literal)*]) => {
+        match $windows {
+            $($count => serve::<$count, _, _>($alloc, $reader, $writer),)*
+            _ => serve::<8, _, _>($alloc, $reader, $writer),
+        }
+    };
+}
+
 impl Program for Sparc8 {
     ghost use Rattle.std.specs.Prelude.{codes};
     ghost use Rattle.sv8_bench.specs.Kept.{empty};
@@ -90,13 +100,7 @@ impl Program for Sparc8 {
         reader: &mut R,
         writer: &mut W,
     ) -> End {
-        match windows {
-            2 => serve::<2, _, _>(alloc, reader, writer),
-            4 => serve::<4, _, _>(alloc, reader, writer),
-            16 => serve::<16, _, _>(alloc, reader, writer),
-            32 => serve::<32, _, _>(alloc, reader, writer),
-            _ => serve::<8, _, _>(alloc, reader, writer),
-        }
+        serve_with!(windows, alloc, reader, writer, [2 4 16 32])
     }
 }
 

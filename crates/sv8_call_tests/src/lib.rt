@@ -1,9 +1,11 @@
 //! Tests of the calls of crates below the commands: lines, statements and sources, translations and probes, which
-//! instructions have a way of their own, what a machine has put out and what is seen of its steps, and the workbench
-//! with its edits and its recorded run; where addresses lie, and in what two machines differ. These stand here, and not in the crates that they test, as each
-//! crate with tests is proved twice.
+//! instructions have a way of their own, what a machine has put out and what is seen of its steps, where addresses lie,
+//! in what two machines differ, and the workbench with its edits, its recorded run and its copies. These stand here,
+//! and not in the crates that they test, as each crate with tests is proved twice.
 #![tactic(auto)]
 
+#[cfg(test)]
+mod copies;
 #[cfg(test)]
 mod differences;
 #[cfg(test)]

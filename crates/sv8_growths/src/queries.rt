@@ -1,5 +1,5 @@
 //! Asks a workbench for registers, words and output between edits of its source and of its timeline: each query and each edit that is
-//! refused memory leaves the workbench as it was, with its counts, so that it has its answer when it is made once more.
+//! refused memory leaves the workbench as it was, with its counts, so that it has its answer when it is made once more. At last it is copied.
 
 use std::alloc::{AllocError, Global};
 use sv8_bench::{Bench, BenchFault};
@@ -177,6 +177,25 @@ fn new(alloc: Global) -> Result<Small, AllocError> {
     }
 }
 
+/// A copy of a workbench, at the second try where memory was refused at the first.
+fn copied(alloc: Global, bench: &Small) -> Result<Small, AllocError> {
+    match bench.copy(alloc) {
+        Ok(copy) => Ok(copy),
+        Err(_) => bench.copy(alloc),
+    }
+}
+
+/// Whether a copy has the counts of its workbench, and answers as it does.
+fn is_copied(alloc: Global, bench: &Small) -> bool {
+    match copied(alloc, bench) {
+        Ok(mut copy) => {
+            let counted = counts(&copy) == counts(bench);
+            is_done(alloc, &mut copy, Deed::Word(900, 0x104, 7)) && counted
+        }
+        Err(_) => false,
+    }
+}
+
 fn made(alloc: Global) -> Result<Option<Small>, AllocError> {
     let mut lines = Vec::new(alloc);
     for text in LINES {
@@ -198,5 +217,5 @@ pub fn keeps(alloc: Global) -> Result<bool, AllocError> {
     for deed in DEEDS {
         kept = is_done(alloc, &mut bench, *deed) && kept;
     }
-    Ok(kept)
+    Ok(kept && is_copied(alloc, &bench))
 }

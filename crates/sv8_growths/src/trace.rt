@@ -1,4 +1,4 @@
-//! Records a run, patches and cuts it: each call that is refused memory leaves the recorded run as it was, and each other one does what it
+//! Records a run, copies, patches and cuts it: each call that is refused memory leaves the recorded run as it was, and each other one does what it
 //! should.
 
 ghost use Rattle.std.specs.Prelude.{◌+◌, ◌≡◌, ◌<◌, ◌≤◌, IfOk};
@@ -398,6 +398,29 @@ fn begun(alloc: Global, source: &Source, timeline: &Timeline) -> Result<Small, A
     Ok(trace)
 }
 
+/// A copy of a recorded run, at the second try where memory was refused at the first.
+fn copied(alloc: Global, trace: &Small) -> Result<Small, AllocError> {
+    match trace.copy(alloc) {
+        Ok(copy) => Ok(copy),
+        Err(_) => trace.copy(alloc),
+    }
+}
+
+/// Whether each deed leads to what is due, and leaves a copy of the recorded run.
+fn leave_a_copy(alloc: Global, trace: &mut Small) -> bool {
+    let kept = Due {
+        recorded: 16,
+        ..FIRST
+    };
+    match copied(alloc, trace) {
+        Ok(copy) => {
+            let alike = is_as(alloc, &copy, kept) && is_as(alloc, trace, kept);
+            alike && are_done(alloc, trace) && is_as(alloc, &copy, kept)
+        }
+        Err(_) => false,
+    }
+}
+
 /// Whether each call is as it should be.
 fn are_kept(alloc: Global, trace: &mut Small, timeline: &Timeline) -> bool
     requires limit { timeline.now.limit ≡ 8192 }
@@ -408,7 +431,7 @@ fn are_kept(alloc: Global, trace: &mut Small, timeline: &Timeline) -> bool
     let second = is_longer(alloc, trace, timeline, 4);
     let third = is_longer(alloc, trace, timeline, 8);
     let fourth = is_longer(alloc, trace, timeline, 12);
-    fresh && first && second && third && fourth && are_done(alloc, trace)
+    fresh && first && second && third && fourth && leave_a_copy(alloc, trace)
 }
 
 /// Makes the next step of a draft, and watches it.
