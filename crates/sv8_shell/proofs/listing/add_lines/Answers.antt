@@ -1,8 +1,8 @@
-use Rattle.std.proofs.Common.{◌≡◌, ◌∙◌, ◌+◌, ◌-◌, ◌<◌, ◌≤◌, ℕ, List, take, drop, length, get_or, refl, sym, ap, arith, length-take}
+use Rattle.std.proofs.Common.{◌≡◌, ◌∙◌, ◌+◌, ◌-◌, ◌<◌, ◌≤◌, ℕ, List, take, drop, length, get_or, refl, sym, ap, subst, arith, length-take}
 use Rattle.std.proofs.lemmas.List.{length-drop, get_or-drop, get_or-take, take_all}
 use Rattle.sv8_source.specs.Listing.{ListedLine, listing}
 use Rattle.sv8_shell.specs.Text.{numbered_text, listing_line}
-use Rattle.sv8_shell.specs.Put.{no_line}
+use Rattle.sv8_shell.specs.Put.{no_line, Gained}
 use Rattle.sv8_shell.proofs.PutLemmas.{gained-none}
 use Rattle.sv8_shell.proofs.NumberedLemmas.{numbered-cut, numbered-next}
 use Rattle.sv8_shell.proofs.listing.add_lines.Goals as goal
@@ -49,4 +49,13 @@ loop-place-preserved g c =
     c.loop-place.invariant (rw is c.in-Ok.ensures))
 
 pub returns : goal.returns
-returns g c = c.loop-place.invariant
+unfolding asked
+returns g c =
+    let lines = listing c.args.bench.now.kept.source in
+    let from = c.args.from in
+    let all = asked lines from c.args.to in
+    let end : c.loop-place.place ≡ c.args.to = omega arith in
+    let whole : take (c.loop-place.place - from) all ≡ all = take_all (c.loop-place.place - from) all (omega (arith, end, length-take (c.args.to - from) (drop from lines))) in
+    subst
+    (λ (xs : List ListedLine). Gained (g.W.Write.contents c.args.writer.now) (g.W.Write.contents c.loop-place.writer) c.args.text.now c.loop-place.text (numbered_text listing_line (from + 1) xs)) whole
+    c.loop-place.invariant
