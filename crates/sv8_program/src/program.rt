@@ -27,12 +27,7 @@ pub trait Program {
         ensures { result.name.now ≡ NAME };
 
     /// Runs a script over so many register windows.
-    fn serve<R: Read, W: Write>(
-        alloc: Global,
-        windows: u32,
-        reader: &mut R,
-        writer: &mut W,
-    ) -> End
+    fn serve<R: Read, W: Write>(alloc: Global, windows: u32, reader: &mut R, writer: &mut W) -> End
         requires { IsTrue (is_window_count windows) }
         ensures run { IsTrue (is_run_end result) }
         ensures serves { Serves windows result (R.remaining reader.old) (R.remaining reader.new) (W.contents writer.old) (W.contents writer.new) };

@@ -23,10 +23,7 @@ pub struct Description {
 }
 
 /// The command line that the program takes, without the program's name in front.
-fn command_line<'a>(
-    alloc: Global,
-    description: Description,
-) -> Result<Command<'a>, AllocError>
+fn command_line<'a>(alloc: Global, description: Description) -> Result<Command<'a>, AllocError>
     ensures { IfOk result (λ c. IsCommandLine description.name.now (app_of c)) }
 {
     let windows = Arg::new(alloc, "windows")

@@ -190,7 +190,9 @@ impl<const NW: usize, const PAGES: usize, const K: u32> Bench<NW, PAGES, K> {
         ensures unmade { OnErr result (IsUnmade self.old self.new) }
     {
         let alloc = self.alloc;
-        let draft = self.trace.watch_step(alloc, draft, &self.timeline, watch, &mut self.work)?;
+        let draft = self
+            .trace
+            .watch_step(alloc, draft, &self.timeline, watch, &mut self.work)?;
         Ok(Walk {
             step: step + 1,
             place: Place::Drafted(draft),

@@ -25,10 +25,26 @@ step_drafted-requires g c =
     let state : c.in_ok-draft-in-Restored.draft.state ≡ machine_state kept n =
     ap (λ (d : Drafted). d.state) none ∙ last_is k inv.4 kept c.self.inside.trace c.self.inside.work inv.8 ∙ ap (machine_state kept) (sym at) in
     let counted : n ≡ recorded k c.self.inside.trace + c.in_ok-draft-in-Restored.draft.count =
-    let zero_is = ap (λ (d : Drafted). d.count) none in omega (arith, at, zero_is) in
-    (omega arith, (omega arith, (omega arith, (c.requires.within,
-    (subst (λ (w : Workbench). c.in_ok-draft-in-Restored.draft.state ≡ machine_state w.kept n) c.self.view_is state,
-    (subst (λ (w : Workbench). recorded k w.recording + k ≤ 1000000) c.self.view_is room,
-    (subst (λ (w : Workbench). IsDraft w.kept.windows w.kept.pages k w.kept.timeline w.recording c.in_ok-draft-in-Restored.draft) c.self.view_is
-    (c.in_ok-draft-in-Restored.ensures.draft c.self.inside.timeline),
-    subst (λ (w : Workbench). n ≡ recorded k w.recording + c.in_ok-draft-in-Restored.draft.count) c.self.view_is counted)))))))
+    let zero_is = ap (λ (d : Drafted). d.count) none in omega (arith, at, zero_is) in (
+      omega arith,
+      (
+        omega arith,
+        (
+          omega arith,
+          (
+            c.requires.within,
+            (
+              subst (λ (w : Workbench). c.in_ok-draft-in-Restored.draft.state ≡ machine_state w.kept n) c.self.view_is state,
+              (
+                subst (λ (w : Workbench). recorded k w.recording + k ≤ 1000000) c.self.view_is room,
+                (
+                  subst (λ (w : Workbench). IsDraft w.kept.windows w.kept.pages k w.kept.timeline w.recording c.in_ok-draft-in-Restored.draft) c.self.view_is
+                      (c.in_ok-draft-in-Restored.ensures.draft c.self.inside.timeline),
+                  subst (λ (w : Workbench). n ≡ recorded k w.recording + c.in_ok-draft-in-Restored.draft.count) c.self.view_is counted,
+                ),
+              ),
+            ),
+          ),
+        ),
+      ),
+    )
