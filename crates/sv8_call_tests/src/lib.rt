@@ -31,6 +31,8 @@ mod timelines;
 #[cfg(test)]
 mod translation;
 #[cfg(test)]
+mod walks;
+#[cfg(test)]
 mod watching;
 #[cfg(test)]
 mod workbench;

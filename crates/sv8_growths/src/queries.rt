@@ -1,8 +1,9 @@
 //! Asks a workbench for registers, words and output between edits of its source and of its timeline: each query and each edit that is
-//! refused memory leaves the workbench as it was, with its counts, so that it has its answer when it is made once more. At last it is copied.
+//! refused memory leaves the workbench as it was, with its counts, so that it has its answer when it is made once more. At last it is copied, and walked.
 
 use std::alloc::{AllocError, Global};
 use sv8_bench::{Bench, BenchFault};
+use sv8_phys::Watch;
 
 type Small = Bench<8, 2, 256>;
 
@@ -196,6 +197,34 @@ fn is_copied(alloc: Global, bench: &Small) -> bool {
     }
 }
 
+/// Whether a walk leads over the next checkpoint.
+fn walked(alloc: Global, bench: &mut Small) -> Result<bool, AllocError> {
+    let mut watch = Watch::new(alloc);
+    let walk = bench.walk(1_279, &mut watch)?;
+    let walk = bench.walk_on(walk, &mut watch)?;
+    let walk = bench.walk_on(walk, &mut watch)?;
+    Ok(walk.step() == 1_281 && bench.recorded() == 1_280 && walk.machine().word(0x104) == 7)
+}
+
+/// The same, at the second try where memory was refused at the first.
+fn is_walked(alloc: Global, bench: &mut Small) -> bool {
+    match walked(alloc, bench) {
+        Ok(led) => led,
+        Err(_) => matches!(walked(alloc, bench), Ok(true)),
+    }
+}
+
+/// Whether the names are told, at the second try where memory was refused at the first.
+fn is_named(bench: &Small) -> bool {
+    match bench.names() {
+        Ok(names) => names.len() == 1,
+        Err(_) => match bench.names() {
+            Ok(names) => names.len() == 1,
+            Err(_) => false,
+        },
+    }
+}
+
 fn made(alloc: Global) -> Result<Option<Small>, AllocError> {
     let mut lines = Vec::new(alloc);
     for text in LINES {
@@ -217,5 +246,6 @@ pub fn keeps(alloc: Global) -> Result<bool, AllocError> {
     for deed in DEEDS {
         kept = is_done(alloc, &mut bench, *deed) && kept;
     }
-    Ok(kept && is_copied(alloc, &bench))
+    let copied = is_copied(alloc, &bench) && is_named(&bench);
+    Ok(kept && copied && is_walked(alloc, &mut bench))
 }
