@@ -1,0 +1,45 @@
+-- What differs between a workbench and the one that was kept.
+use Rattle.std.specs.Prelude.{◌≡◌, ℕ, zero, suc, ◌+◌, ◌-◌, ◌*◌, ◌/◌, ◌<◌, ◌≤◌, ◌==◌, Bool, not, List, [], ◌∷◌, length, map, Option, Some, None, nat_lt, ◌||◌, if◌then◌else◌}
+use Rattle.sv8_model.specs.Outside.{word_of}
+use Rattle.sv8_cpu.specs.State.{State}
+use Rattle.sv8_cpu.specs.Sameness.{IsSameProcessor}
+use Rattle.sv8_bench.specs.declared.fault.BenchFault.{BenchFault}
+use Rattle.sv8_bench.specs.declared.fault.BenchFault.TheVariants.{StepTooLarge}
+use Rattle.sv8_bench.specs.Faults.{step_refusal}
+use Rattle.sv8_bench.specs.Kept.{Kept}
+use Rattle.sv8_bench.specs.Shown.{machine_state}
+use Rattle.sv8_monitor.specs.declared.difference.Difference.{Difference}
+use Rattle.sv8_monitor.specs.Search.{rising}
+
+abbrev pub range_refusal : ℕ → ℕ → Option BenchFault
+range_refusal from to = if nat_lt 1000000 from || nat_lt 1000000 to then Some StepTooLarge else None
+
+-- ---- processors
+
+-- both have the same processor at step n: all that `regs` shows of it but the step, and the registers of all windows
+abbrev pub AreAlike : Kept → Kept → ℕ → Type 0
+AreAlike before now n = IsSameProcessor (machine_state before n) (machine_state now n)
+
+-- the first step of a range at which they have not, or none
+abbrev pub IsParted : Kept → Kept → ℕ → ℕ → Option ℕ → Type 0
+IsParted before now from to (Some n) =
+    (from ≤ n) × (n ≤ to) × ((m : ℕ) → from ≤ m → m < n → AreAlike before now m) × (AreAlike before now n → ⊥)
+IsParted before now from to None = (m : ℕ) → from ≤ m → m ≤ to → AreAlike before now m
+
+-- the last step that has to be looked at for it
+abbrev pub parting : ℕ → Option ℕ → ℕ
+parting to None = to
+parting to (Some n) = n
+
+-- ---- words of RAM
+
+-- the word of this number is another one
+abbrev pub differs_at : List ℕ → List ℕ → ℕ → Bool
+differs_at before now i = not (word_of before i == word_of now i)
+
+abbrev pub difference_at : List ℕ → List ℕ → ℕ → Difference
+difference_at before now i = record { address = 4 * i; old = word_of before i; new = word_of now i }
+
+-- the words of RAM that differ, rising, and at most so many
+abbrev pub differences : List ℕ → List ℕ → ℕ → List Difference
+differences before now most = map (difference_at before now) (rising (differs_at before now) 0 (length now / 4) most)

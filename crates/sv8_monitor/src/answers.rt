@@ -1,0 +1,230 @@
+//! The answer to each question of one workbench.
+
+ghost use Rattle.std.specs.Prelude.{◌≡◌, ℕ, ◌+◌, ◌-◌, ◌*◌, ◌<◌, ◌≤◌, ◌++◌, length, map, OnOk, OnErr, IfOk, IfErr, IfSome, None};
+ghost use Rattle.sv8_source.specs.View.{named_of};
+ghost use Rattle.sv8_bench.specs.Faults.{step_refusal, IsQueryFault};
+ghost use Rattle.sv8_bench.specs.Workbench.{IsAnswered};
+ghost use Rattle.sv8_session.specs.Put.{Puts};
+ghost use Rattle.sv8_shell.specs.Put.{Replies};
+ghost use Rattle.sv8_shell.specs.Text.{ok_line};
+ghost use Rattle.sv8_monitor.specs.Answers.{steps_refusal, are_lines, lines_told, query_outcome};
+ghost use Rattle.sv8_monitor.specs.Events.{events_text};
+ghost use Rattle.sv8_monitor.specs.Search.{found_at, steps_told, are_inside};
+ghost use Rattle.sv8_monitor.specs.Texts.{steps_text, windows_text, place_text, names_text};
+ghost use Rattle.sv8_monitor.specs.declared.question.Query.TheVariants.{Steps, Windows, Where, Lines, Names, Events};
+
+use crate::conditions::Conditions;
+use crate::event_lines::put_events;
+use crate::found::Found;
+use crate::lines::{add_place, put_names};
+use crate::question::Query;
+use crate::search::steps;
+use crate::step_lines::put_steps;
+use crate::window_lines::put_windows;
+use std::io::Write;
+use sv8_bench::{Bench, BenchFault, DefinedName, LAST_STEP};
+use sv8_cpu::Place;
+use sv8_regs::Regs;
+use sv8_shell::listing::add_lines;
+use sv8_shell::put::{WriteFault, accept, done, refuse};
+use sv8_shell::refusal::refusal_of;
+use sv8_shell::text::Text;
+use sv8_time::Timeline;
+
+/// Answers a question of a workbench.
+pub fn answer_query<const NW: usize, const PAGES: usize, const K: u32, W: Write>(
+    bench: &mut Bench<NW, PAGES, K>,
+    writer: &mut W,
+    query: Query,
+) -> Result<(), WriteFault>
+    ensures { Replies result (W.contents writer.old) (W.contents writer.new) bench.old.kept (query_outcome query.entry bench.old.kept) bench.new.kept }
+{
+    match query {
+        Query::Steps {
+            from,
+            to,
+            count,
+            conditions,
+        } => answer_steps(bench, writer, from, to, count, conditions),
+        Query::Windows { step } => answer_windows(bench, writer, step),
+        Query::Where { step, address } => answer_where(bench, writer, step, address),
+        Query::Lines { first, last } => answer_lines(bench, writer, first, last),
+        Query::Names => answer_names(bench, writer),
+        Query::Events { first, last } => answer_events(bench, writer, first, last),
+    }
+}
+
+fn answer_steps<const NW: usize, const PAGES: usize, const K: u32, W: Write>(
+    bench: &mut Bench<NW, PAGES, K>,
+    writer: &mut W,
+    from: u32,
+    to: u32,
+    count: u32,
+    conditions: Conditions,
+) -> Result<(), WriteFault>
+    ensures { Replies result (W.contents writer.old) (W.contents writer.new) bench.old.kept
+        (query_outcome (Steps from to count conditions.entry) bench.old.kept) bench.new.kept }
+{
+    match steps(bench, from, to, count, conditions.as_slice()) {
+        Ok(found) => tell_steps(writer, found.as_slice()),
+        Err(fault) => refuse(writer, refusal_of(fault)),
+    }
+}
+
+fn tell_steps<W: Write>(writer: &mut W, found: &[Found]) -> Result<(), WriteFault>
+    ensures { Puts result (W.contents writer.old) (W.contents writer.new) (steps_text found.now ++ ok_line) }
+{
+    let mut text = Text::new();
+    match put_steps(writer, &mut text, found) {
+        Ok(()) => accept(writer, &mut text),
+        Err(fault) => Err(fault),
+    }
+}
+
+fn answer_windows<const NW: usize, const PAGES: usize, const K: u32, W: Write>(
+    bench: &mut Bench<NW, PAGES, K>,
+    writer: &mut W,
+    step: u32,
+) -> Result<(), WriteFault>
+    ensures { Replies result (W.contents writer.old) (W.contents writer.new) bench.old.kept (query_outcome (Windows step) bench.old.kept) bench.new.kept }
+{
+    match bench.machine(step) {
+        Ok(machine) => tell_windows(writer, machine.registers()),
+        Err(fault) => refuse(writer, refusal_of(fault)),
+    }
+}
+
+fn tell_windows<const NW: usize, W: Write>(
+    writer: &mut W,
+    registers: &Regs<NW>,
+) -> Result<(), WriteFault>
+    requires { NW ≤ 32 }
+    ensures { Puts result (W.contents writer.old) (W.contents writer.new) (windows_text NW registers.now ++ ok_line) }
+{
+    let mut text = Text::new();
+    match put_windows(writer, &mut text, registers) {
+        Ok(()) => accept(writer, &mut text),
+        Err(fault) => Err(fault),
+    }
+}
+
+fn answer_where<const NW: usize, const PAGES: usize, const K: u32, W: Write>(
+    bench: &mut Bench<NW, PAGES, K>,
+    writer: &mut W,
+    step: u32,
+    address: u32,
+) -> Result<(), WriteFault>
+    ensures { Replies result (W.contents writer.old) (W.contents writer.new) bench.old.kept (query_outcome (Where step address) bench.old.kept) bench.new.kept }
+{
+    match bench.machine(step) {
+        Ok(machine) => tell_place(writer, machine.place(address)),
+        Err(fault) => refuse(writer, refusal_of(fault)),
+    }
+}
+
+fn tell_place<W: Write>(writer: &mut W, place: Option<Place>) -> Result<(), WriteFault>
+    ensures { Puts result (W.contents writer.old) (W.contents writer.new) (place_text place ++ ok_line) }
+{
+    let mut text = Text::new();
+    add_place(&mut text, place);
+    accept(writer, &mut text)
+}
+
+fn answer_names<const NW: usize, const PAGES: usize, const K: u32, W: Write>(
+    bench: &Bench<NW, PAGES, K>,
+    writer: &mut W,
+) -> Result<(), WriteFault>
+    ensures { Replies result (W.contents writer.old) (W.contents writer.new) bench.now.kept (query_outcome Names bench.now.kept) bench.now.kept }
+{
+    match bench.names() {
+        Ok(names) => tell_names(writer, names.as_slice()),
+        Err(_) => refuse(writer, refusal_of(BenchFault::OutOfMemory)),
+    }
+}
+
+fn tell_names<W: Write>(writer: &mut W, names: &[DefinedName<'_>]) -> Result<(), WriteFault>
+    ensures { Puts result (W.contents writer.old) (W.contents writer.new) (names_text (map named_of names.now) ++ ok_line) }
+{
+    let mut text = Text::new();
+    match put_names(writer, &mut text, names) {
+        Ok(()) => accept(writer, &mut text),
+        Err(fault) => Err(fault),
+    }
+}
+
+/// Whether these lines, counted from 1, may be listed: all of them are there, and a range of none may stand behind the last.
+fn are_lines<const NW: usize, const PAGES: usize, const K: u32>(
+    bench: &Bench<NW, PAGES, K>,
+    first: u32,
+    last: u32,
+) -> bool
+    ensures { result ≡ are_lines first last bench.now.kept }
+{
+    let count = bench.line_count() as u64;
+    let (first, last) = (first as u64, last as u64);
+    first >= 1 && first <= count + 1 && first <= last + 1 && last <= count
+}
+
+fn answer_lines<const NW: usize, const PAGES: usize, const K: u32, W: Write>(
+    bench: &Bench<NW, PAGES, K>,
+    writer: &mut W,
+    first: u32,
+    last: u32,
+) -> Result<(), WriteFault>
+    ensures { Replies result (W.contents writer.old) (W.contents writer.new) bench.now.kept (query_outcome (Lines first last) bench.now.kept) bench.now.kept }
+{
+    if are_lines(bench, first, last) {
+        tell_lines(bench, writer, first, last)
+    } else {
+        refuse(writer, refusal_of(BenchFault::NoSuchLine))
+    }
+}
+
+fn tell_lines<const NW: usize, const PAGES: usize, const K: u32, W: Write>(
+    bench: &Bench<NW, PAGES, K>,
+    writer: &mut W,
+    first: u32,
+    last: u32,
+) -> Result<(), WriteFault>
+    requires { are_lines first last bench.now.kept ≡ true }
+    ensures { Puts result (W.contents writer.old) (W.contents writer.new) (lines_told first last bench.now.kept ++ ok_line) }
+{
+    let mut text = Text::new();
+    match add_lines(bench, writer, &mut text, first as usize - 1, last as usize) {
+        Ok(()) => accept(writer, &mut text),
+        Err(fault) => Err(fault),
+    }
+}
+
+fn answer_events<const NW: usize, const PAGES: usize, const K: u32, W: Write>(
+    bench: &Bench<NW, PAGES, K>,
+    writer: &mut W,
+    first: u32,
+    last: u32,
+) -> Result<(), WriteFault>
+    ensures { Replies result (W.contents writer.old) (W.contents writer.new) bench.now.kept (query_outcome (Events first last) bench.now.kept) bench.now.kept }
+{
+    if LAST_STEP < first || LAST_STEP < last {
+        return refuse(writer, refusal_of(BenchFault::StepTooLarge));
+    }
+    if last < first {
+        return done(writer);
+    }
+    tell_events(writer, bench.timeline(), first, last + 1)
+}
+
+fn tell_events<W: Write>(
+    writer: &mut W,
+    timeline: &Timeline,
+    from: u32,
+    to: u32,
+) -> Result<(), WriteFault>
+    requires { from ≤ to }
+    ensures { Puts result (W.contents writer.old) (W.contents writer.new) (events_text timeline.now from to ++ ok_line) }
+{
+    let mut text = Text::new();
+    match put_events(writer, &mut text, timeline, from, to) {
+        Ok(()) => accept(writer, &mut text),
+        Err(fault) => Err(fault),
+    }
+}

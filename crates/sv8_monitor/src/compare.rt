@@ -1,0 +1,136 @@
+//! What differs between a workbench and the one that was kept.
+
+ghost use Rattle.std.specs.Prelude.{◌≡◌, ℕ, ◌+◌, ◌-◌, ◌*◌, ◌/◌, ◌<◌, ◌≤◌, ◌++◌, ◌∷◌, [], length, map, IfOk, IfErr, IfSome, OnOk, OnErr, None, Some};
+ghost use Rattle.sv8_bench.specs.Faults.{step_refusal, IsQueryFault};
+ghost use Rattle.sv8_bench.specs.Shown.{machine_state};
+ghost use Rattle.sv8_bench.specs.Workbench.{IsAnswered, IsGivenUp};
+ghost use Rattle.sv8_monitor.specs.Search.{IsSearched, IsAbandoned};
+ghost use Rattle.sv8_monitor.specs.Comparing.{range_refusal, IsParted, parting, difference_at, differences};
+
+use crate::difference::Difference;
+use std::alloc::{AllocError, Global};
+use sv8_bench::{Bench, BenchFault, LAST_STEP};
+use sv8_cpu::Machine;
+use sv8_phys::Watch;
+
+/// The first step from one on up to another, which is looked at too, at which the processors of two workbenches differ.
+///
+/// # Errors
+///
+/// `StepTooLarge` where one of both steps is above 1,000,000, else `OutOfMemory`.
+pub fn part<const NW: usize, const PAGES: usize, const K: u32>(
+    now: &mut Bench<NW, PAGES, K>,
+    before: &mut Bench<NW, PAGES, K>,
+    from: u32,
+    to: u32,
+) -> Result<Option<u32>, BenchFault>
+    ensures parted { IfOk result (IsParted before.old.kept now.old.kept from to) }
+    ensures within { OnOk result (range_refusal from to ≡ None) }
+    ensures idle { OnOk result (to < from → (now.new ≡ now.old) × (before.new ≡ before.old)) }
+    ensures now_looked { IfOk result (λ parted. from ≤ to → IsSearched K from (parting to parted) now.old now.new) }
+    ensures before_looked { IfOk result (λ parted. from ≤ to → IsSearched K from (parting to parted) before.old before.new) }
+    ensures refused { IfErr result (IsQueryFault (range_refusal from to)) }
+    ensures untouched { IfSome (range_refusal from to) (λ e. (now.new ≡ now.old) × (before.new ≡ before.old)) }
+    ensures now_given_up { OnErr result (IsAbandoned K from to now.old now.new) }
+    ensures before_given_up { OnErr result (IsAbandoned K from to before.old before.new) }
+{
+    if LAST_STEP < from || LAST_STEP < to {
+        return Err(BenchFault::StepTooLarge);
+    }
+    if to < from {
+        return Ok(None);
+    }
+    let parted = part_within(now, before, from, to)?;
+    Ok(parted)
+}
+
+fn part_within<const NW: usize, const PAGES: usize, const K: u32>(
+    now: &mut Bench<NW, PAGES, K>,
+    before: &mut Bench<NW, PAGES, K>,
+    from: u32,
+    to: u32,
+) -> Result<Option<u32>, AllocError>
+    requires ordered { from ≤ to }
+    requires within { to ≤ 1000000 }
+    ensures parted { IfOk result (IsParted before.old.kept now.old.kept from to) }
+    ensures now_looked { IfOk result (λ parted. IsSearched K from (parting to parted) now.old now.new) }
+    ensures before_looked { IfOk result (λ parted. IsSearched K from (parting to parted) before.old before.new) }
+    ensures now_given_up { IsAbandoned K from to now.old now.new }
+    ensures before_given_up { IsAbandoned K from to before.old before.new }
+{
+    let mut watch = Watch::new(now.alloc());
+    let mut walk = now.walk(from, &mut watch)?;
+    let mut other = before.walk(from, &mut watch)?;
+    while walk.machine().has_same_processor(other.machine()) {
+        if walk.step() == to {
+            return Ok(None);
+        }
+        walk = now.walk_on(walk, &mut watch)?;
+        other = before.walk_on(other, &mut watch)?;
+    }
+    Ok(Some(walk.step()))
+}
+
+/// The words of RAM that differ between two machines, rising, and at most so many.
+///
+/// # Errors
+///
+/// `AllocError` where memory for them cannot be had.
+pub fn differences<const NW: usize, const PAGES: usize>(
+    alloc: Global,
+    before: &Machine<NW, PAGES>,
+    now: &Machine<NW, PAGES>,
+    most: u32,
+) -> Result<Vec<Difference>, AllocError>
+    requires few_windows { NW ≤ 32 }
+    requires few_pages { PAGES ≤ 65536 }
+    ensures { IfOk result (λ v. v.items ≡ differences before.now.memory.ram now.now.memory.ram most) }
+{
+    let mut found = Vec::new(alloc);
+    let mut from = 0;
+    let mut left = most;
+    while left > 0 {
+        let Some(address) = now.next_difference(before, from) else {
+            return Ok(found);
+        };
+        found.push(Difference {
+            address,
+            old: before.word(address),
+            new: now.word(address),
+        })?;
+        left -= 1;
+        from = address + 4;
+    }
+    Ok(found)
+}
+
+/// The words of RAM that differ between before at one step and now at another, rising, and at most so many.
+///
+/// # Errors
+///
+/// `StepTooLarge` where one of both steps is above 1,000,000, else `OutOfMemory`.
+pub fn differ<const NW: usize, const PAGES: usize, const K: u32>(
+    now: &mut Bench<NW, PAGES, K>,
+    before: &mut Bench<NW, PAGES, K>,
+    at_now: u32,
+    at_before: u32,
+    most: u32,
+) -> Result<Vec<Difference>, BenchFault>
+    ensures found { IfOk result (λ v. v.items ≡ differences (machine_state before.old.kept at_before).memory.ram (machine_state now.old.kept at_now).memory.ram most) }
+    ensures within { OnOk result (range_refusal at_now at_before ≡ None) }
+    ensures now_answered { OnOk result (IsAnswered K at_now now.old now.new) }
+    ensures before_answered { OnOk result (IsAnswered K at_before before.old before.new) }
+    ensures refused { IfErr result (IsQueryFault (range_refusal at_now at_before)) }
+    ensures untouched { IfSome (range_refusal at_now at_before) (λ e. (now.new ≡ now.old) × (before.new ≡ before.old)) }
+    ensures now_given_up { OnErr result (IsGivenUp K at_now now.old now.new) }
+    ensures before_given_up { OnErr result (IsGivenUp K at_before before.old before.new) }
+{
+    if LAST_STEP < at_now || LAST_STEP < at_before {
+        return Err(BenchFault::StepTooLarge);
+    }
+    let alloc = now.alloc();
+    let now = now.machine(at_now)?;
+    let before = before.machine(at_before)?;
+    let found = differences(alloc, &before, &now, most)?;
+    Ok(found)
+}

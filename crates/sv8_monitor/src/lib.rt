@@ -1,0 +1,25 @@
+//! The monitor: what happened in the run of a workbench, and what a change changed.
+#![tactic(auto)]
+
+mod answers;
+mod compare;
+mod conditions;
+mod difference;
+mod driver;
+mod event_lines;
+mod found;
+mod lines;
+mod monitor;
+mod question;
+mod search;
+mod step_lines;
+mod window_lines;
+
+pub use compare::{differ, part};
+pub use conditions::Conditions;
+pub use difference::Difference;
+pub use driver::run;
+pub use found::Found;
+pub use monitor::{Monitor, Monitoring};
+pub use question::{Query, Question, parse_question};
+pub use search::steps;

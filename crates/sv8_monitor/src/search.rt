@@ -1,0 +1,331 @@
+//! Searches for the steps of a run that meet a condition.
+
+ghost use Rattle.std.specs.Prelude.{◌≡◌, ◌⊎◌, ℕ, ◌+◌, ◌-◌, ◌*◌, ◌<◌, ◌≤◌, ◌++◌, ◌∷◌, [], List, length, true, take, map, None, IfOk, IfErr, IfSome, OnOk, OnErr};
+ghost use Rattle.std.specs.List.{list_any, list_reverse};
+ghost use Rattle.sv8_bench.specs.Faults.{IsQueryFault};
+ghost use Rattle.sv8_monitor.specs.Answers.{steps_refusal};
+ghost use Rattle.sv8_phys.specs.Memory.{ram_size};
+ghost use Rattle.sv8_cpu.specs.State.{State};
+ghost use Rattle.sv8_watch.specs.Conditions.{is_met, bytes_from};
+ghost use Rattle.sv8_bench.specs.Shown.{machine_state};
+ghost use Rattle.sv8_bench.specs.Walks.{IsWalk, IsMade, IsUnmade};
+ghost use Rattle.sv8_monitor.specs.Search.{old_of, olds_of, old_count, olds_count, is_inside, are_inside, found_at, is_wanted, wanted_found, list_of, rising, looked_to, falling, sought_to, steps_told, IsSearched, IsSought, IsTried, IsAbandoned};
+
+use crate::found::Found;
+use std::alloc::AllocError;
+use sv8_bench::{Bench, BenchFault, LAST_STEP, Walk};
+use sv8_cpu::Machine;
+use sv8_phys::{Touch, Watch};
+use sv8_watch::{Before, Condition, Happening};
+
+/// How many bytes a condition compares.
+fn old_count(condition: Condition) -> u32
+    ensures { result ≡ old_count condition }
+{
+    match condition {
+        Condition::Change { count, .. } => count,
+        _ => 0,
+    }
+}
+
+/// Adds so many bytes of RAM from an address on.
+fn add_bytes<const NW: usize, const PAGES: usize>(
+    bytes: &mut Vec<u8>,
+    address: u32,
+    count: u32,
+    machine: &Machine<NW, PAGES>,
+) -> Result<(), AllocError>
+    requires few_windows { NW ≤ 32 }
+    requires few_pages { PAGES ≤ 65536 }
+    requires inside { address + count ≤ ram_size PAGES }
+    ensures bytes { OnOk result (bytes.new.items ≡ bytes.old.items ++ bytes_from address count machine.now.memory.ram) }
+    ensures count { OnOk result (length bytes.new.items ≡ length bytes.old.items + count) }
+{
+    for place in 0..count {
+        bytes.push(machine.byte(address + place))?;
+    }
+    Ok(())
+}
+
+/// Adds the bytes that a condition compares.
+fn add_old<const NW: usize, const PAGES: usize>(
+    old: &mut Vec<u8>,
+    condition: Condition,
+    machine: &Machine<NW, PAGES>,
+) -> Result<(), AllocError>
+    requires few_windows { NW ≤ 32 }
+    requires few_pages { PAGES ≤ 65536 }
+    requires inside { is_inside (ram_size PAGES) condition ≡ true }
+    ensures bytes { OnOk result (old.new.items ≡ old.old.items ++ old_of condition machine.now.memory.ram) }
+    ensures count { OnOk result (length old.new.items ≡ length old.old.items + old_count condition) }
+{
+    match condition {
+        Condition::Change { address, count } => add_bytes(old, address, count, machine),
+        _ => Ok(()),
+    }
+}
+
+/// The bytes that conditions compare with those after the next step, one condition's after the other's.
+fn look_at_old<const NW: usize, const PAGES: usize>(
+    old: &mut Vec<u8>,
+    conditions: &[Condition],
+    machine: &Machine<NW, PAGES>,
+) -> Result<(), AllocError>
+    requires few_windows { NW ≤ 32 }
+    requires few_pages { PAGES ≤ 65536 }
+    requires inside { are_inside (ram_size PAGES) conditions.now ≡ true }
+    ensures bytes { OnOk result (old.new.items ≡ olds_of conditions.now machine.now.memory.ram) }
+    ensures count { OnOk result (length old.new.items ≡ olds_count conditions.now) }
+{
+    old.clear();
+    let mut rest = conditions;
+    while let [first, after @ ..] = rest {
+        add_old(old, *first, machine)?;
+        rest = after;
+    }
+    Ok(())
+}
+
+/// Whether a step meets one of some conditions. `old` are the bytes that they compare with those of the machine behind it.
+fn is_any_met<const NW: usize, const PAGES: usize>(
+    conditions: &[Condition],
+    n: u32,
+    happening: &Happening,
+    touches: &[Touch],
+    old: &[u8],
+    after: &Machine<NW, PAGES>,
+) -> bool
+    requires few_windows { NW ≤ 32 }
+    requires few_pages { PAGES ≤ 65536 }
+    requires inside { are_inside (ram_size PAGES) conditions.now ≡ true }
+    requires count { length old.now ≡ olds_count conditions.now }
+    ensures { (before : State) → old.now ≡ olds_of conditions.now before.memory.ram
+        → result ≡ list_any (is_met n before after.now happening.now touches.now) conditions.now }
+{
+    match conditions {
+        [] => false,
+        [first, rest @ ..] => {
+            let (own, others) = old.split_at(old_count(*first) as usize);
+            first.is_met(n, happening, touches, own, after)
+                || is_any_met(rest, n, happening, touches, others, after)
+        }
+    }
+}
+
+/// Makes the next step of a walk, and looks at it. `old` are the bytes that the conditions compare, before and afterwards.
+///
+/// # Errors
+///
+/// `AllocError` where memory for it cannot be had.
+fn look<const NW: usize, const PAGES: usize, const K: u32>(
+    bench: &mut Bench<NW, PAGES, K>,
+    walk: Walk<NW, PAGES>,
+    watch: &mut Watch,
+    conditions: &[Condition],
+    old: &mut Vec<u8>,
+) -> Result<(Walk<NW, PAGES>, Option<Found>), AllocError>
+    requires walk { IsWalk K bench.old walk }
+    requires within { walk.step < 1000000 }
+    requires inside { are_inside (ram_size PAGES) conditions.now ≡ true }
+    requires bytes { old.old.items ≡ olds_of conditions.now (machine_state bench.old.kept walk.step).memory.ram }
+    requires count { length old.old.items ≡ olds_count conditions.now }
+    ensures walk { IfOk result (λ r. IsWalk K bench.new r.0) }
+    ensures step { IfOk result (λ r. r.0.step ≡ walk.entry.step + 1) }
+    ensures found { IfOk result (λ r. r.1 ≡ wanted_found bench.old.kept conditions.now walk.entry.step) }
+    ensures made { OnOk result (IsMade K walk.entry.step bench.old bench.new) }
+    ensures bytes { OnOk result (old.new.items ≡ olds_of conditions.now (machine_state bench.old.kept (walk.entry.step + 1)).memory.ram) }
+    ensures count { OnOk result (length old.new.items ≡ olds_count conditions.now) }
+    ensures unmade { OnErr result (IsTried K walk.entry.step bench.old bench.new) }
+{
+    let n = walk.step();
+    let before = Before::of(walk.machine());
+    let walk = bench.walk_on(walk, watch)?;
+    let happening = Happening::of(n, bench.timeline(), before, walk.machine(), watch);
+    let touches = watch.touches();
+    let met = conditions.is_empty()
+        || is_any_met(conditions, n, &happening, touches, old, walk.machine());
+    if !old.is_empty() {
+        look_at_old(old, conditions, walk.machine())?;
+    }
+    let found = if met {
+        Some(Found { step: n, happening })
+    } else {
+        None
+    };
+    Ok((walk, found))
+}
+
+/// Adds a step that was found, if one was.
+fn add_found(found: &mut Vec<Found>, next: Option<Found>) -> Result<(), AllocError>
+    ensures { OnOk result (found.new.items ≡ found.old.items ++ list_of next) }
+{
+    if let Some(next) = next {
+        found.push(next)?;
+    }
+    Ok(())
+}
+
+/// Adds the steps from one on and below another that meet a condition, and at most so many of them. It looks at no step
+/// behind the last one that it adds, if it adds so many.
+///
+/// # Errors
+///
+/// `AllocError` where memory for it cannot be had.
+fn search_up<const NW: usize, const PAGES: usize, const K: u32>(
+    bench: &mut Bench<NW, PAGES, K>,
+    conditions: &[Condition],
+    from: u32,
+    to: u32,
+    most: u32,
+    found: &mut Vec<Found>,
+) -> Result<(), AllocError>
+    requires ordered { from ≤ to }
+    requires within { to ≤ 1000000 }
+    requires inside { are_inside (ram_size PAGES) conditions.now ≡ true }
+    ensures found { OnOk result (found.new.items ≡ found.old.items
+        ++ map (found_at bench.old.kept) (rising (is_wanted bench.old.kept conditions.now) from (to - from) most)) }
+    ensures searched { OnOk result (IsSearched K from (looked_to (is_wanted bench.old.kept conditions.now) from (to - from) most) bench.old bench.new) }
+    ensures given_up { IsAbandoned K from to bench.old bench.new }
+{
+    let alloc = bench.alloc();
+    let mut watch = Watch::new(alloc);
+    let mut walk = bench.walk(from, &mut watch)?;
+    let mut old = Vec::new(alloc);
+    look_at_old(&mut old, conditions, walk.machine())?;
+    let mut left = most;
+    while walk.step() < to && left > 0 {
+        let (next, seen) = look(bench, walk, &mut watch, conditions, &mut old)?;
+        walk = next;
+        if seen.is_some() {
+            left -= 1;
+        }
+        add_found(found, seen)?;
+    }
+    Ok(())
+}
+
+/// Adds steps from the last one on, and at most so many; answers how many more may follow.
+fn add_falling(found: &mut Vec<Found>, seen: &[Found], most: u32) -> Result<u32, AllocError>
+    ensures found { OnOk result (found.new.items ≡ found.old.items ++ take most (list_reverse seen.now)) }
+    ensures left { IfOk result (λ left. left ≡ most - length seen.now) }
+{
+    let mut rest = seen;
+    let mut left = most;
+    while let [before @ .., last] = rest {
+        if left == 0 {
+            return Ok(0);
+        }
+        found.push(*last)?;
+        left -= 1;
+        rest = before;
+    }
+    Ok(left)
+}
+
+/// Adds the steps below one and not below another that meet a condition, from the last one down, and at most so many of
+/// them. It goes from one checkpoint to the one before it, and looks at the steps between them once.
+///
+/// # Errors
+///
+/// `AllocError` where memory for it cannot be had.
+fn search_down<const NW: usize, const PAGES: usize, const K: u32>(
+    bench: &mut Bench<NW, PAGES, K>,
+    conditions: &[Condition],
+    from: u32,
+    to: u32,
+    most: u32,
+    found: &mut Vec<Found>,
+) -> Result<(), AllocError>
+    requires ordered { to < from }
+    requires within { from ≤ 1000000 }
+    requires inside { are_inside (ram_size PAGES) conditions.now ≡ true }
+    ensures found { OnOk result (found.new.items ≡ found.old.items
+        ++ map (found_at bench.old.kept) (falling (is_wanted bench.old.kept conditions.now) to (from - to) most)) }
+    ensures sought { OnOk result (IsSought K from (sought_to (is_wanted bench.old.kept conditions.now) to (from - to) most) bench.old bench.new) }
+    ensures given_up { IsSought K from to bench.old bench.new }
+{
+    let alloc = bench.alloc();
+    let mut end = from;
+    let mut left = most;
+    while end > to && left > 0 {
+        let start = to.max((end - 1) / K * K);
+        let mut seen = Vec::new(alloc);
+        search_up(bench, conditions, start, end, end - start, &mut seen)?;
+        left = add_falling(found, seen.as_slice(), left)?;
+        end = start;
+    }
+    Ok(())
+}
+
+/// Whether the bytes of conditions lie in RAM, and their words.
+fn are_inside<const PAGES: usize>(conditions: &[Condition]) -> bool
+    requires few_pages { PAGES ≤ 65536 }
+    ensures { result ≡ are_inside (ram_size PAGES) conditions.now }
+{
+    let mut rest = conditions;
+    while let [first, after @ ..] = rest {
+        if !is_inside(*first, 4_096 * PAGES as u64) {
+            return false;
+        }
+        rest = after;
+    }
+    true
+}
+
+/// Whether the bytes of a condition lie in RAM of a size, or its word.
+fn is_inside(condition: Condition, size: u64) -> bool
+    ensures { result ≡ is_inside size condition }
+{
+    match condition {
+        Condition::Load { address, count }
+        | Condition::Store { address, count }
+        | Condition::Change { address, count } => u64::from(address) + u64::from(count) <= size,
+        Condition::Touch(address) => address % 4 == 0 && u64::from(address) + 4 <= size,
+        _ => true,
+    }
+}
+
+/// The steps from one on up to another, which is not looked at, or from below the one down to the other, that meet a
+/// condition, and at most so many of them.
+///
+/// # Errors
+///
+/// `StepTooLarge` where one of both steps is above 1,000,000, `BadAddress` where bytes or a word of a condition do not lie in
+/// RAM, else `OutOfMemory`.
+pub fn steps<const NW: usize, const PAGES: usize, const K: u32>(
+    bench: &mut Bench<NW, PAGES, K>,
+    from: u32,
+    to: u32,
+    most: u32,
+    conditions: &[Condition],
+) -> Result<Vec<Found>, BenchFault>
+    ensures found { IfOk result (λ v. v.items ≡ map (found_at bench.old.kept) (steps_told bench.old.kept from to most conditions.now)) }
+    ensures within { OnOk result (steps_refusal from to conditions.now bench.old.kept ≡ None) }
+    ensures idle { OnOk result ((from ≡ to) ⊎ (most ≡ 0) → bench.new ≡ bench.old) }
+    ensures risen { OnOk result (from < to → 0 < most
+        → IsSearched K from (looked_to (is_wanted bench.old.kept conditions.now) from (to - from) most) bench.old bench.new) }
+    ensures fallen { OnOk result (to < from → 0 < most
+        → IsSought K from (sought_to (is_wanted bench.old.kept conditions.now) to (from - to) most) bench.old bench.new) }
+    ensures refused { IfErr result (IsQueryFault (steps_refusal from to conditions.now bench.old.kept)) }
+    ensures untouched { IfSome (steps_refusal from to conditions.now bench.old.kept) (λ e. bench.new ≡ bench.old) }
+    ensures rising_given_up { OnErr result (from ≤ to → IsAbandoned K from to bench.old bench.new) }
+    ensures falling_given_up { OnErr result (to < from → IsSought K from to bench.old bench.new) }
+{
+    if LAST_STEP < from || LAST_STEP < to {
+        return Err(BenchFault::StepTooLarge);
+    }
+    let _source = bench.line_count();
+    if !are_inside::<PAGES>(conditions) {
+        return Err(BenchFault::BadAddress);
+    }
+    let mut found = Vec::new(bench.alloc());
+    if from == to || most == 0 {
+        return Ok(found);
+    }
+    if from < to {
+        search_up(bench, conditions, from, to, most, &mut found)?;
+    } else {
+        search_down(bench, conditions, from, to, most, &mut found)?;
+    }
+    Ok(found)
+}
