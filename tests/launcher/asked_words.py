@@ -1,6 +1,6 @@
 """The words whose answers the launcher has recorded.
 
-Run as a program, it records them anew, from the program that SPARC8 names.
+Run as a program, it records them anew, from the programs that SPARC8 and SPARC8_MONITOR name.
 """
 from __future__ import annotations
 
@@ -10,6 +10,8 @@ import subprocess
 import tempfile
 from collections.abc import Sequence
 from pathlib import Path
+
+from rubliman.launcher.words import HELP_OF_MONITOR
 
 TEXTS = Path(__file__).resolve().parents[2] / "lib/rubliman/launcher/program_texts.json"
 SAMPLE = Path(__file__).with_name("recorded_words.json")
@@ -44,9 +46,10 @@ ASKED: dict[str, list[str]] = {
 }
 
 
-def ask(words: Sequence[str]) -> tuple[int, str, str]:
-    """What the program that SPARC8 names answers to words, in an empty folder: the status and both outputs."""
-    program = os.environ["SPARC8"]
+def ask(words: Sequence[str], program: str | None = None) -> tuple[int, str, str]:
+    """What a program answers to words, in an empty folder: the status and both outputs. It is the one that SPARC8 names
+    where none is given."""
+    program = program or os.environ["SPARC8"]
     with tempfile.TemporaryDirectory() as folder:
         done = subprocess.run([program, *words], cwd=folder, stdin=subprocess.DEVNULL, capture_output=True, check=False)
     return done.returncode, done.stdout.decode(), done.stderr.decode()
@@ -58,6 +61,8 @@ def record() -> None:
     for name, words in ASKED.items():
         status, out, err = ask(words)
         texts[name] = {"words": words, "status": status, "out": out, "err": err}
+    status, out, err = ask(["--help"], os.environ["SPARC8_MONITOR"])
+    texts[HELP_OF_MONITOR] = {"words": ["--help"], "status": status, "out": out, "err": err}
     TEXTS.write_text(json.dumps(texts, indent=1) + "\n", encoding="utf-8")
     rows = []
     for words, *_ in json.loads(SAMPLE.read_text(encoding="utf-8")):

@@ -12,13 +12,16 @@ from collections.abc import Iterator
 from contextlib import contextmanager
 from pathlib import Path
 
+from rubliman.launcher.sources import PROGRAMS
+
 TOP = Path(__file__).resolve().parents[2]
-CRATES = {"low": "", "side": "", "high": "low", "sparc8": "high side", "other": "low"}
+CRATES = {"low": "", "side": "", "high": "low", "sparc8": "high side", "sparc8_monitor": "high", "other": "low"}
 PAGE = """| Crate | Proof | Tests |
 | `low` | 4.0 | 1.0 |
 | `side` | 2.0 | 0.0 |
 | `high` | 6.0 | 0.0 |
 | `sparc8` | 1.0 | 0.0 |
+| `sparc8_monitor` | 1.0 | 0.0 |
 """
 # The built program of the fake toolchain: it tells its words and its input.
 PROGRAM = '#!/bin/sh\ncase "$1" in --help) echo "the help";; *) echo "words $*"; cat;; esac\n'
@@ -30,7 +33,7 @@ esac
 {does}
 """
 # What `rt ci` does where all goes well.
-PROVES = """for it in low side high sparc8; do
+PROVES = """for it in low side high sparc8 sparc8_monitor; do
   echo "== $it"
   echo "logic=proved functions=3 sum=1"
   echo "rt: $it proved"
@@ -38,11 +41,15 @@ PROVES = """for it in low side high sparc8; do
   echo "logic=proved functions=4 sum=1"
   echo "rt: $it: its tests are proved"
 done
-mkdir -p crates/sparc8/out
-cp {program} crates/sparc8/out/sparc8
-chmod 755 crates/sparc8/out/sparc8
+for it in sparc8 sparc8_monitor; do
+  mkdir -p crates/$it/out
+  cp {program} crates/$it/out/$it
+  chmod 755 crates/$it/out/$it
+done
 echo "rt: ok"
 """
+# What `rt run` does in the folder of a program.
+BUILDS = "mkdir -p out; cp {program} out/$(basename $PWD)"
 
 
 class InRepository(unittest.TestCase):
@@ -57,7 +64,8 @@ class InRepository(unittest.TestCase):
             it.mkdir(parents=True)
         self.log = self.room / "log"
         self.log.touch()
-        shutil.copy(TOP / "sparc8", self.top)
+        for it in PROGRAMS:
+            shutil.copy(TOP / it, self.top)
         shutil.copytree(TOP / "lib", self.top / "lib", ignore=shutil.ignore_patterns("__pycache__"))
         (self.top / "docs").mkdir()
         (self.top / "docs/PROVING.md").write_text(PAGE, encoding="utf-8")

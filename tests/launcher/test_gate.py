@@ -4,6 +4,8 @@ from __future__ import annotations
 import subprocess
 import unittest
 
+from rubliman.launcher.sources import PROGRAMS
+
 from .support import PROGRAM, InRepository
 
 
@@ -13,8 +15,9 @@ class Gate(InRepository):
     def setUp(self) -> None:
         super().setUp()
         self.fake("exit 1")
-        (self.top / "crates/sparc8/out").mkdir()
-        (self.top / "crates/sparc8/out/sparc8").write_text(PROGRAM, encoding="utf-8")
+        for it in PROGRAMS:
+            (self.top / "crates" / it / "out").mkdir()
+            (self.top / "crates" / it / "out" / it).write_text(PROGRAM, encoding="utf-8")
 
     def gate(self, *words: str) -> subprocess.CompletedProcess[str]:
         return subprocess.run(
@@ -31,6 +34,7 @@ class Gate(InRepository):
         done = self.gate(before)
         self.assertEqual((done.returncode, done.stdout), (0, ""), done.stderr)
         self.assertEqual(self.sparc8(given="list\n").stdout, "words \nlist\n")
+        self.assertEqual(self.sparc8("-x", command=self.top / "sparc8_monitor").stdout, "words -x\n")
         self.assertEqual(self.calls(), [])
         self.assertIn("proved     yes, by rt ci of kit-1", self.sparc8("--check").stdout)
 
@@ -46,8 +50,11 @@ class Gate(InRepository):
 
     def test_nothing_built(self) -> None:
         before = self.gate().stdout.strip()
-        (self.top / "crates/sparc8/out/sparc8").unlink()
-        self.assertEqual(self.gate(before).returncode, 1)
+        for it in PROGRAMS:
+            built = self.top / "crates" / it / "out" / it
+            built.rename(built.with_name("elsewhere"))
+            self.assertEqual(self.gate(before).returncode, 1)
+            built.with_name("elsewhere").rename(built)
 
 
 if __name__ == "__main__":

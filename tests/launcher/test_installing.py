@@ -48,6 +48,11 @@ class Installing(InRepository):
             done = self.sparc8(*words, command=command)
             self.assertEqual((done.returncode, done.stderr.count("\n")), (2, 1))
 
+    def test_the_monitor(self) -> None:
+        self.install()
+        done = self.sparc8("--windows", "2", given=SCRIPT, command=self.prefix / "bin/sparc8_monitor")
+        self.assertEqual((done.returncode, done.stdout, done.stderr), (0, ANSWER, ""))
+
     def test_an_import(self) -> None:
         self.install()
         (self.room / "it").write_bytes(bytes.fromhex("82006001 10BFFFFF 01000000"))

@@ -9,8 +9,9 @@ from pathlib import Path
 from unittest import mock
 
 from rubliman.launcher import kept
+from rubliman.launcher.sources import PROGRAMS
 
-from .support import CRATES, PROVES, TOP, InRepository, interrupt
+from .support import BUILDS, CRATES, PROVES, TOP, InRepository, interrupt
 
 WAITS = "touch {begun}; sleep 100 & wait $!\n"
 
@@ -55,7 +56,7 @@ class Proving(InRepository):
         self.fake(PROVES)
         first = self.sparc8("--windows", "4", given="list\n")
         self.assertEqual((first.returncode, first.stdout), (0, "words --windows 4\nlist\n"))
-        self.assertIn("crate 4 of 4, sparc8: proved, 12 functions; 0 minutes gone", first.stderr)
+        self.assertIn("crate 5 of 5, sparc8_monitor: proved, 15 functions; 0 minutes gone", first.stderr)
         again = self.sparc8("--windows", "4", given="list\n")
         self.assertEqual((again.returncode, again.stdout, again.stderr), (0, first.stdout, ""))
         self.assertEqual(self.calls(), ["ci"])
@@ -81,11 +82,11 @@ class Proving(InRepository):
         (self.top / "crates/sparc8/stdin").write_text("quit\n", encoding="utf-8")
         self.fake(f"find . -type f | sort >{self.room}/copied; cat crates.txt >{self.room}/listed\n{PROVES}")
         self.assertEqual(self.sparc8("--program").returncode, 0)
-        needed = ["high", "low", "side", "sparc8"]
+        needed = ["high", "low", "side", *PROGRAMS]
         wanted = ["./HANDLES", *[f"./crates/{it}/src/lib.rt" for it in needed], "./crates/sparc8/stdin", "./crates.txt"]
         self.assertEqual(sorted((self.room / "copied").read_text(encoding="utf-8").split()), sorted(wanted))
         self.assertEqual(
-            (self.room / "listed").read_text(encoding="utf-8"), "low: \nhigh: low\nside: \nsparc8: high side\n"
+            (self.room / "listed").read_text(encoding="utf-8"), "low: \nhigh: low\nside: \nsparc8: high side\nsparc8_monitor: high\n"
         )
 
     def test_a_failure_is_told(self) -> None:
@@ -226,11 +227,11 @@ class Proving(InRepository):
         self.impatient()
         self.keep_checks(self.top)
         said = "rt: chose --jobs 2 for high\nso far: 2 of 5 functions checked"
-        runs = f"mkdir -p out; cp {{program}} out/sparc8; echo '{said}'"
+        runs = f"{BUILDS}; echo '{said}'"
         self.fake(f'if [ "$1" = ci ]; then sleep 100 & wait $!; fi\n{runs}')
         done = self.sparc8("--program")
-        self.assertEqual((done.returncode, self.calls()), (0, ["ci", "run"]), done.stderr)
-        self.assertIn("crate 2 of 4, high: begun", done.stderr)
+        self.assertEqual((done.returncode, self.calls()), (0, ["ci", "run", "run"]), done.stderr)
+        self.assertIn("crate 2 of 5, high: begun", done.stderr)
         self.assertIn("proved     yes, by rt run", self.sparc8("--check").stdout)
         self.assert_nothing_left()
 
@@ -240,16 +241,16 @@ class Proving(InRepository):
         self.keep_checks(other)
         notes = self.room / "rattle-kept/work"
         notes.mkdir(parents=True)
-        for name in ("low", "high", "side", "sparc8"):
+        for name in ("low", "high", "side", *PROGRAMS):
             note = {"folder": str(other / "crates" / name), "stamp": "1"}
             (notes / f"{name}.1").write_text(json.dumps(note), encoding="utf-8")
-        self.fake('if [ "$1" = ci ]; then sleep 100 & wait $!; fi\nmkdir -p out; cp {program} out/sparc8')
-        self.assertEqual((self.sparc8("--program").returncode, self.calls()), (0, ["ci", "run"]))
+        self.fake(f'if [ "$1" = ci ]; then sleep 100 & wait $!; fi\n{BUILDS}')
+        self.assertEqual((self.sparc8("--program").returncode, self.calls()), (0, ["ci", "run", "run"]))
 
     def test_what_the_gate_proved_goes_before_kept_work(self) -> None:
         self.impatient()
         self.keep_checks(self.top)
-        tells = 'for it in low side high sparc8; do echo "rt: $it is kept: by an earlier run"; done; sleep 3\n'
+        tells = 'for it in low side high sparc8 sparc8_monitor; do echo "rt: $it is kept: by an earlier run"; done; sleep 3\n'
         self.fake(f"{tells}{PROVES}")
         self.assertEqual((self.sparc8("--program").returncode, self.calls()), (0, ["ci"]))
 
@@ -259,7 +260,7 @@ class Proving(InRepository):
         source = self.top / "crates/low/src/lib.rt"
         for does, said in ((f"touch {source}", "touched"), (f"echo '// more' >>{source}", "changed")):
             waits = 'if [ "$1" = ci ]; then sleep 100 & wait $!; fi'
-            self.fake(f"{waits}\n{does}; mkdir -p out; cp {{program}} out/sparc8")
+            self.fake(f"{waits}\n{does}; {BUILDS}")
             done = self.sparc8()
             self.assertEqual((done.returncode, done.stdout), (1, ""))
             self.assertIn(f"a source was {said} while it was being proved", done.stderr)
@@ -278,7 +279,7 @@ class Proving(InRepository):
         self.assertEqual((before.returncode, before.stderr), (0, ""))
         self.assertRegex(
             before.stdout,
-            r"(?s)version    \d.*sources    [0-9a-f]{16}, 4 files of 4 crates.*toolchain  kit-1\nproved     no",
+            r"(?s)version    \d.*sources    [0-9a-f]{16}, 5 files of 5 crates.*toolchain  kit-1\nproved     no",
         )
         self.sparc8("--program")
         self.assertRegex(self.sparc8("--check").stdout, r"proved     yes, by rt ci of kit-1, at \d{4}-")

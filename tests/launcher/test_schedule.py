@@ -7,7 +7,7 @@ import unittest
 
 from rubliman.launcher.progress import Progress
 from rubliman.launcher.schedule import minutes_left, minutes_of, tasks_of
-from rubliman.launcher.sources import Sources, crates_of
+from rubliman.launcher.sources import WORKBENCH, Sources, crates_of
 
 from .support import CRATES, PAGE
 
@@ -18,7 +18,7 @@ class Schedule(unittest.TestCase):
     """Four crates: `low` takes 4 minutes and its tests 1, `side` 2, `high` 6 on `low`, the program 1 on both."""
 
     def setUp(self) -> None:
-        crates = crates_of(TEXT)
+        crates = crates_of(TEXT, [WORKBENCH])
         self.sources = Sources(crates, {f"crates/{it.name}/src/lib.rt": b"\n" * 100 for it in crates})
         self.tasks = tasks_of(self.sources, PAGE)
 

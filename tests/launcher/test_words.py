@@ -7,6 +7,7 @@ import random
 import unittest
 
 from rubliman.launcher.likeness import jaro
+from rubliman.launcher.sources import MONITOR, WORKBENCH
 from rubliman.launcher.words import Refused, Settings, read, recorded
 
 from .asked_words import ASKED, SAMPLE, TEXTS, ask
@@ -22,7 +23,8 @@ def answer(words: list[str]) -> tuple[int, str, str] | None:
     try:
         chosen = read(words)
     except Refused as refused:
-        return refused.status, refused.out, refused.err
+        said = refused.said()
+        return said.status, said.out, said.err
     return None if chosen.script is None else (3, "", recorded()["no script"].err)
 
 
@@ -58,14 +60,20 @@ class Reading(unittest.TestCase):
 class TheProgram(unittest.TestCase):
     """The program that SPARC8 names answers as it was recorded."""
 
-    def test_its_texts_are_the_recorded_ones(self) -> None:
-        for name, it in recorded().items():
+    def texts_are_recorded(self, program: str, path: str) -> None:
+        for name, it in recorded(program).items():
             with self.subTest(name=name):
                 self.assertEqual(
-                    ask(it.words),
+                    ask(it.words, path),
                     (it.status, it.out, it.err),
                     f"run asked_words.py, which records {TEXTS} anew",
                 )
+
+    def test_its_texts_are_the_recorded_ones(self) -> None:
+        self.texts_are_recorded(WORKBENCH, os.environ["SPARC8"])
+
+    def test_those_of_the_monitor(self) -> None:
+        self.texts_are_recorded(MONITOR, os.environ["SPARC8_MONITOR"])
 
     def test_any_words(self) -> None:
         choose = random.Random(os.urandom(4))

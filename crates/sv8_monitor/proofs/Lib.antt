@@ -1,1 +1,3 @@
 pub mod Searching
+pub mod Looking
+pub mod Differing

@@ -58,4 +58,4 @@ query_outcome (Events first last) k = unless_refused (range_refusal first last) 
 abbrev pub differ_outcome : ℕ → ℕ → ℕ → Kept → Kept → Outcome
 differ_outcome at_now at_before count before now =
     unless_refused (range_refusal at_now at_before)
-    (told true (differences_text (differences (machine_state before at_before).memory.ram (machine_state now at_now).memory.ram count)))
+    (told true (differences_text (differences (4096 * now.pages) (machine_state before at_before).memory.ram (machine_state now at_now).memory.ram count)))

@@ -35,11 +35,11 @@ parting to (Some n) = n
 
 -- the word of this number is another one
 abbrev pub differs_at : List ℕ → List ℕ → ℕ → Bool
-differs_at before now i = not (word_of before i == word_of now i)
+differs_at before now i = not (word_of now i == word_of before i)
 
 abbrev pub difference_at : List ℕ → List ℕ → ℕ → Difference
 difference_at before now i = record { address = 4 * i; old = word_of before i; new = word_of now i }
 
--- the words of RAM that differ, rising, and at most so many
-abbrev pub differences : List ℕ → List ℕ → ℕ → List Difference
-differences before now most = map (difference_at before now) (rising (differs_at before now) 0 (length now / 4) most)
+-- the words that differ in RAM of a size, rising, and at most so many
+abbrev pub differences : ℕ → List ℕ → List ℕ → ℕ → List Difference
+differences size before now most = map (difference_at before now) (rising (differs_at before now) 0 (size / 4) most)

@@ -2,6 +2,7 @@
 
 ghost use Rattle.std.specs.Prelude.{◌≡◌, ℕ, ◌+◌, ◌-◌, ◌*◌, ◌/◌, ◌<◌, ◌≤◌, ◌++◌, ◌∷◌, [], length, map, IfOk, IfErr, IfSome, OnOk, OnErr, None, Some};
 ghost use Rattle.sv8_bench.specs.Faults.{step_refusal, IsQueryFault};
+ghost use Rattle.sv8_phys.specs.Memory.{ram_size};
 ghost use Rattle.sv8_bench.specs.Shown.{machine_state};
 ghost use Rattle.sv8_bench.specs.Workbench.{IsAnswered, IsGivenUp};
 ghost use Rattle.sv8_monitor.specs.Search.{IsSearched, IsAbandoned};
@@ -84,7 +85,7 @@ pub fn differences<const NW: usize, const PAGES: usize>(
 ) -> Result<Vec<Difference>, AllocError>
     requires few_windows { NW ≤ 32 }
     requires few_pages { PAGES ≤ 65536 }
-    ensures { IfOk result (λ v. v.items ≡ differences before.now.memory.ram now.now.memory.ram most) }
+    ensures { IfOk result (λ v. v.items ≡ differences (ram_size PAGES) before.now.memory.ram now.now.memory.ram most) }
 {
     let mut found = Vec::new(alloc);
     let mut from = 0;
@@ -116,7 +117,7 @@ pub fn differ<const NW: usize, const PAGES: usize, const K: u32>(
     at_before: u32,
     most: u32,
 ) -> Result<Vec<Difference>, BenchFault>
-    ensures found { IfOk result (λ v. v.items ≡ differences (machine_state before.old.kept at_before).memory.ram (machine_state now.old.kept at_now).memory.ram most) }
+    ensures found { IfOk result (λ v. v.items ≡ differences (ram_size PAGES) (machine_state before.old.kept at_before).memory.ram (machine_state now.old.kept at_now).memory.ram most) }
     ensures within { OnOk result (range_refusal at_now at_before ≡ None) }
     ensures now_answered { OnOk result (IsAnswered K at_now now.old now.new) }
     ensures before_answered { OnOk result (IsAnswered K at_before before.old before.new) }

@@ -11,6 +11,7 @@ from pathlib import Path
 
 from . import places
 from .problem import Interrupted, Problem, say
+from .sources import MONITOR, WORKBENCH
 
 CANNOT_OPEN, READ_FAULT, FAULT = "cannot open script", "read fault", 3
 
@@ -20,24 +21,41 @@ Words of ./sparc8 itself, each the first:
   --import FILE .. [-o OUT] ..        makes a source of a real program; --import --help tells more, docs/IMPORT.md all
   --install PREFIX                    installs the proved programs, the importer and the manual pages below PREFIX
   --check                             tells what stands here: version, sources, proved or not, by what and when
-  --program                           proves and builds the program if need be, and tells where it is
+  --program                           proves and builds the programs if need be, and tells where this one is
+
+./sparc8_monitor [--windows N] [SCRIPT] answers questions besides: docs/MONITOR.md tells them.
 """
 
 
 def main(words: Sequence[str]) -> int:
-    """Does what the words say. Gives the status, unless the proved program takes over."""
+    """Does what the words of `./sparc8` say. Gives the status, unless the proved program takes over."""
+    return _done(lambda: _workbench(words))
+
+
+def monitor(words: Sequence[str]) -> int:
+    """The same for `./sparc8_monitor`, which has no words of its own."""
+    return _done(lambda: _run(MONITOR, words))
+
+
+def _workbench(words: Sequence[str]) -> int:
+    """Does what the words of `./sparc8` say."""
     own: dict[str, Callable[[Sequence[str]], int]] = {
         "--unproved": _unproved,
         "--install": _install,
         "--check": _check,
         "--program": _program,
     }
+    if "--import" in words:
+        return _import(words)
+    if words and words[0] in own:
+        return own[words[0]](words[1:])
+    return _run(WORKBENCH, words)
+
+
+def _done(does: Callable[[], int]) -> int:
+    """Does this, and tells what goes wrong."""
     try:
-        if "--import" in words:
-            return _import(words)
-        if words and words[0] in own:
-            return own[words[0]](words[1:])
-        return _run(words)
+        return does()
     except Problem as problem:
         say(str(problem))
         return problem.status
@@ -55,35 +73,35 @@ def main(words: Sequence[str]) -> int:
         return 1
 
 
-def _run(words: Sequence[str]) -> int:
-    """Hands the words to the proved program, which is proved and built first where it is not there."""
-    program = _kept_program()
-    if program is None:
-        status = _answered(words)
+def _run(program: str, words: Sequence[str]) -> int:
+    """Hands the words to a proved program, which is proved and built first where it is not there."""
+    path = _kept_program(program)
+    if path is None:
+        status = _answered(program, words)
         if status is not None:
             return status
-        program = _proved_program()
-    elif _asks_help(words):
-        return _help(program, words)
-    return _become(program, words)
+        path = _proved_program(program)
+    elif program == WORKBENCH and _asks_help(words):
+        return _help(path, words)
+    return _become(path, words)
 
 
-def _kept_program() -> Path | None:
+def _kept_program(program: str = WORKBENCH) -> Path | None:
     """The proved program that stands here for these very sources, if there is one."""
     from . import standing
 
     found = standing.now().kept
-    return found.program() if found else None
+    return found.program(program) if found else None
 
 
-def _proved_program() -> Path:
+def _proved_program(program: str = WORKBENCH) -> Path:
     """The proved program, proved and built now where need be."""
-    found = _kept_program()
+    found = _kept_program(program)
     if found is not None:
         return found
     from . import standing
 
-    return standing.prove().program()
+    return standing.prove().program(program)
 
 
 def _become(program: Path, words: Sequence[str]) -> int:
@@ -94,7 +112,7 @@ def _become(program: Path, words: Sequence[str]) -> int:
     for it in (signal.SIGPIPE, signal.SIGXFSZ):
         signal.signal(it, signal.SIG_DFL)
     sys.stdout.flush()
-    os.execv(program, ["sparc8", *words])
+    os.execv(program, [program.name, *words])
     raise AssertionError("the program has taken over")
 
 
@@ -120,20 +138,21 @@ def _help(program: Path, words: Sequence[str]) -> int:
     return status
 
 
-def _answered(words: Sequence[str]) -> int | None:
+def _answered(program: str, words: Sequence[str]) -> int | None:
     """Answers words that need no run as the program does, and gives the status; None where a run is asked for."""
     from .words import Refused, read
 
     try:
         settings = read(words)
     except Refused as refused:
-        sys.stderr.write(refused.err)
-        sys.stdout.write(refused.out + (HELP if refused.is_help else ""))
+        said = refused.said(program)
+        sys.stderr.write(said.err)
+        sys.stdout.write(said.out + (HELP if refused.is_help and program == WORKBENCH else ""))
         sys.stdout.flush()
-        return refused.status
+        return said.status
     fault = None if settings.script is None else fault_of(settings.script)
     if fault is not None:
-        say(fault)
+        say(fault, program)
         return FAULT
     return None
 
@@ -166,7 +185,7 @@ def _no_more(word: str, words: Sequence[str]) -> None:
 def _unproved(words: Sequence[str]) -> int:
     """Runs a script with no proof."""
     _in_repository("--unproved")
-    status = _answered(words)
+    status = _answered(WORKBENCH, words)
     if status is not None:
         return status
     from . import unproved

@@ -8,6 +8,7 @@ from pathlib import Path
 from . import kept, places
 from .kept import Kept
 from .problem import Problem, say
+from .sources import PROGRAMS
 
 MANUAL = places.TOP / "docs" / "man"
 _LEFT_OUT = shutil.ignore_patterns("__pycache__", "*.pyc")
@@ -24,7 +25,8 @@ def install(proved: Kept, prefix: Path) -> None:
         _install_pages(prefix / "share")
     except OSError as problem:
         raise Problem(f"it cannot be installed below {prefix}: {problem}") from problem
-    say(f"installed below {prefix}: bin/sparc8, lib/rubliman, share/man and share/doc/rubliman")
+    commands = ", ".join(f"bin/{name}" for name in PROGRAMS)
+    say(f"installed below {prefix}: {commands}, lib/rubliman, share/man and share/doc/rubliman")
 
 
 def _install_package(proved: Kept, to: Path) -> None:
@@ -48,14 +50,15 @@ def _install_package(proved: Kept, to: Path) -> None:
 def _install_commands(to: Path) -> None:
     """The commands that users give."""
     to.mkdir(parents=True, exist_ok=True)
-    _put(places.TOP / "sparc8", to / "sparc8", 0o755)
+    for name in PROGRAMS:
+        _put(places.TOP / name, to / name, 0o755)
 
 
 def _install_pages(share: Path) -> None:
     """The manual pages, each in its section's folder, and the user's guide."""
     for page in sorted(MANUAL.glob("*.[1-9]")):
         _put(page, share / "man" / f"man{page.suffix[1:]}" / page.name, 0o644)
-    for name in ("COMMANDS.md", "ASSEMBLER.md", "IMPORT.md"):
+    for name in ("COMMANDS.md", "MONITOR.md", "ASSEMBLER.md", "IMPORT.md"):
         _put(places.TOP / "docs" / name, share / "doc" / "rubliman" / name, 0o644)
 
 

@@ -20,7 +20,7 @@ class Interrupted(Exception):
         self.status = 128 + number
 
 
-def say(text: str) -> None:
+def say(text: str, program: str = "sparc8") -> None:
     """Tells something on standard error, under the program's name."""
-    sys.stderr.write(f"sparc8: {text}\n")
+    sys.stderr.write(f"{program}: {text}\n")
     sys.stderr.flush()

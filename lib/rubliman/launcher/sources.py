@@ -9,7 +9,7 @@ from pathlib import Path
 from .problem import Problem
 
 # The programs that are proved, kept and installed. Each is a crate of that name.
-PROGRAMS = ("sparc8",)
+WORKBENCH, MONITOR = PROGRAMS = ("sparc8", "sparc8_monitor")
 _PARTS = ("src", "specs", "proofs")
 
 

@@ -15,7 +15,7 @@ from pathlib import Path
 
 from . import places, running, times, toolchain
 from .problem import Problem, say
-from .sources import Sources, read_sources
+from .sources import WORKBENCH, Sources, read_sources
 from .words import Settings
 
 # What a first run took on four processors with other work on them.
@@ -59,7 +59,7 @@ def write_copy(sources: Sources, windows: str, to: Path) -> None:
 def _ran(rt: str, settings: Settings, room: Path) -> int:
     """Runs the toolchain's command on a copy. The script comes as its input, since it may lie anywhere."""
     copy = room / "copy"
-    write_copy(read_sources(places.TOP), settings.windows, copy)
+    write_copy(read_sources(places.TOP, [WORKBENCH]), settings.windows, copy)
     words = [rt, "try", "--steps", "1", "--seconds", str(MOST_SECONDS), "--", "--windows", settings.windows]
     script: int | None = None
     try:

@@ -1,7 +1,7 @@
 """Reads the program's words as the program does, where it is not there to be asked.
 
 The texts are the program's own, recorded in `program_texts.json`. Each was given for marked words, which are replaced
-by those at hand.
+by those at hand. Those of the monitor are the workbench's under another name, but for its help.
 """
 from __future__ import annotations
 
@@ -9,13 +9,15 @@ import json
 import os
 import re
 from collections.abc import Mapping, Sequence
-from dataclasses import dataclass, field
+from dataclasses import dataclass, field, replace
 from pathlib import Path
 
 from .likeness import most_like
+from .sources import WORKBENCH
 
 TEXTS = Path(__file__).with_name("program_texts.json")
 WINDOWS, SCRIPT, HELP = "windows", "script", "help"
+HELP_OF_MONITOR = "help of the monitor"
 COUNTS = ("2", "4", "8", "16", "32")
 
 
@@ -38,13 +40,16 @@ class Recorded:
 
 
 class Refused(Exception):
-    """The words are refused, or ask for the help: what the program prints, and its status."""
+    """The words are refused, or ask for the help."""
 
     def __init__(self, name: str, replaced: Mapping[str, str] | None = None) -> None:
         super().__init__(name)
-        said = recorded()[name]
-        self.is_help = name == "help"
-        self.status, self.out, self.err = said.status, said.out, _with(said.err, replaced or {})
+        self.name, self.replaced, self.is_help = name, replaced or {}, name == "help"
+
+    def said(self, program: str = WORKBENCH) -> Recorded:
+        """What the program prints, and its status."""
+        found = recorded(program)[self.name]
+        return replace(found, err=_with(found.err, self.replaced))
 
 
 def _with(text: str, replaced: Mapping[str, str]) -> str:
@@ -53,10 +58,17 @@ def _with(text: str, replaced: Mapping[str, str]) -> str:
     return re.sub("|".join(map(re.escape, quoted)), lambda it: quoted[it[0]], text) if quoted else text
 
 
-def recorded() -> dict[str, Recorded]:
-    """The recorded texts, by name."""
-    read = json.loads(TEXTS.read_text(encoding="utf-8"))
-    return {name: Recorded(tuple(it["words"]), it["status"], it["out"], it["err"]) for name, it in read.items()}
+def recorded(program: str = WORKBENCH) -> dict[str, Recorded]:
+    """The recorded texts of a program, by name."""
+    found = {
+        name: Recorded(tuple(it["words"]), it["status"], it["out"], it["err"])
+        for name, it in json.loads(TEXTS.read_text(encoding="utf-8")).items()
+    }
+    help_of_monitor = found.pop(HELP_OF_MONITOR)
+    if program == WORKBENCH:
+        return found
+    named = {name: replace(it, err=re.sub(rf"\b{WORKBENCH}\b", program, it.err)) for name, it in found.items()}
+    return {**named, "help": help_of_monitor}
 
 
 def read(words: Sequence[str]) -> Settings:

@@ -1,0 +1,86 @@
+-- Words that differ: the one that is found from an address on is the next one of them.
+use Rattle.std.proofs.Common.{◌≡◌, ◌≢◌, ◌∙◌, ℕ, zero, suc, ◌+◌, ◌-◌, ◌*◌, ◌/◌, ◌%◌, ◌<◌, ◌≤◌, List, [], ◌∷◌, map, Option, Some, None, option_map, inl, inr, refl, sym, ap, ap₂, subst, arith}
+use Rattle.std.proofs.lemmas.Bool.{cases_eq}
+use Rattle.std.proofs.lemmas.Bool.Decides.{nat_tests}
+use Rattle.sv8_model.specs.Outside.{word_of}
+use Rattle.sv8_phys.specs.Differences.{differing_word, next_difference}
+use Rattle.sv8_monitor.specs.declared.difference.Difference.{Difference}
+use Rattle.sv8_monitor.specs.Search.{rising}
+use Rattle.sv8_monitor.specs.Comparing.{differs_at, difference_at}
+
+module _ (before now : List ℕ) where
+  -- the numbers of words that differ, among so many from one on
+  numbers : ℕ → ℕ → ℕ → List ℕ
+  numbers k count most = rising (differs_at before now) k count most
+
+  same_word : (count k : ℕ) → word_of now k ≡ word_of before k → differing_word now before (suc count) k ≡ differing_word now before count (k + 1)
+  unfolding differing_word
+  same_word count k e = grind (arith, nat_tests)
+
+  other_word : (count k : ℕ) → word_of now k ≢ word_of before k → differing_word now before (suc count) k ≡ Some k
+  unfolding differing_word
+  other_word count k e = grind (arith, nat_tests)
+
+  no_word : (k : ℕ) → differing_word now before 0 k ≡ None
+  unfolding differing_word
+  no_word k = refl
+
+  same_number : (count k most : ℕ) → word_of now k ≡ word_of before k → numbers k (suc count) (suc most) ≡ numbers (k + 1) count (suc most)
+  unfolding numbers
+  same_number count k most e = grind (arith, nat_tests)
+
+  other_number : (count k most : ℕ) → word_of now k ≢ word_of before k → numbers k (suc count) (suc most) ≡ k ∷ numbers (k + 1) count most
+  unfolding numbers
+  other_number count k most e = grind (arith, nat_tests)
+
+  -- what the first word that differs says of all of them
+  abbrev Begins : ℕ → ℕ → ℕ → Option ℕ → Type 0
+  Begins count k most None = numbers k count (suc most) ≡ []
+  Begins count k most (Some j) = (k ≤ j) × (j < k + count) × (numbers k count (suc most) ≡ j ∷ numbers (j + 1) (k + count - (j + 1)) most)
+
+  later : (count k most : ℕ) (r : Option ℕ) → word_of now k ≡ word_of before k → Begins count (k + 1) most r → Begins (suc count) k most r
+  later count k most None e h = same_number count k most e ∙ h
+  later count k most (Some j) e h =
+      let same : k + 1 + count - (j + 1) ≡ k + suc count - (j + 1) = omega arith in
+      (omega (arith, h.0), omega (arith, h.1), same_number count k most e ∙ h.2 ∙ ap (λ n. j ∷ numbers (j + 1) n most) same)
+
+  begins : (count k most : ℕ) → Begins count k most (differing_word now before count k)
+  unfolding numbers
+  begins zero k most = subst (Begins 0 k most) (sym (no_word k)) refl
+  begins (suc count) k most = elim (cases_eq (word_of now k) (word_of before k)) [
+    | inl same ↦ subst (Begins (suc count) k most) (sym (same_word count k same)) (later count k most _ same (begins count (k + 1) most))
+    | inr differs ↦ subst (Begins (suc count) k most) (sym (other_word count k differs)) (here differs)
+  ] where
+    here : word_of now k ≢ word_of before k → Begins (suc count) k most (Some k)
+    here differs =
+        let same : count ≡ k + suc count - (k + 1) = omega arith in
+        (omega arith, omega arith, other_number count k most differs ∙ ap (λ n. k ∷ numbers (k + 1) n most) same)
+
+  module _ (size from : ℕ) (whole : size % 4 ≡ 0) (aligned : from % 4 ≡ 0) where
+    -- those that are left from an address on
+    abbrev pub left : ℕ → ℕ → List Difference
+    left at most = map (difference_at before now) (rising (differs_at before now) (at / 4) (size / 4 - at / 4) most)
+
+    at_some : (most address : ℕ) (r : Option ℕ) → Begins (size / 4 - from / 4) (from / 4) most r → option_map (λ k. 4 * k) r ≡ Some address
+        → left from (suc most) ≡ difference_at before now (address / 4) ∷ left (address + 4) most
+    unfolding numbers
+    at_some most address None h ()
+    at_some most address (Some j) h refl =
+        let here : 4 * j / 4 ≡ j = omega arith in
+        let next : (4 * j + 4) / 4 ≡ j + 1 = omega arith in
+        let rest : from / 4 + (size / 4 - from / 4) - (j + 1) ≡ size / 4 - (j + 1) = omega (arith, h.0, h.1) in
+        rw (here, next) (ap (map (difference_at before now)) (h.2 ∙ ap (λ n. j ∷ rising (differs_at before now) (j + 1) n most) rest))
+
+    at_none : (most : ℕ) (r : Option ℕ) → Begins (size / 4 - from / 4) (from / 4) most r → option_map (λ k. 4 * k) r ≡ None → left from (suc most) ≡ []
+    unfolding numbers
+    at_none most None h e = ap (map (difference_at before now)) h
+    at_none most (Some j) h ()
+
+    -- one that is found, with those behind it
+    pub found_next : (most address : ℕ) → next_difference size now before from ≡ Some address
+        → left from (suc most) ≡ difference_at before now (address / 4) ∷ left (address + 4) most
+    found_next most address e = at_some most address _ (begins (size / 4 - from / 4) (from / 4) most) e
+
+    -- none is found
+    pub found_none : (most : ℕ) → next_difference size now before from ≡ None → left from (suc most) ≡ []
+    found_none most e = at_none most _ (begins (size / 4 - from / 4) (from / 4) most) e
