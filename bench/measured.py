@@ -1,6 +1,8 @@
 """The proved program and the plain interpreter: how they are built, asked and timed."""
 import os
 import subprocess
+import sys
+import time
 from pathlib import Path
 
 from image import image
@@ -20,10 +22,10 @@ def build_interpreter():
         subprocess.run(["rustc", "-O", "--edition", "2021", "-o", INTERPRETER, source], check=True)
 
 
-def proved_program():
-    """The file of the proved program, which `sparc8` proves and builds where that is not done yet."""
+def proved_program(name="sparc8"):
+    """The file of a proved program, which its launcher proves and builds where that is not done yet."""
     pipe = subprocess.PIPE
-    with subprocess.Popen([BENCH.parent / "sparc8"], stdin=pipe, stdout=pipe, text=True) as asked:
+    with subprocess.Popen([BENCH.parent / name], stdin=pipe, stdout=pipe, text=True) as asked:
         asked.stdin.write("regs 0\n")
         asked.stdin.flush()
         asked.stdout.readline()
@@ -65,3 +67,38 @@ def processor_time(words, text):
         run.returncode = os.waitstatus_to_exitcode(status)
     assert run.returncode == 0, words
     return used.ru_utime + used.ru_stime
+
+
+class Workbench:
+    """The program at work, which is asked line by line."""
+
+    def __init__(self, program):
+        self.process = subprocess.Popen([program, "--windows", "8"], stdin=subprocess.PIPE, stdout=subprocess.PIPE)
+
+    def ask(self, lines):
+        """The milliseconds until the answer has come."""
+        begin = time.perf_counter()
+        self.process.stdin.write((lines + "\n").encode())
+        self.process.stdin.flush()
+        while True:
+            answer = self.process.stdout.readline()
+            if not answer or answer.startswith(b"refused"):
+                sys.exit(f"{lines.splitlines()[0]}: {answer.decode()}")
+            if answer == b"ok\n":
+                return (time.perf_counter() - begin) * 1000
+
+    def told(self, line):
+        """The lines of an answer."""
+        self.process.stdin.write((line + "\n").encode())
+        self.process.stdin.flush()
+        return list(iter(lambda: self.process.stdout.readline().decode().strip(), "ok"))
+
+    def megabytes(self):
+        """The most memory that the program has held."""
+        for line in open(f"/proc/{self.process.pid}/status"):
+            if line.startswith("VmHWM"):
+                return int(line.split()[1]) / 1000
+
+    def end(self):
+        self.process.stdin.close()
+        self.process.wait()

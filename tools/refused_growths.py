@@ -3,7 +3,7 @@
 
 Usage: tools/refused_growths.py PROGRAM SCRIPT, as tools/refused_growths.py crates/sparc8/out/sparc8 crates/sv8_cases/data/examples-first-w8.txt
 
-A run may end with status 3 and the line `sparc8: out of memory`, before any command. Else one command is answered
+A run may end with status 3 and the line `PROGRAM: out of memory`, before any command. Else one command is answered
 `refused 1 OutOfMemory`, and all other answers are those of the script without that command (an edit goes with its lines).
 """
 import os, subprocess, sys, tempfile
@@ -56,7 +56,7 @@ def main():
             n += 1
             if (status, written) == whole[:2]:
                 counts["no answer changed"] += 1
-            elif status == 3 and not written and errors == b"sparc8: out of memory\n":
+            elif status == 3 and not written and errors == f"{os.path.basename(program)}: out of memory\n".encode():
                 counts["before any command"] += 1
             elif status == 0 and written in refusals:
                 counts["a command"] += 1

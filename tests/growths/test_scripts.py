@@ -13,6 +13,7 @@ from pathlib import Path
 
 from growths.support import DATA, REFUSED, TOP, built, commands, run
 
+QUESTIONS = TOP / "tests/monitor/growths"
 STEPS_BETWEEN_CHECKPOINTS = 256
 
 
@@ -110,18 +111,24 @@ class Scripts(unittest.TestCase):
 
 
 class Program(unittest.TestCase):
-    """The program itself, whose words and script take memory too."""
+    """The programs themselves, whose words and script take memory too."""
 
-    def each_is_kept(self, name: str) -> None:
-        words = [sys.executable, TOP / "tools/refused_growths.py", os.environ["SPARC8"], DATA / f"{name}.txt"]
+    def each_is_kept(self, program: str, script: Path) -> None:
+        words = [sys.executable, TOP / "tools/refused_growths.py", os.environ[program], script]
         done = subprocess.run(words, capture_output=True, text=True, check=False)
         self.assertEqual(done.returncode, 0, done.stdout + done.stderr)
 
     def test_first_script(self) -> None:
-        self.each_is_kept("examples-first-w8")
+        self.each_is_kept("SPARC8", DATA / "examples-first-w8.txt")
 
     def test_page_tables(self) -> None:
-        self.each_is_kept("examples-page-tables-w8")
+        self.each_is_kept("SPARC8", DATA / "examples-page-tables-w8.txt")
 
     def test_console_echo(self) -> None:
-        self.each_is_kept("examples-console-echo-w8")
+        self.each_is_kept("SPARC8", DATA / "examples-console-echo-w8.txt")
+
+    def test_questions_of_a_boot_trap(self) -> None:
+        self.each_is_kept("SPARC8_MONITOR", QUESTIONS / "boot.txt")
+
+    def test_questions_of_what_if(self) -> None:
+        self.each_is_kept("SPARC8_MONITOR", QUESTIONS / "what-if.txt")

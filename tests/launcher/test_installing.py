@@ -70,6 +70,7 @@ class Installing(InRepository):
         self.install()
         for it in (
             "share/man/man1/sparc8.1",
+            "share/man/man1/sparc8_monitor.1",
             "share/man/man5/sparc8.5",
             "share/doc/rubliman/COMMANDS.md",
             "lib/rubliman/runtime/crt0.S",

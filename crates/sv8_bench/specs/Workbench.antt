@@ -27,6 +27,17 @@ checkpoints w = length w.recording.intervals
 abbrev pub run_of_kept : (k : Kept) → AreEvents k.pages k.timeline → Run (machine k.windows k.pages)
 run_of_kept k valid = run_of k.windows k.pages k.source k.timeline valid
 
+-- the machine has so many register windows and pages of RAM, and a checkpoint stands every k steps
+pub record IsSized (windows pages k : ℕ) (w : Workbench) : Type 0 where
+  pub windows : w.kept.windows ≡ windows
+  pub pages : w.kept.pages ≡ pages
+  pub some_windows : 2 ≤ windows
+  pub few_windows : windows ≤ 32
+  pub some_pages : 1 ≤ pages
+  pub few_pages : pages ≤ 65536
+  pub some_steps : 1 ≤ k
+  pub few_steps : k ≤ 1000000
+
 -- THE RECORDED RUN IS THAT OF THE SOURCE AND THE TIMELINE as they are now: each checkpoint is the state of its step, and each step has the notes of what
 -- it touches.
 pub record IsRun (k : ℕ) (w : Workbench) : Type 0 where

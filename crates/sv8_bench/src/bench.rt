@@ -9,7 +9,7 @@ ghost use Rattle.sv8_edits.specs.Changes.{image_changes};
 ghost use Rattle.sv8_trace.specs.Recording.{recorded};
 ghost use Rattle.sv8_bench.specs.Faults.{edit_refusal};
 ghost use Rattle.sv8_bench.specs.Kept.{edited};
-ghost use Rattle.sv8_bench.specs.Workbench.{IsRun, IsNew, IsEdited};
+ghost use Rattle.sv8_bench.specs.Workbench.{IsRun, IsNew, IsEdited, IsSized};
 
 mod copies;
 mod edits;
@@ -147,6 +147,13 @@ impl<const NW: usize, const PAGES: usize, const K: u32> Bench<NW, PAGES, K> {
         ensures { result.now ≡ self.now.kept.timeline }
     {
         &self.timeline
+    }
+
+    /// The sizes that its type names: nothing is done, but what is known of every workbench is known of this one.
+    pub fn sizes(&self)
+        ensures { IsSized NW PAGES K self.now }
+    {
+        let _source = &self.source;
     }
 
     /// Where it takes memory from.

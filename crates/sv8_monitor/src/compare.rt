@@ -59,6 +59,7 @@ fn part_within<const NW: usize, const PAGES: usize, const K: u32>(
     ensures now_given_up { IsAbandoned K from to now.old now.new }
     ensures before_given_up { IsAbandoned K from to before.old before.new }
 {
+    now.sizes();
     let mut watch = Watch::new(now.alloc());
     let mut walk = now.walk(from, &mut watch)?;
     let mut other = before.walk(from, &mut watch)?;
@@ -129,9 +130,10 @@ pub fn differ<const NW: usize, const PAGES: usize, const K: u32>(
     if LAST_STEP < at_now || LAST_STEP < at_before {
         return Err(BenchFault::StepTooLarge);
     }
+    now.sizes();
     let alloc = now.alloc();
-    let now = now.machine(at_now)?;
-    let before = before.machine(at_before)?;
-    let found = differences(alloc, &before, &now, most)?;
+    let shown = now.machine(at_now)?;
+    let other = before.machine(at_before)?;
+    let found = differences(alloc, &other, &shown, most)?;
     Ok(found)
 }
