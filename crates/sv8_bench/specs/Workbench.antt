@@ -28,13 +28,13 @@ abbrev pub run_of_kept : (k : Kept) → AreEvents k.pages k.timeline → Run (ma
 run_of_kept k valid = run_of k.windows k.pages k.source k.timeline valid
 
 -- the machine has so many register windows and pages of RAM, and a checkpoint stands every k steps
-pub record IsSized (windows pages k : ℕ) (w : Workbench) : Type 0 where
-  pub windows : w.kept.windows ≡ windows
-  pub pages : w.kept.pages ≡ pages
-  pub some_windows : 2 ≤ windows
-  pub few_windows : windows ≤ 32
-  pub some_pages : 1 ≤ pages
-  pub few_pages : pages ≤ 65536
+pub record IsSized (nw ram_pages k : ℕ) (w : Workbench) : Type 0 where
+  pub windows : w.kept.windows ≡ nw
+  pub pages : w.kept.pages ≡ ram_pages
+  pub some_windows : 2 ≤ nw
+  pub few_windows : nw ≤ 32
+  pub some_pages : 1 ≤ ram_pages
+  pub few_pages : ram_pages ≤ 65536
   pub some_steps : 1 ≤ k
   pub few_steps : k ≤ 1000000
 

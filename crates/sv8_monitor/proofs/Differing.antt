@@ -64,7 +64,7 @@ module _ (before now : List ℕ) where
     at_some : (most address : ℕ) (r : Option ℕ) → Begins (size / 4 - from / 4) (from / 4) most r → option_map (λ k. 4 * k) r ≡ Some address
         → left from (suc most) ≡ difference_at before now (address / 4) ∷ left (address + 4) most
     unfolding numbers
-    at_some most address None h ()
+    at_some most address None h e = absurd e
     at_some most address (Some j) h refl =
         let here : 4 * j / 4 ≡ j = omega arith in
         let next : (4 * j + 4) / 4 ≡ j + 1 = omega arith in
@@ -74,7 +74,7 @@ module _ (before now : List ℕ) where
     at_none : (most : ℕ) (r : Option ℕ) → Begins (size / 4 - from / 4) (from / 4) most r → option_map (λ k. 4 * k) r ≡ None → left from (suc most) ≡ []
     unfolding numbers
     at_none most None h e = ap (map (difference_at before now)) h
-    at_none most (Some j) h ()
+    at_none most (Some j) h e = absurd e
 
     -- one that is found, with those behind it
     pub found_next : (most address : ℕ) → next_difference size now before from ≡ Some address

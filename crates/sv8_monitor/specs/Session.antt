@@ -13,7 +13,7 @@ use Rattle.sv8_session.specs.Session as session
 use Rattle.sv8_session.specs.Run as session_run
 use Rattle.sv8_session.specs.Script as script
 use Rattle.sv8_shell.specs.Words.{words_of}
-use Rattle.sv8_shell.specs.Order as shell
+use Rattle.sv8_shell.specs.Order as shell_order
 use Rattle.sv8_shell.specs.Commands.{outcome_of}
 use Rattle.sv8_shell.specs.Outcome.{Outcome, Answers}
 use Rattle.sv8_shell.specs.Session as shell_session
@@ -40,7 +40,7 @@ kept_of m = record { now = m.current.kept; before = m.before.kept }
 
 pub data Order : Type 0 where
   -- an order of the workbench, to the one that is edited
-  shell : shell.Order → Order
+  shell : shell_order.Order → Order
   ask : Question → Order
 
 abbrev pub begins_own : Option Question → Begun
@@ -57,7 +57,7 @@ begins None text = shell_session.language.begins text
 begins (Some question) text = begins_own question
 
 abbrev pub order_own : Option Question → Order
-order_own None = shell shell.bad
+order_own None = shell shell_order.bad
 order_own (Some question) = ask question
 
 abbrev pub order : Option (Option Question) → List ℕ → List (List ℕ) → Order
@@ -114,7 +114,7 @@ abbrev pub language : Language Both Order
 language = record {
   begins = λ text. begins (question_of (words_of text)) text;
   order = λ text lines. order (question_of (words_of text)) text lines;
-  bad = shell shell.bad;
+  bad = shell shell_order.bad;
   Answers = AnswersOrder;
 }
 

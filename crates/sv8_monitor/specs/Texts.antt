@@ -56,8 +56,8 @@ byte_text name (Some byte) = name ++ hex_byte byte
 abbrev pub flag_text : List ℕ → Bool → List ℕ
 flag_text name holds = if holds then name else []
 
-unfoldable pub place_text : Found → List ℕ
-place_text f = decimal f.step ++ codes " " ++ hex_word f.happening.pc ++ fetch_text f.happening.fetch
+unfoldable pub step_place : Found → List ℕ
+step_place f = decimal f.step ++ codes " " ++ hex_word f.happening.pc ++ fetch_text f.happening.fetch
 
 unfoldable pub items_text : Happening → List ℕ
 items_text h =
@@ -66,7 +66,7 @@ items_text h =
 
 -- THE LINE OF A STEP
 unfoldable pub step_text : Found → List ℕ
-step_text f = place_text f ++ outcome_text f.happening.outcome ++ items_text f.happening ++ codes "\n"
+step_text f = step_place f ++ outcome_text f.happening.outcome ++ items_text f.happening ++ codes "\n"
 
 -- of several steps, one after the other
 abbrev pub steps_text : List Found → List ℕ

@@ -17,9 +17,9 @@ use crate::conditions::Conditions;
 use crate::event_lines::put_events;
 use crate::found::Found;
 use crate::lines::{add_place, put_names};
+use crate::piece::put_pieces;
 use crate::question::Query;
 use crate::search::steps;
-use crate::step_lines::put_steps;
 use crate::window_lines::put_windows;
 use std::io::Write;
 use sv8_bench::{Bench, BenchFault, DefinedName, LAST_STEP};
@@ -75,7 +75,7 @@ fn tell_steps<W: Write>(writer: &mut W, found: &[Found]) -> Result<(), WriteFaul
     ensures { Puts result (W.contents writer.old) (W.contents writer.new) (steps_text found.now ++ ok_line) }
 {
     let mut text = Text::new();
-    match put_steps(writer, &mut text, found) {
+    match put_pieces(writer, &mut text, found) {
         Ok(()) => accept(writer, &mut text),
         Err(fault) => Err(fault),
     }

@@ -1,19 +1,17 @@
 //! The lines of what stands in a timeline, as commands that set it.
 
-ghost use Rattle.std.specs.Prelude.{◌≡◌, ℕ, ◌+◌, ◌-◌, ◌*◌, ◌<◌, ◌≤◌, ◌++◌, [], length, flat_map, codes, decimal, slice_index, true};
+ghost use Rattle.std.specs.Prelude.{◌≡◌, ◌+◌, ◌%◌, ◌≤◌, ◌++◌, length, codes, decimal, slice_index};
 ghost use Rattle.sv8_time.specs.Schedule.{poke_of};
 ghost use Rattle.sv8_shell.specs.Put.{Gains};
-ghost use Rattle.sv8_shell.specs.Text.{hex_byte, hex_word};
-ghost use Rattle.sv8_monitor.specs.Events.{poke_place, byte_line, word_line, some_line, four_lines, word_lines, words_text, digits_text, input_text, request_line, requests_text, step_events, events_text};
+ghost use Rattle.sv8_shell.specs.Text.{hex_byte};
+ghost use Rattle.sv8_monitor.specs.Events.{poke_place, byte_line, word_line, some_line, four_lines, word_lines, digits_text, input_text, request_line, requests_text, step_events, events_text};
 
+use crate::piece::{Piece, put_pieces};
 use itoa::Buffer;
 use std::io::Write;
-use sv8_shell::put::{WriteFault, add_all, make_room};
+use sv8_shell::put::{WriteFault, add_all};
 use sv8_shell::text::{Text, hex_byte};
 use sv8_time::{Events, Request, Timeline, WordPoke};
-
-/// How long the lines of a word, and that of a request, are at most.
-const LONGEST: usize = 160;
 
 /// A name, a step and an address.
 fn add_place(text: &mut Text, name: &[u8], step: u32, address: u32)
@@ -69,7 +67,9 @@ fn add_bytes(text: &mut Text, step: u32, address: u32, bytes: [Option<u8>; 4])
 #[tactic(auto, unfolding(crate::specs::Events::word_line))]
 fn add_word(text: &mut Text, step: u32, address: u32, values: [u8; 4])
     requires room { length text.old + 160 ≤ 4096 }
-    ensures text { text.new ≡ text.old ++ word_line step address (slice_index values 0) (slice_index values 1) (slice_index values 2) (slice_index values 3) }
+    ensures text { text.new ≡ text.old ++
+        word_line step address (slice_index values 0) (slice_index values 1)
+        (slice_index values 2) (slice_index values 3) }
     ensures len { length text.new ≤ length text.old + 160 }
 {
     add_place(text, b"poke ", step, address);
@@ -80,65 +80,47 @@ fn add_word(text: &mut Text, step: u32, address: u32, values: [u8; 4])
     text.add(b"\n");
 }
 
-/// The line of a word, or the lines of its bytes where not all are poked.
-fn add_poke(text: &mut Text, word: &WordPoke)
-    requires room { length text.old + 160 ≤ 4096 }
-    ensures { text.new ≡ text.old ++ word_lines word.now }
-{
-    match word.bytes {
-        [Some(a), Some(b), Some(c), Some(d)] => {
-            add_word(text, word.step, word.address, [a, b, c, d]);
+impl Piece for WordPoke {
+    ghost piece_text = { word_lines };
+
+    /// The line of a word, or the lines of its bytes where not all are poked.
+    fn add_to(&self, text: &mut Text) {
+        match self.bytes {
+            [Some(a), Some(b), Some(c), Some(d)] => {
+                add_word(text, self.step, self.address, [a, b, c, d]);
+            }
+            bytes => add_bytes(text, self.step, self.address, bytes),
         }
-        bytes => add_bytes(text, word.step, word.address, bytes),
     }
 }
 
-/// The same, put where the text has no room for them.
-fn put_poke<W: Write>(writer: &mut W, text: &mut Text, word: &WordPoke) -> Result<(), WriteFault>
-    ensures { Gains result (W.contents writer.old) (W.contents writer.new) text.old text.new (word_lines word.now) }
-{
-    match make_room(writer, text, LONGEST) {
-        Ok(()) => {
-            add_poke(text, word);
-            Ok(())
-        }
-        Err(fault) => Err(fault),
+impl Piece for u8 {
+    ghost piece_text = { hex_byte };
+
+    /// The digits of a byte.
+    fn add_to(&self, text: &mut Text) {
+        text.add(&hex_byte(*self));
     }
 }
 
-/// The lines of poked words.
-fn put_pokes<W: Write>(
-    writer: &mut W,
-    text: &mut Text,
-    words: &[WordPoke],
-) -> Result<(), WriteFault>
-    ensures { Gains result (W.contents writer.old) (W.contents writer.new) text.old text.new (words_text words.now) }
-{
-    for word in words {
-        match put_poke(writer, text, word) {
-            Ok(()) => {}
-            Err(fault) => return Err(fault),
-        }
-    }
-    Ok(())
-}
+impl Piece for Request {
+    ghost piece_text = { request_line };
 
-/// The digits of bytes.
-fn put_digits<W: Write>(writer: &mut W, text: &mut Text, bytes: &[u8]) -> Result<(), WriteFault>
-    ensures { Gains result (W.contents writer.old) (W.contents writer.new) text.old text.new (digits_text bytes.now) }
-{
-    for byte in bytes {
-        match add_all(writer, text, &[&hex_byte(*byte)]) {
-            Ok(()) => {}
-            Err(fault) => return Err(fault),
-        }
+    /// The line of a request.
+    #[tactic(auto, unfolding(crate::specs::Events::request_line))]
+    fn add_to(&self, text: &mut Text) {
+        text.add(b"irq ");
+        text.add_decimal(self.step);
+        text.add(b" ");
+        text.add_decimal(u32::from(self.level.number()));
+        text.add(b"\n");
     }
-    Ok(())
 }
 
 /// The name and the step of an input.
 fn put_input_place<W: Write>(writer: &mut W, text: &mut Text, step: u32) -> Result<(), WriteFault>
-    ensures { Gains result (W.contents writer.old) (W.contents writer.new) text.old text.new (codes "input " ++ decimal step ++ codes " ") }
+    ensures { Gains result (W.contents writer.old) (W.contents writer.new) text.old text.new
+        (codes "input " ++ decimal step ++ codes " ") }
 {
     let mut buffer = Buffer::new();
     let digits = buffer.format(step).as_bytes();
@@ -151,9 +133,10 @@ fn put_input_bytes<W: Write>(
     text: &mut Text,
     bytes: &[u8],
 ) -> Result<(), WriteFault>
-    ensures { Gains result (W.contents writer.old) (W.contents writer.new) text.old text.new (digits_text bytes.now ++ codes "\n") }
+    ensures { Gains result (W.contents writer.old) (W.contents writer.new) text.old text.new
+        (digits_text bytes.now ++ codes "\n") }
 {
-    match put_digits(writer, text, bytes) {
+    match put_pieces(writer, text, bytes) {
         Ok(()) => add_all(writer, text, &[b"\n"]),
         Err(fault) => Err(fault),
     }
@@ -166,7 +149,8 @@ fn put_input<W: Write>(
     step: u32,
     bytes: &[u8],
 ) -> Result<(), WriteFault>
-    ensures { Gains result (W.contents writer.old) (W.contents writer.new) text.old text.new (input_text step bytes.now) }
+    ensures { Gains result (W.contents writer.old) (W.contents writer.new) text.old text.new
+        (input_text step bytes.now) }
 {
     if bytes.is_empty() {
         return add_all(writer, text, &[]);
@@ -175,52 +159,6 @@ fn put_input<W: Write>(
         Ok(()) => put_input_bytes(writer, text, bytes),
         Err(fault) => Err(fault),
     }
-}
-
-/// The line of a request.
-#[tactic(auto, unfolding(crate::specs::Events::request_line))]
-fn add_request(text: &mut Text, request: &Request)
-    requires room { length text.old + 160 ≤ 4096 }
-    ensures { text.new ≡ text.old ++ request_line request.now }
-{
-    text.add(b"irq ");
-    text.add_decimal(request.step);
-    text.add(b" ");
-    text.add_decimal(u32::from(request.level.number()));
-    text.add(b"\n");
-}
-
-fn put_request<W: Write>(
-    writer: &mut W,
-    text: &mut Text,
-    request: &Request,
-) -> Result<(), WriteFault>
-    ensures { Gains result (W.contents writer.old) (W.contents writer.new) text.old text.new (request_line request.now) }
-{
-    match make_room(writer, text, LONGEST) {
-        Ok(()) => {
-            add_request(text, request);
-            Ok(())
-        }
-        Err(fault) => Err(fault),
-    }
-}
-
-/// The lines of requests.
-fn put_requests<W: Write>(
-    writer: &mut W,
-    text: &mut Text,
-    requests: &[Request],
-) -> Result<(), WriteFault>
-    ensures { Gains result (W.contents writer.old) (W.contents writer.new) text.old text.new (requests_text requests.now) }
-{
-    for request in requests {
-        match put_request(writer, text, request) {
-            Ok(()) => {}
-            Err(fault) => return Err(fault),
-        }
-    }
-    Ok(())
 }
 
 /// The lines of the input and of the requests of a step.
@@ -234,7 +172,7 @@ fn put_later<W: Write>(
         (input_text step events.now.bytes.now ++ requests_text events.now.requests.now) }
 {
     match put_input(writer, text, step, events.bytes) {
-        Ok(()) => put_requests(writer, text, events.requests),
+        Ok(()) => put_pieces(writer, text, events.requests),
         Err(fault) => Err(fault),
     }
 }
@@ -246,10 +184,11 @@ fn put_step<W: Write>(
     timeline: &Timeline,
     step: u32,
 ) -> Result<(), WriteFault>
-    ensures { Gains result (W.contents writer.old) (W.contents writer.new) text.old text.new (step_events timeline.now step) }
+    ensures { Gains result (W.contents writer.old) (W.contents writer.new) text.old text.new
+        (step_events timeline.now step) }
 {
     let events = timeline.events(step);
-    match put_pokes(writer, text, events.pokes) {
+    match put_pieces(writer, text, events.pokes) {
         Ok(()) => put_later(writer, text, step, &events),
         Err(fault) => Err(fault),
     }
@@ -264,7 +203,8 @@ pub fn put_events<W: Write>(
     to: u32,
 ) -> Result<(), WriteFault>
     requires { from ≤ to }
-    ensures { Gains result (W.contents writer.old) (W.contents writer.new) text.old text.new (events_text timeline.now from to) }
+    ensures { Gains result (W.contents writer.old) (W.contents writer.new) text.old text.new
+        (events_text timeline.now from to) }
 {
     for step in from..to {
         match put_step(writer, text, timeline, step) {

@@ -10,6 +10,7 @@ mod event_lines;
 mod found;
 mod lines;
 mod monitor;
+mod piece;
 mod question;
 mod search;
 mod step_lines;

@@ -1,21 +1,19 @@
 //! The lines of places, names and differences.
 
-ghost use Rattle.std.specs.Prelude.{◌≡◌, ℕ, ◌+◌, ◌*◌, ◌<◌, ◌≤◌, ◌++◌, [], length, map, codes};
+ghost use Rattle.std.specs.Prelude.{◌≡◌, ◌+◌, ◌≤◌, ◌++◌, length, map};
 ghost use Rattle.sv8_source.specs.View.{named_of};
 ghost use Rattle.sv8_shell.specs.Put.{Gains};
 ghost use Rattle.sv8_shell.specs.Text.{hex_word};
-ghost use Rattle.sv8_monitor.specs.Texts.{page_text, place_text, name_kind_text, name_line, names_text, parted_line, parted_text, difference_line, differences_text};
+ghost use Rattle.sv8_monitor.specs.Texts.{page_text, place_text, name_kind_text, name_line, names_text, parted_text, difference_line};
 
 use crate::difference::Difference;
+use crate::piece::Piece;
 use crate::step_lines::add_physical;
 use std::io::Write;
 use sv8_bench::{DefinedName, NameKind};
 use sv8_cpu::{PagePlace, Place};
-use sv8_shell::put::{WriteFault, add_all, make_room};
+use sv8_shell::put::{WriteFault, add_all};
 use sv8_shell::text::{Text, hex_word};
-
-/// How long a line is at most, but for that of a name.
-const LONGEST: usize = 64;
 
 /// The level of an entry, and its access field.
 fn add_page(text: &mut Text, page: Option<PagePlace>)
@@ -55,21 +53,32 @@ fn name_kind_text(kind: NameKind) -> &'static [u8]
     }
 }
 
+/// The value of a name and what defines it.
+fn put_value<W: Write>(
+    writer: &mut W,
+    text: &mut Text,
+    value: u32,
+    kind: NameKind,
+) -> Result<(), WriteFault>
+    ensures { Gains result (W.contents writer.old) (W.contents writer.new) text.old text.new
+        (hex_word value ++ name_kind_text kind) }
+{
+    add_all(writer, text, &[&hex_word(value), name_kind_text(kind)])
+}
+
 /// The line of a name, which may be as long as a line of the source.
-#[tactic(auto, unfolding(crate::specs::Texts::name_line))]
 fn put_name<W: Write>(
     writer: &mut W,
     text: &mut Text,
     name: &DefinedName<'_>,
 ) -> Result<(), WriteFault>
-    ensures { Gains result (W.contents writer.old) (W.contents writer.new) text.old text.new (name_line (named_of name.now)) }
+    ensures { Gains result (W.contents writer.old) (W.contents writer.new) text.old text.new
+        (name_line (named_of name.now)) }
 {
-    let value = hex_word(name.value);
-    add_all(
-        writer,
-        text,
-        &[&value, name_kind_text(name.kind), name.text, b"\n"],
-    )
+    match put_value(writer, text, name.value, name.kind) {
+        Ok(()) => add_all(writer, text, &[name.text, b"\n"]),
+        Err(fault) => Err(fault),
+    }
 }
 
 /// The lines of names.
@@ -78,7 +87,8 @@ pub fn put_names<W: Write>(
     text: &mut Text,
     names: &[DefinedName<'_>],
 ) -> Result<(), WriteFault>
-    ensures { Gains result (W.contents writer.old) (W.contents writer.new) text.old text.new (names_text (map named_of names.now)) }
+    ensures { Gains result (W.contents writer.old) (W.contents writer.new) text.old text.new
+        (names_text (map named_of names.now)) }
 {
     for name in names {
         match put_name(writer, text, name) {
@@ -102,50 +112,17 @@ pub fn add_parted(text: &mut Text, parted: Option<u32>)
     }
 }
 
-/// The line of a word that differs.
-#[tactic(auto, unfolding(crate::specs::Texts::difference_line))]
-fn add_difference(text: &mut Text, difference: &Difference)
-    requires room { length text.old + 64 ≤ 4096 }
-    ensures text { text.new ≡ text.old ++ difference_line difference.now }
-{
-    text.add_word(difference.address);
-    text.add(b" ");
-    text.add_word(difference.old);
-    text.add(b" ");
-    text.add_word(difference.new);
-    text.add(b"\n");
-}
+impl Piece for Difference {
+    ghost piece_text = { difference_line };
 
-/// The same, which is put where the text has no room for it.
-fn put_difference<W: Write>(
-    writer: &mut W,
-    text: &mut Text,
-    difference: &Difference,
-) -> Result<(), WriteFault>
-    ensures { Gains result (W.contents writer.old) (W.contents writer.new) text.old text.new (difference_line difference.now) }
-{
-    match make_room(writer, text, LONGEST) {
-        Ok(()) => {
-            add_difference(text, difference);
-            Ok(())
-        }
-        Err(fault) => Err(fault),
+    /// The line of a word that differs.
+    #[tactic(auto, unfolding(crate::specs::Texts::difference_line))]
+    fn add_to(&self, text: &mut Text) {
+        text.add_word(self.address);
+        text.add(b" ");
+        text.add_word(self.old);
+        text.add(b" ");
+        text.add_word(self.new);
+        text.add(b"\n");
     }
-}
-
-/// The lines of words that differ.
-pub fn put_differences<W: Write>(
-    writer: &mut W,
-    text: &mut Text,
-    differences: &[Difference],
-) -> Result<(), WriteFault>
-    ensures { Gains result (W.contents writer.old) (W.contents writer.new) text.old text.new (differences_text differences.now) }
-{
-    for difference in differences {
-        match put_difference(writer, text, difference) {
-            Ok(()) => {}
-            Err(fault) => return Err(fault),
-        }
-    }
-    Ok(())
 }

@@ -11,7 +11,8 @@ ghost use Rattle.sv8_monitor.specs.declared.question.Question.TheVariants.{Keep,
 use crate::answers::answer_query;
 use crate::compare::{differ, part};
 use crate::difference::Difference;
-use crate::lines::{add_parted, put_differences};
+use crate::lines::add_parted;
+use crate::piece::put_pieces;
 use crate::question::{Question, parse_question};
 use std::io::Write;
 use sv8_bench::{Bench, BenchFault};
@@ -161,7 +162,7 @@ fn tell_differences<W: Write>(
     ensures { Puts result (W.contents writer.old) (W.contents writer.new) (differences_text differences.now ++ ok_line) }
 {
     let mut text = Text::new();
-    match put_differences(writer, &mut text, differences) {
+    match put_pieces(writer, &mut text, differences) {
         Ok(()) => accept(writer, &mut text),
         Err(fault) => Err(fault),
     }

@@ -1,19 +1,14 @@
 //! The lines of steps.
 
-ghost use Rattle.std.specs.Prelude.{◌≡◌, ℕ, ◌+◌, ◌*◌, ◌/◌, ◌%◌, ◌<◌, ◌≤◌, ◌++◌, ◌∷◌, [], length, codes};
-ghost use Rattle.sv8_shell.specs.Put.{Gains};
-ghost use Rattle.sv8_shell.specs.Text.{hex_word};
-ghost use Rattle.sv8_monitor.specs.Texts.{physical, fetch_text, outcome_text, kind_text, access_text, byte_text, flag_text, place_text, items_text, step_text, steps_text};
+ghost use Rattle.std.specs.Prelude.{◌≡◌, ◌+◌, ◌≤◌, ◌++◌, length};
+ghost use Rattle.sv8_shell.specs.Text.{hex_byte};
+ghost use Rattle.sv8_monitor.specs.Texts.{physical, fetch_text, outcome_text, kind_text, access_text, byte_text, flag_text, step_place, items_text, step_text};
 
 use crate::found::Found;
-use std::io::Write;
+use crate::piece::Piece;
 use sv8_phys::AccessKind;
-use sv8_shell::put::{WriteFault, make_room};
 use sv8_shell::text::{Text, hex_byte, hex_digit};
 use sv8_watch::{Access, Fetch, Happening, Outcome};
-
-/// How long a line is at most.
-const LONGEST: usize = 128;
 
 /// A physical address.
 #[tactic(auto, unfolding(crate::specs::Texts::physical))]
@@ -115,10 +110,10 @@ fn add_flag(text: &mut Text, name: &[u8], holds: bool)
     }
 }
 
-#[tactic(auto, unfolding(crate::specs::Texts::place_text))]
+#[tactic(auto, unfolding(crate::specs::Texts::step_place))]
 fn add_place(text: &mut Text, found: &Found)
     requires room { length text.old + 38 ≤ 4096 }
-    ensures text { text.new ≡ text.old ++ place_text found.now }
+    ensures text { text.new ≡ text.old ++ step_place found.now }
     ensures len { length text.new ≤ length text.old + 38 }
 {
     text.add_decimal(found.step);
@@ -140,45 +135,15 @@ fn add_items(text: &mut Text, happening: &Happening)
     add_flag(text, b" event", happening.event);
 }
 
-/// The line of a step.
-#[tactic(auto, unfolding(crate::specs::Texts::step_text))]
-pub fn add_step(text: &mut Text, found: &Found)
-    requires room { length text.old + 128 ≤ 4096 }
-    ensures text { text.new ≡ text.old ++ step_text found.now }
-    ensures len { length text.new ≤ length text.old + 128 }
-{
-    add_place(text, found);
-    add_outcome(text, found.happening.outcome);
-    add_items(text, &found.happening);
-    text.add(b"\n");
-}
+impl Piece for Found {
+    ghost piece_text = { step_text };
 
-/// The line of a step, which is put where the text has no room for it.
-fn put_step<W: Write>(writer: &mut W, text: &mut Text, found: &Found) -> Result<(), WriteFault>
-    ensures { Gains result (W.contents writer.old) (W.contents writer.new) text.old text.new (step_text found.now) }
-{
-    match make_room(writer, text, LONGEST) {
-        Ok(()) => {
-            add_step(text, found);
-            Ok(())
-        }
-        Err(fault) => Err(fault),
+    /// The line of a step.
+    #[tactic(auto, unfolding(crate::specs::Texts::step_text))]
+    fn add_to(&self, text: &mut Text) {
+        add_place(text, self);
+        add_outcome(text, self.happening.outcome);
+        add_items(text, &self.happening);
+        text.add(b"\n");
     }
-}
-
-/// The lines of steps.
-pub fn put_steps<W: Write>(
-    writer: &mut W,
-    text: &mut Text,
-    found: &[Found],
-) -> Result<(), WriteFault>
-    ensures { Gains result (W.contents writer.old) (W.contents writer.new) text.old text.new (steps_text found.now) }
-{
-    for step in found {
-        match put_step(writer, text, step) {
-            Ok(()) => {}
-            Err(fault) => return Err(fault),
-        }
-    }
-    Ok(())
 }

@@ -1,6 +1,6 @@
 //! The lines of the register windows.
 
-ghost use Rattle.std.specs.Prelude.{◌≡◌, ℕ, ◌+◌, ◌*◌, ◌<◌, ◌≤◌, ◌++◌, length};
+ghost use Rattle.std.specs.Prelude.{◌≡◌, ◌+◌, ◌<◌, ◌≤◌, ◌++◌, length};
 ghost use Rattle.sv8_shell.specs.Put.{Gains};
 ghost use Rattle.sv8_monitor.specs.Texts.{own_registers, window_line, windows_text};
 
@@ -70,7 +70,8 @@ pub fn put_windows<const NW: usize, W: Write>(
     registers: &Regs<NW>,
 ) -> Result<(), WriteFault>
     requires { NW ≤ 32 }
-    ensures { Gains result (W.contents writer.old) (W.contents writer.new) text.old text.new (windows_text NW registers.now) }
+    ensures { Gains result (W.contents writer.old) (W.contents writer.new) text.old text.new
+        (windows_text NW registers.now) }
 {
     for window in 0..NW as u32 {
         match put_window(writer, text, registers, window) {

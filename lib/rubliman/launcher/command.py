@@ -18,6 +18,8 @@ CANNOT_OPEN, READ_FAULT, FAULT = "cannot open script", "read fault", 3
 HELP = """
 Words of ./sparc8 itself, each the first:
   --unproved [--windows N] [SCRIPT]   runs a script with no proof, and says so
+  --gdb [--windows N] [SCRIPT] [-- WORD ..]
+                                      GDB on the machine of a script, back and forth; WORDs are GDB's; docs/GDB.md
   --import FILE .. [-o OUT] ..        makes a source of a real program; --import --help tells more, docs/IMPORT.md all
   --install PREFIX                    installs the proved programs, the importer and the manual pages below PREFIX
   --check                             tells what stands here: version, sources, proved or not, by what and when
@@ -41,6 +43,7 @@ def _workbench(words: Sequence[str]) -> int:
     """Does what the words of `./sparc8` say."""
     own: dict[str, Callable[[Sequence[str]], int]] = {
         "--unproved": _unproved,
+        "--gdb": _gdb,
         "--install": _install,
         "--check": _check,
         "--program": _program,
@@ -192,6 +195,25 @@ def _unproved(words: Sequence[str]) -> int:
     from .words import read
 
     return unproved.run(read(words))
+
+
+def _gdb(words: Sequence[str]) -> int:
+    """GDB on the machine of a script, by the proved monitor. Words behind `--` are GDB's."""
+    at = list(words).index("--") if "--" in words else len(words)
+    status = _answered(WORKBENCH, words[:at])
+    if status is not None:
+        return status
+    from rubliman.gdb.command import NoGdb
+    from rubliman.gdb.command import main as gdb_main
+
+    from .words import read
+
+    settings = read(words[:at])
+    try:
+        return gdb_main(_proved_program(MONITOR), settings.windows, settings.script, words[at + 1 :])
+    except NoGdb:
+        how = "run tests/install, or apt-get install" if places.is_repository() else "apt-get install"
+        raise Problem(f"GDB is not there: {how} gdb-multiarch") from None
 
 
 def _import(words: Sequence[str]) -> int:

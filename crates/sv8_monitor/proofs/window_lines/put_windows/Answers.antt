@@ -1,0 +1,18 @@
+use Rattle.std.proofs.Common.{arith}
+use Rattle.sv8_shell.proofs.PutLemmas.{gained-none}
+use Rattle.sv8_monitor.specs.Texts.{own_registers, window_line}
+use Rattle.sv8_monitor.proofs.Counted.{counted-cut, counted-next}
+use Rattle.sv8_monitor.proofs.window_lines.put_windows.Goals as goal
+
+pub loop-window-init : goal.loop-window-init
+loop-window-init g c = gained-none _ _
+
+pub returns-in-Err : goal.returns-in-Err
+returns-in-Err g c =
+    counted-cut (λ w. window_line w (own_registers g.row.NW (record c.args.registers.now { cwp = w }))) 0 g.row.NW c.loop-window.window c.loop-window.window _ _ _ _ _ (omega arith) (omega arith)
+    c.loop-window.invariant c.in-Err.ensures
+
+pub loop-window-preserved : goal.loop-window-preserved
+loop-window-preserved g c =
+    counted-next (λ w. window_line w (own_registers g.row.NW (record c.args.registers.now { cwp = w }))) 0 c.loop-window.window c.loop-window.window _ _ _ _ _ _ (omega arith)
+    c.loop-window.invariant c.in-Ok.ensures
