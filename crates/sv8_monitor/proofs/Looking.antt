@@ -60,16 +60,29 @@ abandoned_after k from n to old now pos low high s =
       worked = (n - restored k (checkpoints old) from, omega (arith, high), s.worked);
     }
 
--- a step could not be made
-pub abandoned_at : (k from n to : ℕ) (old now new : Workbench) → 0 < k → from ≤ n → n < to → IsSearched k from n old now → IsUnmade now new
+-- a step that was made was tried, and so was one that could not be
+pub tried_made : (k n : ℕ) (old new : Workbench) → IsMade k n old new → IsTried k n old new
+tried_made k n old new m = record { kept = m.kept; fewest = omega (arith, m.recorded); most = omega (arith, m.recorded); worked = inr m.worked }
+
+pub tried_unmade : (k n : ℕ) (old new : Workbench) → IsUnmade old new → IsTried k n old new
+tried_unmade k n old new u =
+    let same : checkpoints new ≡ checkpoints old = ap (λ r. length r.intervals) u.recorded in
+    record { kept = u.kept; fewest = omega (arith, same); most = omega (arith, same); worked = u.worked }
+
+-- it was not tried at all
+pub tried_same : (k n : ℕ) (old : Workbench) → IsTried k n old old
+tried_same k n old = record { kept = refl; fewest = omega arith; most = omega arith; worked = inl refl }
+
+-- a step was tried, and the search given up
+pub abandoned_tried : (k from n to : ℕ) (old now new : Workbench) → 0 < k → from ≤ n → n < to → IsSearched k from n old now → IsTried k n now new
     → IsAbandoned k from to old new
-abandoned_at k from n to old now new pos low high s u =
-    let up : n / k ≤ to / k = div_up k n to pos (omega (arith, high)) in
-    let same : checkpoints new ≡ checkpoints now = ap (λ r. length r.intervals) u.recorded in
+abandoned_tried k from n to old now new pos low high s t =
+    let here : n / k ≤ to / k = div_up k n to pos (omega (arith, high)) in
+    let next : (n + 1) / k ≤ to / k = div_up k (n + 1) to pos (omega (arith, high)) in
     let begun = restored_below k (checkpoints old) from in
     record {
-      kept = u.kept ∙ s.kept;
-      fewest = omega (arith, s.recorded, same);
-      most = omega (arith, s.recorded, same, up);
-      worked = raised_tried n (restored k (checkpoints old) from) to old.worked now.worked new.worked (omega (arith, begun, low)) high s.worked u.worked;
+      kept = t.kept ∙ s.kept;
+      fewest = omega (arith, s.recorded, t.fewest);
+      most = omega (arith, s.recorded, t.most, here, next);
+      worked = raised_tried n (restored k (checkpoints old) from) to old.worked now.worked new.worked (omega (arith, begun, low)) high s.worked t.worked;
     }

@@ -8,6 +8,9 @@ use Rattle.sv8_bench.specs.declared.fault.BenchFault.TheVariants.{StepTooLarge}
 use Rattle.sv8_bench.specs.Faults.{step_refusal}
 use Rattle.sv8_bench.specs.Kept.{Kept}
 use Rattle.sv8_bench.specs.Shown.{machine_state}
+use Rattle.sv8_bench.specs.Walks.{IsWalk}
+use Rattle.sv8_bench.specs.Workbench.{Workbench}
+use Rattle.sv8_monitor.specs.declared.compare.Both.{Both}
 use Rattle.sv8_monitor.specs.declared.difference.Difference.{Difference}
 use Rattle.sv8_monitor.specs.Search.{rising}
 
@@ -25,6 +28,13 @@ abbrev pub IsParted : Kept → Kept → ℕ → ℕ → Option ℕ → Type 0
 IsParted before now from to (Some n) =
     (from ≤ n) × (n ≤ to) × ((m : ℕ) → from ≤ m → m < n → AreAlike before now m) × (AreAlike before now n → ⊥)
 IsParted before now from to None = (m : ℕ) → from ≤ m → m ≤ to → AreAlike before now m
+
+-- walks through the runs of both have come to a step
+pub record AreWalks (k : ℕ) (now before : Workbench) (n : ℕ) {windows pages : ℕ} (both : Both windows pages) : Type 0 where
+  pub now_walk : IsWalk k now both.walk
+  pub before_walk : IsWalk k before both.other
+  pub now_step : both.walk.step ≡ n
+  pub before_step : both.other.step ≡ n
 
 -- the last step that has to be looked at for it
 abbrev pub parting : ℕ → Option ℕ → ℕ

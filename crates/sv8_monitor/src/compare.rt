@@ -1,16 +1,18 @@
 //! What differs between a workbench and the one that was kept.
 
-ghost use Rattle.std.specs.Prelude.{◌≡◌, ℕ, ◌+◌, ◌-◌, ◌*◌, ◌/◌, ◌<◌, ◌≤◌, ◌++◌, ◌∷◌, [], length, map, IfOk, IfErr, IfSome, OnOk, OnErr, None, Some};
+ghost use Rattle.std.specs.Prelude.{◌≡◌, MatchBool, ℕ, ◌+◌, ◌-◌, ◌*◌, ◌/◌, ◌<◌, ◌≤◌, ◌++◌, ◌∷◌, [], length, map, IfOk, IfErr, IfSome, OnOk, OnErr, None, Some};
 ghost use Rattle.sv8_bench.specs.Faults.{step_refusal, IsQueryFault};
 ghost use Rattle.sv8_phys.specs.Memory.{ram_size};
 ghost use Rattle.sv8_bench.specs.Shown.{machine_state};
 ghost use Rattle.sv8_bench.specs.Workbench.{IsAnswered, IsGivenUp};
-ghost use Rattle.sv8_monitor.specs.Search.{IsSearched, IsAbandoned};
-ghost use Rattle.sv8_monitor.specs.Comparing.{range_refusal, IsParted, parting, difference_at, differences};
+ghost use Rattle.sv8_cpu.specs.Sameness.{IsSameProcessor};
+ghost use Rattle.sv8_bench.specs.Walks.{IsMade, state_in};
+ghost use Rattle.sv8_monitor.specs.Search.{IsSearched, IsTried, IsAbandoned};
+ghost use Rattle.sv8_monitor.specs.Comparing.{range_refusal, AreWalks, IsParted, parting, difference_at, differences};
 
 use crate::difference::Difference;
 use std::alloc::{AllocError, Global};
-use sv8_bench::{Bench, BenchFault, LAST_STEP};
+use sv8_bench::{Bench, BenchFault, LAST_STEP, Walk};
 use sv8_cpu::Machine;
 use sv8_phys::Watch;
 
@@ -45,6 +47,64 @@ pub fn part<const NW: usize, const PAGES: usize, const K: u32>(
     Ok(parted)
 }
 
+/// Walks through the runs of both, which have come to the same step.
+#[derive(Drop)]
+struct Both<const NW: usize, const PAGES: usize> {
+    walk: Walk<NW, PAGES>,
+    other: Walk<NW, PAGES>,
+}
+
+impl<const NW: usize, const PAGES: usize> Both<NW, PAGES> {
+    /// Whether both machines have the same processor.
+    fn are_alike(&self) -> bool
+        ensures { MatchBool result (IsSameProcessor (state_in self.now.other.place) (state_in self.now.walk.place))
+            (IsSameProcessor (state_in self.now.other.place) (state_in self.now.walk.place) → ⊥) }
+    {
+        self.other
+            .machine()
+            .has_same_processor(self.walk.machine())
+    }
+}
+
+/// Begins both walks at a step.
+fn begin_both<const NW: usize, const PAGES: usize, const K: u32>(
+    now: &mut Bench<NW, PAGES, K>,
+    before: &mut Bench<NW, PAGES, K>,
+    from: u32,
+    watch: &mut Watch,
+) -> Result<Both<NW, PAGES>, AllocError>
+    requires step { from ≤ 1000000 }
+    ensures walks { IfOk result (λ b. AreWalks K now.new before.new from b) }
+    ensures now_answered { OnOk result (IsAnswered K from now.old now.new) }
+    ensures before_answered { OnOk result (IsAnswered K from before.old before.new) }
+    ensures now_given_up { IsGivenUp K from now.old now.new }
+    ensures before_given_up { IsGivenUp K from before.old before.new }
+{
+    let walk = now.walk(from, watch)?;
+    let other = before.walk(from, watch)?;
+    Ok(Both { walk, other })
+}
+
+/// Makes the next step of both.
+fn step_both<const NW: usize, const PAGES: usize, const K: u32>(
+    now: &mut Bench<NW, PAGES, K>,
+    before: &mut Bench<NW, PAGES, K>,
+    both: Both<NW, PAGES>,
+    watch: &mut Watch,
+) -> Result<Both<NW, PAGES>, AllocError>
+    requires walks { AreWalks K now.old before.old both.walk.step both }
+    requires within { both.walk.step < 1000000 }
+    ensures walks { IfOk result (λ b. AreWalks K now.new before.new (both.entry.walk.step + 1) b) }
+    ensures now_made { OnOk result (IsMade K both.entry.walk.step now.old now.new) }
+    ensures before_made { OnOk result (IsMade K both.entry.walk.step before.old before.new) }
+    ensures now_tried { OnErr result (IsTried K both.entry.walk.step now.old now.new) }
+    ensures before_tried { OnErr result (IsTried K both.entry.walk.step before.old before.new) }
+{
+    let walk = now.walk_on(both.walk, watch)?;
+    let other = before.walk_on(both.other, watch)?;
+    Ok(Both { walk, other })
+}
+
 fn part_within<const NW: usize, const PAGES: usize, const K: u32>(
     now: &mut Bench<NW, PAGES, K>,
     before: &mut Bench<NW, PAGES, K>,
@@ -61,16 +121,14 @@ fn part_within<const NW: usize, const PAGES: usize, const K: u32>(
 {
     now.sizes();
     let mut watch = Watch::new(now.alloc());
-    let mut walk = now.walk(from, &mut watch)?;
-    let mut other = before.walk(from, &mut watch)?;
-    while walk.machine().has_same_processor(other.machine()) {
-        if walk.step() == to {
+    let mut both = begin_both(now, before, from, &mut watch)?;
+    while both.are_alike() {
+        if both.walk.step() == to {
             return Ok(None);
         }
-        walk = now.walk_on(walk, &mut watch)?;
-        other = before.walk_on(other, &mut watch)?;
+        both = step_both(now, before, both, &mut watch)?;
     }
-    Ok(Some(walk.step()))
+    Ok(Some(both.walk.step()))
 }
 
 /// The words of RAM that differ between two machines, rising, and at most so many.
@@ -132,8 +190,14 @@ pub fn differ<const NW: usize, const PAGES: usize, const K: u32>(
     }
     now.sizes();
     let alloc = now.alloc();
-    let shown = now.machine(at_now)?;
-    let other = before.machine(at_before)?;
+    let shown = match now.machine(at_now) {
+        Ok(machine) => machine,
+        Err(fault) => return Err(fault),
+    };
+    let other = match before.machine(at_before) {
+        Ok(machine) => machine,
+        Err(fault) => return Err(fault),
+    };
     let found = differences(alloc, &other, &shown, most)?;
     Ok(found)
 }

@@ -1,0 +1,18 @@
+use Rattle.std.proofs.Common.{ℕ, ◌-◌, ◌<◌, ◌≤◌}
+use Rattle.sv8_monitor.specs.Search.{IsSearched}
+use Rattle.sv8_monitor.specs.Comparing.{AreWalks, AreAlike}
+use Rattle.sv8_monitor.proofs.compare.part_within.Given as goal
+
+abbrev pub invariant-loop-both : goal.invariant-loop-both
+invariant-loop-both g l = record {
+  walks : AreWalks g.row.K l.now l.before l.both.walk.step l.both;
+  low : l.from ≤ l.both.walk.step;
+  high : l.both.walk.step ≤ l.to;
+  now_searched : IsSearched g.row.K l.from l.both.walk.step l.fn.now l.now;
+  before_searched : IsSearched g.row.K l.from l.both.walk.step l.fn.before l.before;
+  alike : (m : ℕ) → l.from ≤ m → m < l.both.walk.step → AreAlike l.fn.before.kept l.fn.now.kept m;
+}
+
+-- the steps that are left
+abbrev pub decreases-loop-both : goal.decreases-loop-both
+decreases-loop-both g l = l.to - l.both.walk.step
