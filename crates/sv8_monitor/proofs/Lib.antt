@@ -1,7 +1,13 @@
 pub mod Searching
-pub mod Looking
+pub mod Compared
+pub mod Turned
+pub mod Falling
+pub mod Sought
 pub mod Differing
 pub mod Parting
+pub mod QueryLemmas
+pub mod MonitorLemmas
 pub mod Faults
+pub mod ConditionLemmas
 pub mod Poked
 pub mod Counted

@@ -1,14 +1,27 @@
 -- Searches: each step that is looked at leaves the rest of what is to be told.
-use Rattle.std.proofs.Common.{◌≡◌, ◌∙◌, ℕ, zero, suc, ◌+◌, ◌-◌, ◌<◌, ◌≤◌, Bool, true, false, cond, is_some, List, [], ◌∷◌, ◌++◌, map, Option, Some, None, refl, sym, ap, append_assoc, arith}
+use Rattle.std.proofs.Common.{◌≡◌, ◌∙◌, ℕ, zero, suc, ◌+◌, ◌-◌, ◌/◌, ◌<◌, ◌≤◌, ◌⊎◌, inl, inr, min, Bool, true, false, cond, List, [], ◌∷◌, ◌++◌, length, map, Option, Some, None, refl, sym, ap, append_assoc, arith}
+use Rattle.std.specs.Bool.{then_some}
+use Rattle.std.proofs.Math.Nat.{mul-le-mul_left, mul-div-le}
+use Rattle.sv8_model.specs.declared.touch.Touch.{Touch}
+use Rattle.sv8_model.specs.declared.observation.Observation.{Observation}
+use Rattle.sv8_model.specs.Footprint.{expires}
+use Rattle.sv8_time.specs.Schedule.{Schedule}
+use Rattle.sv8_cpu.specs.State.{State}
+use Rattle.sv8_cpu.specs.Run.{step, steps, footprint, observed}
+use Rattle.sv8_history.specs.Growing.{restored}
 use Rattle.sv8_bench.specs.Kept.{Kept}
+use Rattle.sv8_bench.specs.Shown.{machine_state}
+use Rattle.sv8_bench.specs.Walks.{IsMade, IsUnmade}
+use Rattle.sv8_bench.specs.Workbench.{Workbench, checkpoints, IsAnswered, IsGivenUp}
+use Rattle.sv8_bench.proofs.Walking.{step_counted, raised_tried}
 use Rattle.sv8_watch.specs.declared.condition.Condition.{Condition}
+use Rattle.sv8_watch.specs.declared.happening.Happening.{Happening}
+use Rattle.sv8_watch.specs.Happening.{happened, happening}
 use Rattle.sv8_monitor.specs.declared.found.Found.{Found}
-use Rattle.sv8_monitor.specs.Search.{found_at, is_wanted, wanted_found, list_of, rising, looked_to}
+use Rattle.sv8_monitor.specs.Search.{any_met, found_at, is_wanted, wanted_found, list_of, left_behind, rising, looked_to, IsSearched, IsTried, IsAbandoned}
+use Rattle.sv8_monitor.proofs.Sought.{divided}
 
--- how many may follow
-pub left_behind : {A : Type 0} → Option A → ℕ → ℕ
-left_behind None left = left
-left_behind (Some x) left = left - 1
+-- ---- what is told
 
 module _ (k : Kept) (cs : List Condition) where
   wanted : ℕ → Bool
@@ -19,14 +32,18 @@ module _ (k : Kept) (cs : List Condition) where
 
   step_told : (b : Bool) (n left most : ℕ) → wanted n ≡ b
       → list_of (cond b (Some (found_at k n)) None) ++ told (n + 1) left (left_behind (cond b (Some (found_at k n)) None) (suc most)) ≡ told n (suc left) (suc most)
-  unfolding wanted told left_behind
-  step_told true n left most e = rw e refl
+  unfolding wanted told
+  step_told true n left most e =
+      let less : suc most - 1 ≡ most = omega arith in
+      rw (e, less) refl
   step_told false n left most e = rw e refl
 
   step_looked : (b : Bool) (n left most : ℕ) → wanted n ≡ b
       → looked_to wanted (n + 1) left (left_behind (cond b (Some (found_at k n)) None) (suc most)) ≡ looked_to wanted n (suc left) (suc most)
-  unfolding wanted left_behind
-  step_looked true n left most e = rw e refl
+  unfolding wanted
+  step_looked true n left most e =
+      let less : suc most - 1 ≡ most = omega arith in
+      rw (e, less) refl
   step_looked false n left most e = rw e refl
 
   -- a step that is looked at: what it adds, and what is left
@@ -46,3 +63,175 @@ module _ (k : Kept) (cs : List Condition) where
       let first : suc (to - (n + 1)) ≡ to - n = omega (arith, below) in
       let more : suc (most - 1) ≡ most = omega (arith, some) in
       rw (sym first, sym more) (step_looked (is_wanted k cs n) n (to - (n + 1)) (most - 1) refl)
+
+-- ---- what is seen of a step
+
+-- the state behind it
+next_state : (kept : Kept) (n : ℕ) → machine_state kept (n + 1) ≡ step kept.windows kept.pages kept.timeline n (machine_state kept n)
+unfolding steps
+next_state kept n =
+    let more : n + 1 ≡ suc n = omega arith in
+    ap (machine_state kept) more
+
+-- its happening
+happened_is : (kept : Kept) (n m : ℕ) (timeline : Schedule) (after : State) (os : List Observation) (ts : List Touch) (h : Happening) → m ≡ n → timeline ≡ kept.timeline
+    → after ≡ machine_state kept (n + 1) → os ≡ observed kept.windows kept.pages kept.timeline n (machine_state kept n)
+    → ts ≡ footprint kept.windows kept.pages kept.timeline n (machine_state kept n) → h ≡ happened timeline m (machine_state kept n) after os (expires ts)
+    → h ≡ happening kept.windows kept.pages kept.timeline n (machine_state kept n)
+unfolding happening
+happened_is kept n m timeline after os ts h at under state seen touched e =
+    let s = machine_state kept n in
+    e ∙ ap (λ t. happened t m s after os (expires ts)) under ∙ ap (λ i. happened kept.timeline i s after os (expires ts)) at
+    ∙ ap (λ x. happened kept.timeline n s x os (expires ts)) (state ∙ next_state kept n)
+    ∙ ap (λ o. happened kept.timeline n s (step kept.windows kept.pages kept.timeline n s) o (expires ts)) seen
+    ∙ ap (λ t. happened kept.timeline n s (step kept.windows kept.pages kept.timeline n s) (observed kept.windows kept.pages kept.timeline n s) (expires t)) touched
+
+-- the conditions that it meets
+met_is : (kept : Kept) (n m : ℕ) (cs : List Condition) (after : State) (ts : List Touch) (h : Happening) → m ≡ n → after ≡ machine_state kept (n + 1)
+    → ts ≡ footprint kept.windows kept.pages kept.timeline n (machine_state kept n) → h ≡ happening kept.windows kept.pages kept.timeline n (machine_state kept n)
+    → any_met m (machine_state kept n) after h ts cs ≡ is_wanted kept cs n
+met_is kept n m cs after ts h at state touched e =
+    let s = machine_state kept n in
+    ap (λ i. any_met i s after h ts cs) at ∙ ap (λ x. any_met n s x h ts cs) (state ∙ next_state kept n)
+    ∙ ap (λ t. any_met n s (step kept.windows kept.pages kept.timeline n s) h t cs) touched
+    ∙ ap (λ x. any_met n s (step kept.windows kept.pages kept.timeline n s) x (footprint kept.windows kept.pages kept.timeline n s) cs) e ∙ same cs
+  where
+    same : (xs : List Condition) → any_met n (machine_state kept n) (step kept.windows kept.pages kept.timeline n (machine_state kept n))
+         (happening kept.windows kept.pages kept.timeline n (machine_state kept n)) (footprint kept.windows kept.pages kept.timeline n (machine_state kept n)) xs ≡ is_wanted kept xs n
+    same [] = refl
+    same (x ∷ xs) = refl
+
+-- .. and whether it is told
+pub looked_found : (kept : Kept) (n m : ℕ) (timeline : Schedule) (after again : State) (os : List Observation) (ts noted : List Touch) (h : Happening) (cs : List Condition) (b : Bool)
+    (found : Option Found) → m ≡ n → timeline ≡ kept.timeline → after ≡ machine_state kept (n + 1) → again ≡ machine_state kept (n + 1)
+    → os ≡ observed kept.windows kept.pages kept.timeline n (machine_state kept n) → ts ≡ footprint kept.windows kept.pages kept.timeline n (machine_state kept n) → noted ≡ ts
+    → h ≡ happened timeline m (machine_state kept n) after os (expires ts) → b ≡ any_met m (machine_state kept n) again h noted cs
+    → found ≡ then_some b (record { step = m; happening = h }) → found ≡ wanted_found kept cs n
+looked_found kept n m timeline after again os ts noted h cs b found at under state same seen touched notes e f g =
+    let happens = happened_is kept n m timeline after os ts h at under state seen touched e in
+    let wanted_is = f ∙ met_is kept n m cs again noted h at same (notes ∙ touched) happens in
+    g ∙ ap (λ i. then_some b (record { step = i; happening = h })) at ∙ ap (λ x. then_some b (record { step = n; happening = x })) happens
+    ∙ ap (λ x. then_some x (found_at kept n)) wanted_is ∙ both (is_wanted kept cs n)
+  where
+    both : (x : Bool) → then_some x (found_at kept n) ≡ cond x (Some (found_at kept n)) None
+    both true = refl
+    both false = refl
+
+-- ---- what is made of a workbench
+
+module _ (k : ℕ) (pos : 0 < k) (from : ℕ) where
+  restored_low : (count n : ℕ) → restored k count n ≤ n
+  restored_low count n =
+      let under = mul-div-le n k in
+      let least : min count (n / k) ≤ n / k = omega arith in
+      let fewer = mul-le-mul_left k least in
+      omega (arith, under, fewer)
+
+  -- where a search begins
+  pub searched_first : (old new : Workbench) → IsAnswered k from old new → IsSearched k from from old new
+  searched_first old new a = record { kept = a.kept; recorded = a.recorded; worked = a.worked }
+
+  -- one step more
+  pub searched_more : (n : ℕ) (old now new : Workbench) → from ≤ n → IsSearched k from n old now → IsMade k n now new → IsSearched k from (n + 1) old new
+  searched_more n old now new low s m =
+      let least = restored_low (checkpoints old) from in
+      let below : n / k ≤ (n + 1) / k = divided k n (n + 1) pos (omega arith) in
+      let before = s.recorded in
+      let after = m.recorded in
+      record {
+        kept = m.kept ∙ s.kept;
+        recorded = omega (arith, before, after, below);
+        worked = step_counted n (restored k (checkpoints old) from) old.worked now.worked new.worked (omega (arith, least, low)) s.worked m.worked;
+      }
+
+  -- a search that is given up at a step
+  pub searched_tried : (n to : ℕ) (old now new : Workbench) → from ≤ n → n < to → IsSearched k from n old now → IsTried k n now new → IsAbandoned k from to old new
+  searched_tried n to old now new low high s t =
+      let least = restored_low (checkpoints old) from in
+      let below : n / k ≤ to / k = divided k n to pos (omega (arith, high)) in
+      let below_next : (n + 1) / k ≤ to / k = divided k (n + 1) to pos (omega (arith, high)) in
+      let before = s.recorded in
+      let fewest = t.fewest in
+      let most = t.most in
+      record {
+        kept = t.kept ∙ s.kept;
+        fewest = omega (arith, before, fewest);
+        most = omega (arith, before, most, below, below_next);
+        worked = raised_tried n (restored k (checkpoints old) from) to old.worked now.worked new.worked (omega (arith, least, low)) high s.worked t.worked;
+      }
+
+  -- .. or behind one
+  pub searched_abandoned : (n to : ℕ) (old new : Workbench) → n ≤ to → IsSearched k from n old new → IsAbandoned k from to old new
+  searched_abandoned n to old new high s =
+      let below : n / k ≤ to / k = divided k n to pos high in
+      let before = s.recorded in
+      record {
+        kept = s.kept;
+        fewest = omega (arith, before);
+        most = omega (arith, before, below);
+        worked = (n - restored k (checkpoints old) from, omega (arith, high), s.worked);
+      }
+
+  -- .. or before the first
+  pub given_up_abandoned : (to : ℕ) (old new : Workbench) → from ≤ to → IsGivenUp k from old new → IsAbandoned k from to old new
+  given_up_abandoned to old new high g =
+      let below : from / k ≤ to / k = divided k from to pos high in
+      let most = g.most in
+      let raised = g.worked in
+      record {
+        kept = g.kept;
+        fewest = g.fewest;
+        most = omega (arith, most, below);
+        worked = (raised.0, omega (arith, raised.1, high), raised.2);
+      }
+
+-- a step that was made, and one that was not
+pub made_tried : (k n : ℕ) (old new : Workbench) → IsMade k n old new → IsTried k n old new
+made_tried k n old new m =
+    let recorded = m.recorded in
+    record { kept = m.kept; fewest = omega (arith, recorded); most = omega (arith, recorded); worked = inr m.worked }
+
+pub unmade_tried : (k n : ℕ) (old new : Workbench) → IsUnmade old new → IsTried k n old new
+unmade_tried k n old new u =
+    let same : checkpoints new ≡ checkpoints old = ap (λ r. length r.intervals) u.recorded in
+    record { kept = u.kept; fewest = omega (arith, same); most = omega (arith, same); worked = u.worked }
+
+-- ---- a search that goes up
+
+module _ (k : Kept) (cs : List Condition) (n to left : ℕ) where
+  -- what is told, and how far it looks, once it has looked at a step
+  module _ (later next : ℕ) (seen : Option Found) (below : n < to) (some : 0 < left) (at : later ≡ n + 1) (is : seen ≡ wanted_found k cs n) (rest : next ≡ left_behind seen left) where
+    rest_is : next ≡ left_behind (wanted_found k cs n) left
+    rest_is = rest ∙ ap (λ o. left_behind o left) is
+
+    pub found_next : (now new all : List Found) → new ≡ now ++ list_of seen → now ++ map (found_at k) (rising (is_wanted k cs) n (to - n) left) ≡ all
+        → new ++ map (found_at k) (rising (is_wanted k cs) later (to - later) next) ≡ all
+    found_next now new all e g =
+        ap (λ xs. xs ++ map (found_at k) (rising (is_wanted k cs) later (to - later) next)) (e ∙ ap (λ o. now ++ list_of o) is)
+        ∙ ap (λ m. (now ++ list_of (wanted_found k cs n)) ++ map (found_at k) (rising (is_wanted k cs) m (to - m) next)) at
+        ∙ ap (λ m. (now ++ list_of (wanted_found k cs n)) ++ map (found_at k) (rising (is_wanted k cs) (n + 1) (to - (n + 1)) m)) rest_is
+        ∙ append_assoc now (list_of (wanted_found k cs n)) (map (found_at k) (rising (is_wanted k cs) (n + 1) (to - (n + 1)) (left_behind (wanted_found k cs n) left)))
+        ∙ ap (λ xs. now ++ xs) (rising_more k cs n to left below some) ∙ g
+
+    pub looked_next : looked_to (is_wanted k cs) later (to - later) next ≡ looked_to (is_wanted k cs) n (to - n) left
+    looked_next =
+        ap (λ m. looked_to (is_wanted k cs) m (to - m) next) at ∙ ap (looked_to (is_wanted k cs) (n + 1) (to - (n + 1))) rest_is ∙ looked_more k cs n to left below some
+
+  -- where it ends
+  pub no_more_rise : (to ≤ n) ⊎ (left ≡ 0) → rising (is_wanted k cs) n (to - n) left ≡ []
+  no_more_rise (inl past) =
+      let none : to - n ≡ 0 = omega (arith, past) in
+      ap (λ b. rising (is_wanted k cs) n b left) none
+  no_more_rise (inr none) = ap (rising (is_wanted k cs) n (to - n)) none ∙ nothing (to - n) where
+    nothing : (b : ℕ) → rising (is_wanted k cs) n b 0 ≡ []
+    nothing zero = refl
+    nothing (suc b) = refl
+
+  pub looked_end : (to ≤ n) ⊎ (left ≡ 0) → looked_to (is_wanted k cs) n (to - n) left ≡ n
+  looked_end (inl past) =
+      let none : to - n ≡ 0 = omega (arith, past) in
+      ap (λ b. looked_to (is_wanted k cs) n b left) none
+  looked_end (inr none) = ap (looked_to (is_wanted k cs) n (to - n)) none ∙ nothing (to - n) where
+    nothing : (b : ℕ) → looked_to (is_wanted k cs) n b 0 ≡ n
+    nothing zero = refl
+    nothing (suc b) = refl

@@ -1,5 +1,8 @@
 -- Which steps of a run are told.
 use Rattle.std.specs.Prelude.{◌≡◌, ◌⊎◌, ℕ, zero, suc, ◌≤◌, ◌+◌, ◌-◌, ◌/◌, ◌*◌, ◌%◌, ◌<◌, ◌==◌, ◌&&◌, Bool, true, List, [], ◌∷◌, ◌++◌, max, nat_le, Option, Some, None, if◌then◌else◌}
+use Rattle.std.specs.List.{list_any}
+use Rattle.sv8_model.specs.declared.touch.Touch.{Touch as Note}
+use Rattle.sv8_cpu.specs.State.{State}
 use Rattle.sv8_cpu.specs.Work.{counted}
 use Rattle.sv8_history.specs.Growing.{restored}
 use Rattle.sv8_trace.specs.Recorder.{counted_by, RaisedUpTo}
@@ -8,8 +11,9 @@ use Rattle.sv8_bench.specs.Shown.{machine_state}
 use Rattle.sv8_bench.specs.Workbench.{Workbench, checkpoints}
 use Rattle.sv8_watch.specs.declared.condition.Condition.{Condition}
 use Rattle.sv8_watch.specs.declared.condition.Condition.TheVariants.{Pc, Load, Store, Touch, Change, Trap, TrapType, Error, Input, Output, Event, Every}
+use Rattle.sv8_watch.specs.declared.happening.Happening.{Happening}
 use Rattle.sv8_watch.specs.Happening.{happening}
-use Rattle.sv8_watch.specs.Conditions.{meets_any, bytes_from}
+use Rattle.sv8_watch.specs.Conditions.{is_met, meets_any, bytes_from}
 use Rattle.sv8_monitor.specs.declared.found.Found.{Found}
 
 -- step n with what happens in it
@@ -154,3 +158,22 @@ old_of (Every number) ram = []
 abbrev pub olds_of : List Condition → List ℕ → List ℕ
 olds_of [] ram = []
 olds_of (c ∷ cs) ram = old_of c ram ++ olds_of cs ram
+
+-- ---- the parts of a search
+
+-- a step meets one of some conditions, or there is none: `meets_any` of what was seen of the step
+abbrev pub any_met : ℕ → State → State → Happening → List Note → List Condition → Bool
+any_met n before after h ts [] = true
+any_met n before after h ts (c ∷ cs) = list_any (is_met n before after h ts) (c ∷ cs)
+
+-- how many steps may follow one that was looked at, of so many
+abbrev pub left_behind : {A : Type 0} → Option A → ℕ → ℕ
+left_behind None left = left
+left_behind (Some x) left = left - 1
+
+-- where the interval below a step begins in a search down to another one: at the checkpoint below it, or there
+pub record IsStart (k to end start : ℕ) : Type 0 where
+  pub low : to ≤ start
+  pub below : start < end
+  pub interval : start / k ≡ (end - 1) / k
+  pub aligned : (start ≡ to) ⊎ (k * (start / k) ≡ start)

@@ -1,6 +1,6 @@
 //! The answer to each question of one workbench.
 
-ghost use Rattle.std.specs.Prelude.{◌≡◌, ℕ, ◌+◌, ◌-◌, ◌*◌, ◌<◌, ◌≤◌, ◌++◌, length, map, OnOk, OnErr, IfOk, IfErr, IfSome, None};
+ghost use Rattle.std.specs.Prelude.{◌≡◌, ℕ, ◌+◌, ◌-◌, ◌*◌, ◌<◌, ◌≤◌, ◌++◌, length, map, true, OnOk, OnErr, IfOk, IfErr, IfSome, None};
 ghost use Rattle.sv8_source.specs.View.{named_of};
 ghost use Rattle.sv8_bench.specs.Faults.{step_refusal, IsQueryFault};
 ghost use Rattle.sv8_bench.specs.Workbench.{IsAnswered};
@@ -37,7 +37,7 @@ pub fn answer_query<const NW: usize, const PAGES: usize, const K: u32, W: Write>
     writer: &mut W,
     query: Query,
 ) -> Result<(), WriteFault>
-    ensures { Replies result (W.contents writer.old) (W.contents writer.new) bench.old.kept (query_outcome query.entry bench.old.kept) bench.new.kept }
+    ensures { Replies result (W.contents writer.old) (W.contents writer.new) bench.old.kept (query_outcome query bench.old.kept) bench.new.kept }
 {
     match query {
         Query::Steps {
@@ -63,7 +63,7 @@ fn answer_steps<const NW: usize, const PAGES: usize, const K: u32, W: Write>(
     conditions: Conditions,
 ) -> Result<(), WriteFault>
     ensures { Replies result (W.contents writer.old) (W.contents writer.new) bench.old.kept
-        (query_outcome (Steps from to count conditions.entry) bench.old.kept) bench.new.kept }
+        (query_outcome (Steps from to count conditions) bench.old.kept) bench.new.kept }
 {
     match steps(bench, from, to, count, conditions.as_slice()) {
         Ok(found) => tell_steps(writer, found.as_slice()),
@@ -88,6 +88,7 @@ fn answer_windows<const NW: usize, const PAGES: usize, const K: u32, W: Write>(
 ) -> Result<(), WriteFault>
     ensures { Replies result (W.contents writer.old) (W.contents writer.new) bench.old.kept (query_outcome (Windows step) bench.old.kept) bench.new.kept }
 {
+    bench.sizes();
     match bench.machine(step) {
         Ok(machine) => tell_windows(writer, machine.registers()),
         Err(fault) => refuse(writer, refusal_of(fault)),
@@ -116,6 +117,7 @@ fn answer_where<const NW: usize, const PAGES: usize, const K: u32, W: Write>(
 ) -> Result<(), WriteFault>
     ensures { Replies result (W.contents writer.old) (W.contents writer.new) bench.old.kept (query_outcome (Where step address) bench.old.kept) bench.new.kept }
 {
+    bench.sizes();
     match bench.machine(step) {
         Ok(machine) => tell_place(writer, machine.place(address)),
         Err(fault) => refuse(writer, refusal_of(fault)),
@@ -189,6 +191,7 @@ fn tell_lines<const NW: usize, const PAGES: usize, const K: u32, W: Write>(
     requires { are_lines first last bench.now.kept ≡ true }
     ensures { Puts result (W.contents writer.old) (W.contents writer.new) (lines_told first last bench.now.kept ++ ok_line) }
 {
+    let _count = bench.line_count();
     let mut text = Text::new();
     match add_lines(bench, writer, &mut text, first as usize - 1, last as usize) {
         Ok(()) => accept(writer, &mut text),

@@ -149,16 +149,20 @@ fn answer_differ<const NW: usize, const PAGES: usize, const K: u32, W: Write>(
 ) -> Result<(), WriteFault>
     ensures { Replies language result (W.contents writer.old) (W.contents writer.new) (kept_of monitor.old) (ask (Differ at_now at_before count)) (kept_of monitor.new) }
 {
-    match differ(&mut monitor.current, &mut monitor.before, at_now, at_before, count) {
+    monitor.current.sizes();
+    match differ(
+        &mut monitor.current,
+        &mut monitor.before,
+        at_now,
+        at_before,
+        count,
+    ) {
         Ok(found) => tell_differences(writer, found.as_slice()),
         Err(fault) => refuse(writer, refusal_of(fault)),
     }
 }
 
-fn tell_differences<W: Write>(
-    writer: &mut W,
-    differences: &[Difference],
-) -> Result<(), WriteFault>
+fn tell_differences<W: Write>(writer: &mut W, differences: &[Difference]) -> Result<(), WriteFault>
     ensures { Puts result (W.contents writer.old) (W.contents writer.new) (differences_text differences.now ++ ok_line) }
 {
     let mut text = Text::new();

@@ -48,10 +48,9 @@ pub enum Question<'a> {
     Differ { now: u32, before: u32, count: u32 },
 }
 
-#[tactic(auto, unfolding(crate::specs::Questions::alone))]
 fn read_alone<T: Drop>(value: T, rest: &[u8]) -> Result<T, BadCommand>
-    ensures { MatchResult result (λ c. alone value.entry (words_of rest.now) ≡ Some c)
-        (λ _. alone value.entry (words_of rest.now) ≡ None) }
+    ensures { MatchResult result (λ c. alone value (words_of rest.now) ≡ Some c)
+        (λ _. alone value (words_of rest.now) ≡ None) }
 {
     match next_word(rest) {
         None => Ok(value),

@@ -1,7 +1,7 @@
 //! Searches for the steps of a run that meet a condition.
 
-ghost use Rattle.std.specs.Prelude.{◌≡◌, ◌⊎◌, ℕ, ◌+◌, ◌-◌, ◌*◌, ◌<◌, ◌≤◌, ◌++◌, ◌∷◌, [], List, length, true, take, map, None, IfOk, IfErr, IfSome, OnOk, OnErr};
-ghost use Rattle.std.specs.List.{list_any, list_reverse};
+ghost use Rattle.std.specs.Prelude.{◌≡◌, ◌⊎◌, ℕ, ◌+◌, ◌-◌, ◌*◌, ◌<◌, ◌≤◌, ◌++◌, ◌∷◌, [], List, length, true, take, map, reverse, None, IfOk, IfErr, IfSome, OnOk, OnErr};
+ghost use Rattle.std.specs.List.{list_any};
 ghost use Rattle.sv8_bench.specs.Faults.{IsQueryFault};
 ghost use Rattle.sv8_monitor.specs.Answers.{steps_refusal};
 ghost use Rattle.sv8_phys.specs.Memory.{ram_size};
@@ -9,7 +9,7 @@ ghost use Rattle.sv8_cpu.specs.State.{State};
 ghost use Rattle.sv8_watch.specs.Conditions.{is_met, bytes_from};
 ghost use Rattle.sv8_bench.specs.Shown.{machine_state};
 ghost use Rattle.sv8_bench.specs.Walks.{IsWalk, IsMade, IsUnmade};
-ghost use Rattle.sv8_monitor.specs.Search.{old_of, olds_of, old_count, olds_count, is_inside, are_inside, found_at, is_wanted, wanted_found, list_of, rising, looked_to, falling, sought_to, steps_told, IsSearched, IsSought, IsTried, IsAbandoned};
+ghost use Rattle.sv8_monitor.specs.Search.{old_of, olds_of, old_count, olds_count, is_inside, are_inside, any_met, found_at, is_wanted, wanted_found, list_of, left_behind, rising, looked_to, falling, sought_to, steps_told, IsSearched, IsSought, IsTried, IsAbandoned, IsStart};
 
 use crate::found::Found;
 use std::alloc::AllocError;
@@ -41,6 +41,7 @@ fn add_bytes<const NW: usize, const PAGES: usize>(
     ensures bytes { OnOk result (bytes.new.items ≡ bytes.old.items ++ bytes_from address count machine.now.memory.ram) }
     ensures count { OnOk result (length bytes.new.items ≡ length bytes.old.items + count) }
 {
+    let _size = machine.ram_size();
     for place in 0..count {
         bytes.push(machine.byte(address + place))?;
     }
@@ -86,6 +87,26 @@ fn look_at_old<const NW: usize, const PAGES: usize>(
     Ok(())
 }
 
+/// The same after a step. Conditions that compare no bytes are not looked at.
+fn look_again<const NW: usize, const PAGES: usize>(
+    old: &mut Vec<u8>,
+    conditions: &[Condition],
+    machine: &Machine<NW, PAGES>,
+) -> Result<(), AllocError>
+    requires few_windows { NW ≤ 32 }
+    requires few_pages { PAGES ≤ 65536 }
+    requires inside { are_inside (ram_size PAGES) conditions.now ≡ true }
+    requires count { length old.old.items ≡ olds_count conditions.now }
+    ensures bytes { OnOk result (old.new.items ≡ olds_of conditions.now machine.now.memory.ram) }
+    ensures count { OnOk result (length old.new.items ≡ olds_count conditions.now) }
+{
+    if old.is_empty() {
+        return Ok(());
+    }
+    look_at_old(old, conditions, machine)?;
+    Ok(())
+}
+
 /// Whether a step meets one of some conditions. `old` are the bytes that they compare with those of the machine behind it.
 fn is_any_met<const NW: usize, const PAGES: usize>(
     conditions: &[Condition],
@@ -102,13 +123,38 @@ fn is_any_met<const NW: usize, const PAGES: usize>(
     ensures { (before : State) → old.now ≡ olds_of conditions.now before.memory.ram
         → result ≡ list_any (is_met n before after.now happening.now touches.now) conditions.now }
 {
-    match conditions {
-        [] => false,
-        [first, rest @ ..] => {
-            let (own, others) = old.split_at(old_count(*first) as usize);
-            first.is_met(n, happening, touches, own, after)
-                || is_any_met(rest, n, happening, touches, others, after)
+    let mut rest = conditions;
+    let mut bytes = old;
+    while let [first, others @ ..] = rest {
+        let (own, next) = bytes.split_at(old_count(*first) as usize);
+        if first.is_met(n, happening, touches, own, after) {
+            return true;
         }
+        rest = others;
+        bytes = next;
+    }
+    false
+}
+
+/// The same, and also where there is no condition.
+fn is_wanted<const NW: usize, const PAGES: usize>(
+    conditions: &[Condition],
+    n: u32,
+    happening: &Happening,
+    touches: &[Touch],
+    old: &[u8],
+    after: &Machine<NW, PAGES>,
+) -> bool
+    requires few_windows { NW ≤ 32 }
+    requires few_pages { PAGES ≤ 65536 }
+    requires inside { are_inside (ram_size PAGES) conditions.now ≡ true }
+    requires count { length old.now ≡ olds_count conditions.now }
+    ensures { (before : State) → old.now ≡ olds_of conditions.now before.memory.ram
+        → result ≡ any_met n before after.now happening.now touches.now conditions.now }
+{
+    match conditions {
+        [] => true,
+        [_, ..] => is_any_met(conditions, n, happening, touches, old, after),
     }
 }
 
@@ -124,6 +170,8 @@ fn look<const NW: usize, const PAGES: usize, const K: u32>(
     conditions: &[Condition],
     old: &mut Vec<u8>,
 ) -> Result<(Walk<NW, PAGES>, Option<Found>), AllocError>
+    requires few_windows { NW ≤ 32 }
+    requires few_pages { PAGES ≤ 65536 }
     requires walk { IsWalk K bench.old walk }
     requires within { walk.step < 1000000 }
     requires inside { are_inside (ram_size PAGES) conditions.now ≡ true }
@@ -141,28 +189,36 @@ fn look<const NW: usize, const PAGES: usize, const K: u32>(
     let before = Before::of(walk.machine());
     let walk = bench.walk_on(walk, watch)?;
     let happening = Happening::of(n, bench.timeline(), before, walk.machine(), watch);
-    let touches = watch.touches();
-    let met = conditions.is_empty()
-        || is_any_met(conditions, n, &happening, touches, old, walk.machine());
-    if !old.is_empty() {
-        look_at_old(old, conditions, walk.machine())?;
-    }
-    let found = if met {
-        Some(Found { step: n, happening })
-    } else {
-        None
-    };
+    let wanted = is_wanted(
+        conditions,
+        n,
+        &happening,
+        watch.touches(),
+        old.as_slice(),
+        walk.machine(),
+    );
+    look_again(old, conditions, walk.machine())?;
+    let found = wanted.then_some(Found { step: n, happening });
     Ok((walk, found))
 }
 
-/// Adds a step that was found, if one was.
-fn add_found(found: &mut Vec<Found>, next: Option<Found>) -> Result<(), AllocError>
-    ensures { OnOk result (found.new.items ≡ found.old.items ++ list_of next) }
+/// Adds a step that was found, if one was; answers how many more may follow, of so many.
+fn add_found(
+    found: &mut Vec<Found>,
+    next: Option<Found>,
+    left: u32,
+) -> Result<u32, AllocError>
+    requires { 0 < left }
+    ensures found { OnOk result (found.new.items ≡ found.old.items ++ list_of next) }
+    ensures left { IfOk result (λ rest. rest ≡ left_behind next left) }
 {
-    if let Some(next) = next {
-        found.push(next)?;
+    match next {
+        Some(next) => {
+            found.push(next)?;
+            Ok(left - 1)
+        }
+        None => Ok(left),
     }
-    Ok(())
 }
 
 /// Adds the steps from one on and below another that meet a condition, and at most so many of them. It looks at no step
@@ -187,6 +243,7 @@ fn search_up<const NW: usize, const PAGES: usize, const K: u32>(
     ensures searched { OnOk result (IsSearched K from (looked_to (is_wanted bench.old.kept conditions.now) from (to - from) most) bench.old bench.new) }
     ensures given_up { IsAbandoned K from to bench.old bench.new }
 {
+    bench.sizes();
     let alloc = bench.alloc();
     let mut watch = Watch::new(alloc);
     let mut walk = bench.walk(from, &mut watch)?;
@@ -196,30 +253,62 @@ fn search_up<const NW: usize, const PAGES: usize, const K: u32>(
     while walk.step() < to && left > 0 {
         let (next, seen) = look(bench, walk, &mut watch, conditions, &mut old)?;
         walk = next;
-        if seen.is_some() {
-            left -= 1;
-        }
-        add_found(found, seen)?;
+        left = add_found(found, seen, left)?;
     }
     Ok(())
 }
 
 /// Adds steps from the last one on, and at most so many; answers how many more may follow.
 fn add_falling(found: &mut Vec<Found>, seen: &[Found], most: u32) -> Result<u32, AllocError>
-    ensures found { OnOk result (found.new.items ≡ found.old.items ++ take most (list_reverse seen.now)) }
+    ensures found { OnOk result (found.new.items ≡ found.old.items ++ take most (reverse seen.now)) }
     ensures left { IfOk result (λ left. left ≡ most - length seen.now) }
 {
-    let mut rest = seen;
     let mut left = most;
-    while let [before @ .., last] = rest {
-        if left == 0 {
-            return Ok(0);
-        }
-        found.push(*last)?;
+    let mut end = seen.len();
+    while left > 0 && end > 0 {
+        end -= 1;
+        found.push(seen[end])?;
         left -= 1;
-        rest = before;
     }
     Ok(left)
+}
+
+/// Adds the steps of an interval, which ends below a step, that meet a condition, from the last one down, and at most so many
+/// of them; answers how many more may follow.
+///
+/// # Errors
+///
+/// `AllocError` where memory for it cannot be had.
+fn search_interval<const NW: usize, const PAGES: usize, const K: u32>(
+    bench: &mut Bench<NW, PAGES, K>,
+    conditions: &[Condition],
+    start: u32,
+    end: u32,
+    most: u32,
+    found: &mut Vec<Found>,
+) -> Result<u32, AllocError>
+    requires ordered { start ≤ end }
+    requires within { end ≤ 1000000 }
+    requires inside { are_inside (ram_size PAGES) conditions.now ≡ true }
+    ensures found { OnOk result (found.new.items ≡ found.old.items ++ map (found_at bench.old.kept)
+        (take most (reverse (rising (is_wanted bench.old.kept conditions.now) start (end - start) (end - start))))) }
+    ensures left { IfOk result (λ left. left ≡ most - length (rising (is_wanted bench.old.kept conditions.now) start (end - start) (end - start))) }
+    ensures searched { OnOk result (IsSearched K start end bench.old bench.new) }
+    ensures given_up { IsAbandoned K start end bench.old bench.new }
+{
+    let mut seen = Vec::new(bench.alloc());
+    search_up(bench, conditions, start, end, end - start, &mut seen)?;
+    let left = add_falling(found, seen.as_slice(), most)?;
+    Ok(left)
+}
+
+/// Where the last interval below a step begins: at the checkpoint below it, or at another step that the search does not pass.
+fn interval_start<const K: u32>(end: u32, to: u32) -> u32
+    requires some_steps { 1 ≤ K }
+    requires ordered { to < end }
+    ensures { IsStart K to end result }
+{
+    to.max((end - 1) / K * K)
 }
 
 /// Adds the steps below one and not below another that meet a condition, from the last one down, and at most so many of
@@ -244,14 +333,12 @@ fn search_down<const NW: usize, const PAGES: usize, const K: u32>(
     ensures sought { OnOk result (IsSought K from (sought_to (is_wanted bench.old.kept conditions.now) to (from - to) most) bench.old bench.new) }
     ensures given_up { IsSought K from to bench.old bench.new }
 {
-    let alloc = bench.alloc();
+    bench.sizes();
     let mut end = from;
     let mut left = most;
     while end > to && left > 0 {
-        let start = to.max((end - 1) / K * K);
-        let mut seen = Vec::new(alloc);
-        search_up(bench, conditions, start, end, end - start, &mut seen)?;
-        left = add_falling(found, seen.as_slice(), left)?;
+        let start = interval_start::<K>(end, to);
+        left = search_interval(bench, conditions, start, end, left, found)?;
         end = start;
     }
     Ok(())
@@ -285,6 +372,38 @@ fn is_inside(condition: Condition, size: u64) -> bool
     }
 }
 
+/// What `steps` finds of steps and conditions that it does not refuse.
+fn search<const NW: usize, const PAGES: usize, const K: u32>(
+    bench: &mut Bench<NW, PAGES, K>,
+    from: u32,
+    to: u32,
+    most: u32,
+    conditions: &[Condition],
+) -> Result<Vec<Found>, AllocError>
+    requires from_within { from ≤ 1000000 }
+    requires to_within { to ≤ 1000000 }
+    requires inside { are_inside (ram_size PAGES) conditions.now ≡ true }
+    ensures found { IfOk result (λ v. v.items ≡ map (found_at bench.old.kept) (steps_told bench.old.kept from to most conditions.now)) }
+    ensures idle { OnOk result ((from ≡ to) ⊎ (most ≡ 0) → bench.new ≡ bench.old) }
+    ensures risen { OnOk result (from < to → 0 < most
+        → IsSearched K from (looked_to (is_wanted bench.old.kept conditions.now) from (to - from) most) bench.old bench.new) }
+    ensures fallen { OnOk result (to < from → 0 < most
+        → IsSought K from (sought_to (is_wanted bench.old.kept conditions.now) to (from - to) most) bench.old bench.new) }
+    ensures rising_given_up { OnErr result (from ≤ to → IsAbandoned K from to bench.old bench.new) }
+    ensures falling_given_up { OnErr result (to < from → IsSought K from to bench.old bench.new) }
+{
+    let mut found = Vec::new(bench.alloc());
+    if from == to || most == 0 {
+        return Ok(found);
+    }
+    if from < to {
+        search_up(bench, conditions, from, to, most, &mut found)?;
+        return Ok(found);
+    }
+    search_down(bench, conditions, from, to, most, &mut found)?;
+    Ok(found)
+}
+
 /// The steps from one on up to another, which is not looked at, or from below the one down to the other, that meet a
 /// condition, and at most so many of them.
 ///
@@ -314,18 +433,10 @@ pub fn steps<const NW: usize, const PAGES: usize, const K: u32>(
     if LAST_STEP < from || LAST_STEP < to {
         return Err(BenchFault::StepTooLarge);
     }
-    let _source = bench.line_count();
+    bench.sizes();
     if !are_inside::<PAGES>(conditions) {
         return Err(BenchFault::BadAddress);
     }
-    let mut found = Vec::new(bench.alloc());
-    if from == to || most == 0 {
-        return Ok(found);
-    }
-    if from < to {
-        search_up(bench, conditions, from, to, most, &mut found)?;
-    } else {
-        search_down(bench, conditions, from, to, most, &mut found)?;
-    }
+    let found = search(bench, from, to, most, conditions)?;
     Ok(found)
 }

@@ -1,20 +1,20 @@
 use Rattle.std.proofs.Common.{◌≡◌, ◌+◌, ◌<◌, ◌≤◌, ℕ, sym, arith, subst}
 use Rattle.sv8_monitor.specs.Search.{IsSearched}
 use Rattle.sv8_monitor.specs.Comparing.{AreWalks, AreAlike}
-use Rattle.sv8_monitor.proofs.Looking.{searched_more, abandoned_after, abandoned_tried}
+use Rattle.sv8_monitor.proofs.Searching.{searched_more, searched_tried, searched_abandoned}
 use Rattle.sv8_monitor.proofs.Parting.{alike_at, unlike_at, below_more}
 use Rattle.sv8_monitor.proofs.compare.part_within.Goals as goal
 
 pub returns-in_err-both-2-clause-now_given_up : goal.returns-in_err-both-2-clause-now_given_up
 returns-in_err-both-2-clause-now_given_up g c =
     let inv = c.loop-both.invariant in
-    abandoned_tried g.row.K c.args.from c.loop-both.both.walk.step c.args.to c.args.now.now c.loop-both.now c.step_both.new.now c.sizes.ensures.some_steps inv.low
+    searched_tried g.row.K c.sizes.ensures.some_steps c.args.from c.loop-both.both.walk.step c.args.to c.args.now.now c.loop-both.now c.step_both.new.now inv.low
         (omega (arith, inv.high, c.if-step-to.false, c.step.ensures)) inv.now_searched c.in_err-both-2.ensures.now_tried
 
 pub returns-in_err-both-2-clause-before_given_up : goal.returns-in_err-both-2-clause-before_given_up
 returns-in_err-both-2-clause-before_given_up g c =
     let inv = c.loop-both.invariant in
-    abandoned_tried g.row.K c.args.from c.loop-both.both.walk.step c.args.to c.args.before.now c.loop-both.before c.step_both.new.before c.sizes.ensures.some_steps inv.low
+    searched_tried g.row.K c.sizes.ensures.some_steps c.args.from c.loop-both.both.walk.step c.args.to c.args.before.now c.loop-both.before c.step_both.new.before inv.low
         (omega (arith, inv.high, c.if-step-to.false, c.step.ensures)) inv.before_searched c.in_err-both-2.ensures.before_tried
 
 pub loop-both-preserved : goal.loop-both-preserved
@@ -34,9 +34,9 @@ loop-both-preserved g c =
       low = omega (arith, inv.low, next);
       high = omega (arith, inv.high, next, c.if-step-to.false, c.step.ensures);
       now_searched = subst (λ m. IsSearched k from m now c.step_both.new.now) (sym next)
-          (searched_more k from n now c.loop-both.now c.step_both.new.now pos inv.low inv.now_searched made.now_made);
+          (searched_more k pos from n now c.loop-both.now c.step_both.new.now inv.low inv.now_searched made.now_made);
       before_searched = subst (λ m. IsSearched k from m before c.step_both.new.before) (sym next)
-          (searched_more k from n before c.loop-both.before c.step_both.new.before pos inv.low inv.before_searched made.before_made);
+          (searched_more k pos from n before c.loop-both.before c.step_both.new.before inv.low inv.before_searched made.before_made);
       alike = subst (λ m. (i : ℕ) → from ≤ i → i < m → AreAlike before.kept now.kept i) (sym next)
           (below_more (AreAlike before.kept now.kept) from n inv.alike here);
     }
@@ -58,9 +58,9 @@ returns-clause-parted g c =
 pub returns-clause-now_given_up : goal.returns-clause-now_given_up
 returns-clause-now_given_up g c =
     let inv = c.loop-both.invariant in
-    abandoned_after g.row.K c.args.from c.loop-both.both.walk.step c.args.to c.args.now.now c.loop-both.now c.sizes.ensures.some_steps inv.low inv.high inv.now_searched
+    searched_abandoned g.row.K c.sizes.ensures.some_steps c.args.from c.loop-both.both.walk.step c.args.to c.args.now.now c.loop-both.now inv.high inv.now_searched
 
 pub returns-clause-before_given_up : goal.returns-clause-before_given_up
 returns-clause-before_given_up g c =
     let inv = c.loop-both.invariant in
-    abandoned_after g.row.K c.args.from c.loop-both.both.walk.step c.args.to c.args.before.now c.loop-both.before c.sizes.ensures.some_steps inv.low inv.high inv.before_searched
+    searched_abandoned g.row.K c.sizes.ensures.some_steps c.args.from c.loop-both.both.walk.step c.args.to c.args.before.now c.loop-both.before inv.high inv.before_searched

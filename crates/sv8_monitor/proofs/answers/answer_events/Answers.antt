@@ -1,0 +1,28 @@
+use Rattle.std.proofs.Common.{◌+◌, ◌++◌, false, Some, refl, ap, arith}
+use Rattle.sv8_bench.specs.declared.fault.BenchFault.TheVariants.{StepTooLarge}
+use Rattle.sv8_shell.specs.Refusal.{refusal_of}
+use Rattle.sv8_shell.specs.Text.{ok_line}
+use Rattle.sv8_shell.specs.Outcome.{told, refused}
+use Rattle.sv8_shell.proofs.AnswerLemmas.{reply-done, reply-due}
+use Rattle.sv8_monitor.specs.Comparing.{range_refusal}
+use Rattle.sv8_monitor.specs.Events.{events_text}
+use Rattle.sv8_monitor.proofs.QueryLemmas.{range-right, range-wrong, events-none}
+use Rattle.sv8_monitor.proofs.answers.answer_events.Goals as goal
+
+pub returns-then-first-gt-LAST_STEP : goal.returns-then-first-gt-LAST_STEP
+returns-then-first-gt-LAST_STEP g c =
+    rw (range-wrong c.args.first c.args.last c.then-first-gt-LAST_STEP.either)
+    (reply-due c.refuse.result _ _ _ (refused (refusal_of StepTooLarge)) (rw c.refusal_of.ensures.value at c.refuse.ensures))
+
+pub returns-then-last-first : goal.returns-then-last-first
+returns-then-last-first g c =
+    let timeline = c.args.bench.now.kept.timeline in
+    let none = events-none timeline c.args.first (c.args.last + 1) (omega arith) in
+    reply-done c.done.result _ _ _ _ (range_refusal c.args.first c.args.last) (told false (events_text timeline c.args.first (c.args.last + 1))) ok_line
+    (range-right c.args.first c.args.last (omega arith) (omega arith)) (ap (λ l. l ++ ok_line) none) refl c.done.ensures
+
+pub returns : goal.returns
+returns g c =
+    let timeline = c.args.bench.now.kept.timeline in
+    reply-done c.tell_events.result _ _ _ _ (range_refusal c.args.first c.args.last) (told false (events_text timeline c.args.first (c.args.last + 1))) _
+    (range-right c.args.first c.args.last (omega arith) (omega arith)) refl refl (rw c.timeline.ensures at c.tell_events.ensures)

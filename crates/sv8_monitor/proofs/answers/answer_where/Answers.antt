@@ -1,0 +1,23 @@
+use Rattle.std.proofs.Common.{◌*◌, true, refl, sym}
+use Rattle.sv8_mmu.specs.Place.{place_of}
+use Rattle.sv8_bench.specs.Faults.{step_refusal}
+use Rattle.sv8_bench.specs.Shown.{machine_state}
+use Rattle.sv8_shell.specs.Outcome.{told}
+use Rattle.sv8_shell.proofs.AnswerLemmas.{reply-done, reply-refused}
+use Rattle.sv8_monitor.specs.Texts.{place_text}
+use Rattle.sv8_monitor.proofs.answers.answer_where.Goals as goal
+
+pub returns-in-Ok : goal.returns-in-Ok
+returns-in-Ok g c =
+    let kept = c.args.bench.now.kept in
+    let state = machine_state kept c.args.step in
+    let text = place_text (place_of (4096 * kept.pages) state.mmu state.memory.ram c.args.address) in
+    reply-done c.tell_place.result _ _ _ _ (step_refusal c.args.step) (told true text) _ c.in-Ok.ensures.within refl (sym c.in-Ok.ensures.answered.kept)
+    (rw (c.place.ensures.value, c.in-Ok.ensures.state, ← c.sizes.ensures.pages) at c.tell_place.ensures)
+
+pub returns-in-Err : goal.returns-in-Err
+returns-in-Err g c =
+    let kept = c.args.bench.now.kept in
+    let state = machine_state kept c.args.step in
+    let text = place_text (place_of (4096 * kept.pages) state.mmu state.memory.ram c.args.address) in
+    reply-refused c.refuse.result _ _ _ _ (step_refusal c.args.step) (told true text) c.in-Err.fault c.in-Err.ensures.refused refl c.in-Err.ensures.given_up.kept (rw c.refusal_of.ensures.value at c.refuse.ensures)

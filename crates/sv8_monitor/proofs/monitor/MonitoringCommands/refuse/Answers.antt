@@ -1,0 +1,7 @@
+use Rattle.std.proofs.Common.{refl}
+use Rattle.sv8_shell.specs.Order.{bad}
+use Rattle.sv8_monitor.proofs.MonitorLemmas.{reply-on-now}
+use Rattle.sv8_monitor.proofs.monitor.MonitoringCommands.refuse.Goals as goal
+
+pub returns : goal.returns
+returns g c = λ kept. reply-on-now c.refuse.result _ _ kept kept bad (c.refuse.ensures kept.now) refl
