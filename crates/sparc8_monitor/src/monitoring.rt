@@ -11,7 +11,6 @@ use sv8_bench::Bench;
 use sv8_monitor::{Monitor, run};
 use sv8_program::{Description, End, Program, end_of};
 
-
 /// The pages of RAM: one mebibyte.
 const PAGES: usize = 256;
 
