@@ -66,7 +66,7 @@ module _ (wanted : ℕ → Bool) where
   -- the steps of an interval from its last one down, and then those below it
   pub falling_split : (n a b most : ℕ) → falling wanted n (a + b) most
       ≡ take most (reverse (rising wanted (n + a) b b)) ++ falling wanted n a (most - length (rising wanted (n + a) b b))
-  falling_split n a zero zero = 
+  falling_split n a zero zero =
       let none : a + 0 ≡ a = omega arith in
       ap (λ x. falling wanted n x 0) none
   falling_split n a zero (suc m) =
@@ -81,7 +81,7 @@ module _ (wanted : ℕ → Bool) where
       let at : n + a + b ≡ n + (a + b) = omega arith in
       ap (λ x. falling wanted n x (suc m)) next
       ∙ fall_one (wanted (n + (a + b))) (rising wanted (n + a) b b) (rising wanted (n + a) (suc b) (suc b)) (falling wanted n (a + b) m) (falling wanted n (a + b) (suc m)) n a (n + (a + b)) m
-        (last (n + a) b ∙ ap (λ s. rising wanted (n + a) b b ++ single (wanted s) s) at) (falling_split n a b m) (falling_split n a b (suc m))
+      (last (n + a) b ∙ ap (λ s. rising wanted (n + a) b b ++ single (wanted s) s) at) (falling_split n a b m) (falling_split n a b (suc m))
 
   -- ---- how far down
 

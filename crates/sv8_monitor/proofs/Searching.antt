@@ -97,7 +97,7 @@ met_is kept n m cs after ts h at state touched e =
     ∙ ap (λ x. any_met n s (step kept.windows kept.pages kept.timeline n s) x (footprint kept.windows kept.pages kept.timeline n s) cs) e ∙ same cs
   where
     same : (xs : List Condition) → any_met n (machine_state kept n) (step kept.windows kept.pages kept.timeline n (machine_state kept n))
-         (happening kept.windows kept.pages kept.timeline n (machine_state kept n)) (footprint kept.windows kept.pages kept.timeline n (machine_state kept n)) xs ≡ is_wanted kept xs n
+        (happening kept.windows kept.pages kept.timeline n (machine_state kept n)) (footprint kept.windows kept.pages kept.timeline n (machine_state kept n)) xs ≡ is_wanted kept xs n
     same [] = refl
     same (x ∷ xs) = refl
 

@@ -111,8 +111,7 @@ module _ (k from to : ℕ) (pos : 0 < k) where
   interval_down first before end recorded worked start now new up high s d e f =
       let some : start / k ≤ end / k = divided k start end pos (let below = s.below in omega (arith, below)) in
       let below = s.below in
-      inr
-      (
+      inr (
         omega (arith, below, high),
         s.aligned,
         omega (arith, e, some),

@@ -60,9 +60,7 @@ impl<const NW: usize, const PAGES: usize> Both<NW, PAGES> {
         ensures { MatchBool result (IsSameProcessor (state_in self.now.other.place) (state_in self.now.walk.place))
             (IsSameProcessor (state_in self.now.other.place) (state_in self.now.walk.place) → ⊥) }
     {
-        self.other
-            .machine()
-            .has_same_processor(self.walk.machine())
+        self.other.machine().has_same_processor(self.walk.machine())
     }
 }
 

@@ -20,15 +20,26 @@ pub enum Query {
         conditions: Conditions,
     },
     /// `windows N`: the registers of all windows at step N.
-    Windows { step: u32 },
+    Windows {
+        step: u32,
+    },
     /// `where N ADDR`: where an address leads by the tables at step N.
-    Where { step: u32, address: u32 },
+    Where {
+        step: u32,
+        address: u32,
+    },
     /// `list A B`: lines of the listing.
-    Lines { first: u32, last: u32 },
+    Lines {
+        first: u32,
+        last: u32,
+    },
     /// `names`: the names that the source defines.
     Names,
     /// `events A B`: what stands in the timeline from step A to B.
-    Events { first: u32, last: u32 },
+    Events {
+        first: u32,
+        last: u32,
+    },
 }
 
 /// A question of the monitor.

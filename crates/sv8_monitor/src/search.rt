@@ -203,11 +203,7 @@ fn look<const NW: usize, const PAGES: usize, const K: u32>(
 }
 
 /// Adds a step that was found, if one was; answers how many more may follow, of so many.
-fn add_found(
-    found: &mut Vec<Found>,
-    next: Option<Found>,
-    left: u32,
-) -> Result<u32, AllocError>
+fn add_found(found: &mut Vec<Found>, next: Option<Found>, left: u32) -> Result<u32, AllocError>
     requires { 0 < left }
     ensures found { OnOk result (found.new.items ≡ found.old.items ++ list_of next) }
     ensures left { IfOk result (λ rest. rest ≡ left_behind next left) }

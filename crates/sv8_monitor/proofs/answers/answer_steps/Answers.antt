@@ -13,7 +13,7 @@ returns-in-Ok g c =
     let kept = c.args.bench.now.kept in
     let text = steps_text (map (found_at kept) (steps_told kept c.args.from c.args.to c.args.count c.args.conditions)) in
     let same = told-either-way (c.steps.new.bench.kept ≡ kept) c.args.from c.args.to c.args.count
-        (λ h. ap (λ (w : Workbench). w.kept) (c.in-Ok.ensures.idle h)) (λ h k. (c.in-Ok.ensures.risen h k).kept) (λ h k. (c.in-Ok.ensures.fallen h k).kept) in
+    (λ h. ap (λ (w : Workbench). w.kept) (c.in-Ok.ensures.idle h)) (λ h k. (c.in-Ok.ensures.risen h k).kept) (λ h k. (c.in-Ok.ensures.fallen h k).kept) in
     reply-done c.tell_steps.result _ _ _ _ (steps_refusal c.args.from c.args.to c.args.conditions kept) (told true text) _ (rw c.as_slice.ensures at c.in-Ok.ensures.within) refl (sym same)
     (rw (c.as_slice-in-Ok.ensures.value, c.in-Ok.ensures.found, c.as_slice.ensures) at c.tell_steps.ensures)
 
@@ -22,6 +22,6 @@ returns-in-Err g c =
     let kept = c.args.bench.now.kept in
     let text = steps_text (map (found_at kept) (steps_told kept c.args.from c.args.to c.args.count c.args.conditions)) in
     let same = refused-either-way (c.steps.new.bench.kept ≡ kept) c.args.from c.args.to
-        (λ h. (c.in-Err.ensures.rising_given_up h).kept) (λ h. (c.in-Err.ensures.falling_given_up h).kept) in
+    (λ h. (c.in-Err.ensures.rising_given_up h).kept) (λ h. (c.in-Err.ensures.falling_given_up h).kept) in
     reply-refused c.refuse.result _ _ _ _ (steps_refusal c.args.from c.args.to c.args.conditions kept) (told true text) c.in-Err.fault (rw c.as_slice.ensures at c.in-Err.ensures.refused) refl same
     (rw c.refusal_of.ensures.value at c.refuse.ensures)

@@ -13,4 +13,4 @@ returns-in-Err-machine-clause-refused g c =
     let now = c.if-at_now-gt-LAST_STEP.false in
     let before = c.if-at_before-gt-LAST_STEP.false in
     lacking c.args.at_before c.args.at_now c.args.at_before c.in-Err-machine.fault (omega (arith, before)) (omega (arith, now)) (omega (arith, before))
-        c.in-Err-machine.ensures.refused
+    c.in-Err-machine.ensures.refused

@@ -20,7 +20,7 @@ next_difference-requires g c = (omega arith, c.loop-left.invariant.aligned)
 pub returns-in_default : goal.returns-in_default
 returns-in_default g c =
     found_none c.args.before.now.memory.ram c.args.now.now.memory.ram (ram_size g.row.PAGES) c.loop-left.from (omega arith) c.loop-left.invariant.aligned
-        c.loop-left.found.items c.loop-left.left _ (omega (arith, c.loop-left-test.true)) (sym c.next_difference.ensures.value ∙ c.in_default.is) c.loop-left.invariant.all
+    c.loop-left.found.items c.loop-left.left _ (omega (arith, c.loop-left-test.true)) (sym c.next_difference.ensures.value ∙ c.in_default.is) c.loop-left.invariant.all
 
 pub loop-left-preserved : goal.loop-left-preserved
 loop-left-preserved g c =

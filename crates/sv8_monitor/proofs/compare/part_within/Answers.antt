@@ -9,13 +9,13 @@ pub returns-in_err-both-2-clause-now_given_up : goal.returns-in_err-both-2-claus
 returns-in_err-both-2-clause-now_given_up g c =
     let inv = c.loop-both.invariant in
     searched_tried g.row.K c.sizes.ensures.some_steps c.args.from c.loop-both.both.walk.step c.args.to c.args.now.now c.loop-both.now c.step_both.new.now inv.low
-        (omega (arith, inv.high, c.if-step-to.false, c.step.ensures)) inv.now_searched c.in_err-both-2.ensures.now_tried
+    (omega (arith, inv.high, c.if-step-to.false, c.step.ensures)) inv.now_searched c.in_err-both-2.ensures.now_tried
 
 pub returns-in_err-both-2-clause-before_given_up : goal.returns-in_err-both-2-clause-before_given_up
 returns-in_err-both-2-clause-before_given_up g c =
     let inv = c.loop-both.invariant in
     searched_tried g.row.K c.sizes.ensures.some_steps c.args.from c.loop-both.both.walk.step c.args.to c.args.before.now c.loop-both.before c.step_both.new.before inv.low
-        (omega (arith, inv.high, c.if-step-to.false, c.step.ensures)) inv.before_searched c.in_err-both-2.ensures.before_tried
+    (omega (arith, inv.high, c.if-step-to.false, c.step.ensures)) inv.before_searched c.in_err-both-2.ensures.before_tried
 
 pub loop-both-preserved : goal.loop-both-preserved
 loop-both-preserved g c =
