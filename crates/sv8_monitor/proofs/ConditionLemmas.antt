@@ -1,5 +1,5 @@
 -- Lemmas on words that are read as conditions.
-use Rattle.std.proofs.Common.{◌≡◌, ℕ, suc, ◌-◌, ◌<◌, List, [], ◌∷◌, ◌++◌, length, Option, Some, None, option_map, refl, sym, ap, append_assoc, length-append, arith}
+use Rattle.std.proofs.Common.{◌≡◌, ℕ, suc, ◌-◌, ◌<◌, List, [], ◌∷◌, ◌++◌, length, Option, Some, None, option_map, refl, ap, append_assoc, length-append, arith}
 use Rattle.sv8_watch.specs.declared.condition.Condition.{Condition}
 use Rattle.sv8_monitor.specs.Conditions.{condition_of, conditions_of}
 

@@ -7,6 +7,7 @@ pub mod Differing
 pub mod Parting
 pub mod QueryLemmas
 pub mod MonitorLemmas
+pub mod WorkbenchLemmas
 pub mod Faults
 pub mod ConditionLemmas
 pub mod Poked

@@ -1,5 +1,5 @@
 -- Lemmas on answers to questions about one workbench.
-use Rattle.std.proofs.Common.{◌≡◌, ℕ, ◌+◌, ◌-◌, ◌<◌, ◌≤◌, ◌⊎◌, Bool, true, false, ◌&&◌, leb, ltb, List, [], take, drop, Option, Some, None, refl, inl, inr, arith, tests}
+use Rattle.std.proofs.Common.{◌≡◌, ℕ, ◌+◌, ◌-◌, ◌<◌, ◌≤◌, ◌⊎◌, Bool, true, false, ◌&&◌, leb, ltb, List, [], take, drop, Some, None, refl, inl, inr, arith, tests}
 use Rattle.sv8_time.specs.Schedule.{Schedule}
 use Rattle.sv8_source.specs.Listing.{ListedLine}
 use Rattle.sv8_bench.specs.declared.fault.BenchFault.TheVariants.{StepTooLarge}

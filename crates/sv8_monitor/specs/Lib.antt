@@ -6,3 +6,4 @@ pub mod Events
 pub mod Comparing
 pub mod Answers
 pub mod Session
+pub mod Laws

@@ -8,6 +8,7 @@ mod difference;
 mod driver;
 mod event_lines;
 mod found;
+pub mod laws;
 mod lines;
 mod monitor;
 mod piece;

@@ -1,4 +1,4 @@
-use Rattle.std.proofs.Common.{◌+◌, ◌++◌, false, Some, refl, ap, arith}
+use Rattle.std.proofs.Common.{◌+◌, ◌++◌, false, refl, ap, arith}
 use Rattle.sv8_bench.specs.declared.fault.BenchFault.TheVariants.{StepTooLarge}
 use Rattle.sv8_shell.specs.Refusal.{refusal_of}
 use Rattle.sv8_shell.specs.Text.{ok_line}
