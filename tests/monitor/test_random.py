@@ -14,7 +14,7 @@ WORDS = 4096 // 4
 
 
 def asked(script: list[str], windows: int) -> list[list[str]]:
-    """The answers to commands, each without its last line, which has to be `ok`."""
+    """The answers to commands but for `quit`, each without its last line, which has to be `ok`."""
     found: list[list[str]] = [[]]
     for line in answers("\n".join([*script, "quit", ""]).encode(), windows).decode().splitlines():
         if line == "ok":
@@ -23,7 +23,7 @@ def asked(script: list[str], windows: int) -> list[list[str]]:
             raise AssertionError(line)
         else:
             found[-1].append(line)
-    return found[:-1]
+    return found[:-2]
 
 
 @dataclass
