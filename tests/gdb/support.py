@@ -2,71 +2,90 @@
 from __future__ import annotations
 
 import os
+import re
 import select
+import shlex
 import subprocess
 import sys
 import tempfile
 import time
 from collections.abc import Sequence
+from collections.abc import Sequence
 from pathlib import Path
 from types import TracebackType
 
-from rubliman.gdb.command import SESSION
+from rubliman.gdb.command import words_of_gdb
+from rubliman.launcher.words import read
 
 TOP = Path(__file__).resolve().parents[2]
-SCRIPTS = TOP / "tests/monitor/cases"
-SECONDS = 30
+PROGRAMS = Path(__file__).with_name("programs")
+SECONDS = 60
+COMMAND, PROMPT = "$ ./sparc8 --gdb", "(gdb) "
+# What GDB tells before anything is asked.
+LEFT_OUT = ("Remote debugging using", "Reading ", "warning: File transfers")
 
 
-def stub(script: Path | None, folder: str, windows: int = 8) -> list[str]:
-    """The words that start the stub."""
-    words = [sys.executable, "-B", "-m", "rubliman.gdb", "--program", os.environ["SPARC8_MONITOR"], "--windows", str(windows), "--folder", folder]
-    return [*words, *([str(script)] if script else [])]
+def program() -> str:
+    """The monitor that is asked."""
+    return os.environ["SPARC8_MONITOR"]
 
 
-def environment() -> dict[str, str]:
-    """The environment of both."""
-    return {**os.environ, "PYTHONPATH": str(TOP / "lib"), "HOME": "/nonexistent", "LC_ALL": "C", "COLUMNS": "200"}
-
-
-def session(script: Path, commands: Sequence[str], words: Sequence[str] = ()) -> str:
-    """What GDB shows, with each command in front of what it answers."""
-    with tempfile.TemporaryDirectory(prefix="gdb-test-") as folder:
-        started = " ".join(stub(script, folder))
-        line = ["gdb-multiarch", "-q", "-nx", "-batch", "-iex", "set width 0", "-x", str(SESSION), "-ex", f"target extended-remote | {started}", *words]
-        for command in commands:
-            shown = command.replace("\\", "\\\\")
-            line += ["-ex", f"echo (gdb) {shown}\\n", "-ex", command]
-        done = subprocess.run(line, env=environment(), stdin=subprocess.DEVNULL, stdout=subprocess.PIPE, stderr=subprocess.STDOUT, text=True, timeout=120, check=False)
-        return done.stdout.replace(folder, "FOLDER")
+def environment(folder: str) -> dict[str, str]:
+    """The environment of GDB and of the stub, with a folder for what they leave."""
+    return {**os.environ, "PYTHONPATH": str(TOP / "lib"), "HOME": "/nonexistent", "LC_ALL": "C", "TMPDIR": folder}
 
 
 class Packets:
-    """A stub that is spoken to by hand, as a context."""
+    """A stub that is spoken to by hand, as a context. It leaves nothing behind."""
 
     def __init__(self, script: Path | None = None, windows: int = 8) -> None:
-        self._script, self._windows = script, windows
+        self._words = ["--program", program(), "--windows", str(windows), *([str(script)] if script else [])]
+        # What the user was told.
+        self.said = b""
+        self.acknowledges = True
 
     def __enter__(self) -> Packets:
         self._folder = tempfile.TemporaryDirectory(prefix="gdb-test-")
+        self._errors = tempfile.TemporaryFile()
         self.process = subprocess.Popen(
-            stub(self._script, self._folder.name, self._windows), env=environment(), stdin=subprocess.PIPE, stdout=subprocess.PIPE, bufsize=0
+            [sys.executable, "-B", "-m", "rubliman.gdb", *self._words],
+            env=environment(self._folder.name),
+            stdin=subprocess.PIPE,
+            stdout=subprocess.PIPE,
+            stderr=self._errors,
+            bufsize=0,
         )
         self._arrived = b""
-        self.acknowledges = True
         return self
 
-    def __exit__(self, kind: type[BaseException] | None, value: BaseException | None, trace: TracebackType | None) -> None:
+    def __exit__(
+        self, kind: type[BaseException] | None, value: BaseException | None, trace: TracebackType | None
+    ) -> None:
         assert self.process.stdin is not None and self.process.stdout is not None
         self.process.stdin.close()
         self.process.stdout.close()
         self.process.wait(timeout=SECONDS)
+        left = os.listdir(self._folder.name)
         self._folder.cleanup()
+        self._errors.close()
+        assert kind or not left, left
+
+    def errors(self) -> str:
+        """What the stub has told on standard error."""
+        self._errors.seek(0)
+        return self._errors.read().decode()
+
+    def child(self) -> int:
+        """The number of the monitor's process."""
+        assert self.ask(b"qC") == b"QC1"
+        found = subprocess.run(["pgrep", "-P", str(self.process.pid)], stdout=subprocess.PIPE, text=True, check=True)
+        return int(found.stdout)
 
     def write(self, data: bytes) -> None:
         """Sends bytes as they are."""
         assert self.process.stdin is not None
-        self.process.stdin.write(data)
+        while data:
+            data = data[self.process.stdin.write(data) or 0 :]
 
     def read(self, seconds: float = SECONDS) -> bytes:
         """Bytes that have come, at least one; none at the end or where none comes in time."""
@@ -91,18 +110,50 @@ class Packets:
         body, self._arrived = self._arrived[begin + 1 : at], self._arrived[at + 3 :]
         if self.acknowledges:
             self.write(b"+")
-        found, escaped = bytearray(), False
-        for it in body:
-            if escaped or it != 0x7D:
-                found.append(it ^ 0x20 if escaped else it)
-            escaped = not escaped and it == 0x7D
-        return bytes(found)
+        return re.sub(rb"\}(.)", lambda it: bytes([it[1][0] ^ 0x20]), body, flags=re.DOTALL)
 
     def ask(self, body: bytes) -> bytes:
         """What a packet is answered, without text for the user."""
         self.send(body)
         while True:
             found = self.reply()
-            if not (found.startswith(b"O") and found != b"OK"):
+            if not found.startswith(b"O") or found == b"OK":
                 return found
-            self.said = getattr(self, "said", b"") + bytes.fromhex(found[1:].decode())
+            self.said += bytes.fromhex(found[1:].decode())
+
+    def command(self, text: str) -> str:
+        """What the user is told to a command behind `monitor`."""
+        self.said = b""
+        found = self.ask(b"qRcmd," + text.encode().hex().encode())
+        assert found == b"OK", found
+        return self.said.decode()
+
+
+def gdb(line: str, commands: Sequence[str], folder: Path = TOP, more: Sequence[str] = ()) -> str:
+    """What GDB prints where it is started by a line in a folder, and `commands` are typed. Nothing is left behind."""
+    words = shlex.split(line.removeprefix(COMMAND))
+    at = words.index("--") if "--" in words else len(words)
+    settings = read(words[:at])
+    with tempfile.TemporaryDirectory(prefix="gdb-test-") as left:
+        done = subprocess.run(
+            words_of_gdb(program(), settings.windows, settings.script, ["-nx", *more, *words[at + 1 :]]),
+            cwd=folder,
+            env=environment(left),
+            input="".join(f"{it}\n" for it in commands),
+            stdout=subprocess.PIPE,
+            stderr=subprocess.STDOUT,
+            text=True,
+            errors="replace",
+            timeout=SECONDS,
+            check=True,
+        )
+        assert not os.listdir(left), left
+    return done.stdout.replace(f"{TOP}/", "")
+
+
+def session(line: str, commands: Sequence[str], folder: Path = TOP) -> str:
+    """What a user sees, with each command behind its prompt. What GDB tells of the pipe and of files at its start is
+    left out."""
+    head, *shown = gdb(line, commands, folder, ["-iex", "set width 0"]).split(PROMPT)
+    begin = "".join(it for it in head.splitlines(keepends=True) if not it.startswith(LEFT_OUT))
+    return begin + "".join(f"{PROMPT}{command}\n{it}" for command, it in zip(commands, shown))

@@ -72,7 +72,8 @@ class Expressions(unittest.TestCase):
                 self.assertEqual(value(text), due)
 
     def test_what_is_not_known(self) -> None:
-        for text in ("", "27", "22", "02 27", "22 00 22 00 05 27", "0c 00 27", "ff 27", "21 0000", "22 01", "32 05 27", "16 00 27"):
+        short = ("", "27", "22", "02 27", "22 01", "16 00 27", "28 27", "29 27")
+        for text in (*short, "22 00 22 00 05 27", "0c 00 27", "ff 27", "21 0000", "32 05 27", "22 01 32 01 27"):
             with self.subTest(text=text), self.assertRaises(NotKnown):
                 value(text)
 

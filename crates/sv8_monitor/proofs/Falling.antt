@@ -2,7 +2,8 @@
 use Rattle.std.proofs.Common.{◌≡◌, ◌∙◌, ℕ, zero, suc, ◌+◌, ◌-◌, ◌*◌, ◌/◌, ◌<◌, ◌≤◌, ◌⊎◌, inl, inr, Bool, true, false, cond, nat_lt, List, [], ◌∷◌, ◌++◌, length, take, map, reverse, refl, sym, ap, append_assoc, append-nil, length-append, arith}
 use Rattle.std.proofs.lemmas.List.{reverse-append, map-append}
 use Rattle.std.proofs.lemmas.Bool.{ltb-true, ltb-false}
-use Rattle.std.proofs.Math.Nat.{div-lt_iff_lt-mul, le-div_iff_mul-le, mul_comm, div-add-mod}
+use Rattle.std.proofs.Math.Nat.{mul-div-le}
+use Rattle.sv8_monitor.proofs.Sought.{in_interval}
 use Rattle.sv8_monitor.specs.Search.{rising, looked_to, falling, sought_to}
 
 -- a step, if it is wanted
@@ -11,16 +12,14 @@ single true n = n ∷ []
 single false n = []
 
 -- a step of an interval
-pub same_interval : (k low x : ℕ) → 0 < k → low ≤ x → x < k * (low / k) + k → x / k ≡ low / k
+same_interval : (k low x : ℕ) → 0 < k → low ≤ x → x < k * (low / k) + k → x / k ≡ low / k
 same_interval k low x pos up within =
-    let parts = div-add-mod low k in
-    let least : low / k ≤ x / k = (le-div_iff_mul-le pos).1 (omega (arith, parts, up, mul_comm (low / k) k)) in
-    let most : x / k < low / k + 1 = (div-lt_iff_lt-mul pos).1 (omega (arith, within, mul_comm (low / k + 1) k)) in
-    omega (arith, least, most)
+    let under = mul-div-le low k in
+    in_interval k (low / k) x pos (omega (arith, under, up)) within
 
 module _ (wanted : ℕ → Bool) where
   -- however many more may follow
-  pub enough : (n b m : ℕ) → b ≤ m → rising wanted n b m ≡ rising wanted n b b
+  enough : (n b m : ℕ) → b ≤ m → rising wanted n b m ≡ rising wanted n b b
   enough n zero m few = refl
   enough n (suc b) zero few = absurd (omega arith)
   enough n (suc b) (suc m) few =
@@ -48,6 +47,11 @@ module _ (wanted : ℕ → Bool) where
       ∙ ap (λ s. s ++ single (wanted (n + 1 + b)) (n + 1 + b)) (sym (first n b))
       ∙ ap (λ s. rising wanted n (suc b) (suc b) ++ single (wanted s) s) here
 
+  last_at : (n a b : ℕ) → rising wanted (n + a) (suc b) (suc b) ≡ rising wanted (n + a) b b ++ single (wanted (n + (a + b))) (n + (a + b))
+  last_at n a b =
+      let at : n + a + b ≡ n + (a + b) = omega arith in
+      last (n + a) b ∙ ap (λ s. rising wanted (n + a) b b ++ single (wanted s) s) at
+
   no_more_fall : (n a : ℕ) → falling wanted n a 0 ≡ []
   no_more_fall n zero = refl
   no_more_fall n (suc a) = refl
@@ -64,7 +68,7 @@ module _ (wanted : ℕ → Bool) where
   fall_one false xs all rest more n a s m e f g = rw (e, append-nil) g
 
   -- the steps of an interval from its last one down, and then those below it
-  pub falling_split : (n a b most : ℕ) → falling wanted n (a + b) most
+  falling_split : (n a b most : ℕ) → falling wanted n (a + b) most
       ≡ take most (reverse (rising wanted (n + a) b b)) ++ falling wanted n a (most - length (rising wanted (n + a) b b))
   falling_split n a zero zero =
       let none : a + 0 ≡ a = omega arith in
@@ -78,14 +82,13 @@ module _ (wanted : ℕ → Bool) where
       no_more_fall n (a + suc b) ∙ sym (no_more_fall n a) ∙ ap (falling wanted n a) (sym none)
   falling_split n a (suc b) (suc m) =
       let next : a + suc b ≡ suc (a + b) = omega arith in
-      let at : n + a + b ≡ n + (a + b) = omega arith in
       ap (λ x. falling wanted n x (suc m)) next
       ∙ fall_one (wanted (n + (a + b))) (rising wanted (n + a) b b) (rising wanted (n + a) (suc b) (suc b)) (falling wanted n (a + b) m) (falling wanted n (a + b) (suc m)) n a (n + (a + b)) m
-      (last (n + a) b ∙ ap (λ s. rising wanted (n + a) b b ++ single (wanted s) s) at) (falling_split n a b m) (falling_split n a b (suc m))
+      (last_at n a b) (falling_split n a b m) (falling_split n a b (suc m))
 
   -- ---- how far down
 
-  pub sought_none : (n a : ℕ) → sought_to wanted n a 0 ≡ n + a
+  sought_none : (n a : ℕ) → sought_to wanted n a 0 ≡ n + a
   sought_none n zero = omega arith
   sought_none n (suc a) = refl
 
@@ -105,22 +108,9 @@ module _ (wanted : ℕ → Bool) where
       let more = sought_below n a (suc m) in
       elim (wanted (n + a)) as (λ w. cond w (sought_to wanted n a m) (sought_to wanted n a (suc m)) < n + suc a) [ true ↦ omega (arith, less) | false ↦ omega (arith, more) ]
 
-  pub sought_from : (n a m : ℕ) → n ≤ sought_to wanted n a m
-  sought_from n zero m = omega arith
-  sought_from n (suc a) zero = omega arith
-  sought_from n (suc a) (suc m) =
-      let less = sought_from n a m in
-      let more = sought_from n a (suc m) in
-      elim (wanted (n + a)) as (λ w. n ≤ cond w (sought_to wanted n a m) (sought_to wanted n a (suc m))) [ true ↦ less | false ↦ more ]
-
   -- how many are wanted among one more
   one_longer : (w : Bool) (xs all : List ℕ) (s : ℕ) → all ≡ xs ++ single w s → length all ≡ length xs + length (single w s)
   one_longer w xs all s e = ap length e ∙ length-append xs (single w s)
-
-  last_at : (n a b : ℕ) → rising wanted (n + a) (suc b) (suc b) ≡ rising wanted (n + a) b b ++ single (wanted (n + (a + b))) (n + (a + b))
-  last_at n a b =
-      let at : n + a + b ≡ n + (a + b) = omega arith in
-      last (n + a) b ∙ ap (λ s. rising wanted (n + a) b b ++ single (wanted s) s) at
 
   within_one : (w : Bool) (low all xs m s less more : ℕ) → all ≡ xs + length (single w s) → suc m ≤ all → (m ≤ xs → low ≤ less) → (suc m ≤ xs → low ≤ more)
       → low ≤ cond w less more
@@ -128,7 +118,7 @@ module _ (wanted : ℕ → Bool) where
   within_one false low all xs m s less more e few f g = g (omega (arith, e, few))
 
   -- it lies in an interval that has enough of them, and else below it
-  pub sought_within : (n a b m : ℕ) → m ≤ length (rising wanted (n + a) b b) → n + a ≤ sought_to wanted n (a + b) m
+  sought_within : (n a b m : ℕ) → m ≤ length (rising wanted (n + a) b b) → n + a ≤ sought_to wanted n (a + b) m
   sought_within n a zero m few =
       let none : m ≡ 0 = omega (arith, few) in
       let at = sought_none n (a + 0) in
@@ -150,7 +140,7 @@ module _ (wanted : ℕ → Bool) where
       let left : suc m - xs ≡ suc m - all = omega (arith, e) in
       g (omega (arith, e, few)) ∙ ap (sought_to wanted n a) left
 
-  pub sought_more : (n a b m : ℕ) → length (rising wanted (n + a) b b) < m → sought_to wanted n (a + b) m ≡ sought_to wanted n a (m - length (rising wanted (n + a) b b))
+  sought_more : (n a b m : ℕ) → length (rising wanted (n + a) b b) < m → sought_to wanted n (a + b) m ≡ sought_to wanted n a (m - length (rising wanted (n + a) b b))
   sought_more n a zero m few =
       let none : a + 0 ≡ a = omega arith in
       let all : m ≡ m - 0 = omega arith in
@@ -164,7 +154,7 @@ module _ (wanted : ℕ → Bool) where
       (sought_to wanted n (a + b) (suc m)) longer few (sought_more n a b m) (sought_more n a b (suc m))
 
   -- in any case it lies in the interval in which the search goes on
-  pub sought_interval : (k n a b m : ℕ) → 0 < k → 0 < m → 0 < b → n + (a + b) ≤ k * ((n + a) / k) + k
+  sought_interval : (k n a b m : ℕ) → 0 < k → 0 < m → 0 < b → n + (a + b) ≤ k * ((n + a) / k) + k
       → sought_to wanted n a (m - length (rising wanted (n + a) b b)) / k ≡ sought_to wanted n (a + b) m / k
   sought_interval k n a b m pos some up within = go (nat_lt (length (rising wanted (n + a) b b)) m) refl where
     go : (few : Bool) → nat_lt (length (rising wanted (n + a) b b)) m ≡ few
@@ -193,13 +183,13 @@ module _ (wanted : ℕ → Bool) where
     none_left (inl past) = inl (omega (arith, past))
     none_left (inr none) = inr none
 
-    pub fall_end : falling wanted to (end - to) left ≡ []
+    fall_end : falling wanted to (end - to) left ≡ []
     fall_end = go (none_left done) where
       go : (end - to ≡ 0) ⊎ (left ≡ 0) → falling wanted to (end - to) left ≡ []
       go (inl none) = ap (λ b. falling wanted to b left) none
       go (inr none) = ap (falling wanted to (end - to)) none ∙ no_more_fall to (end - to)
 
-    pub sought_end : sought_to wanted to (end - to) left ≡ end
+    sought_end : sought_to wanted to (end - to) left ≡ end
     sought_end = go (none_left done) where
       go : (end - to ≡ 0) ⊎ (left ≡ 0) → sought_to wanted to (end - to) left ≡ end
       go (inl none) =

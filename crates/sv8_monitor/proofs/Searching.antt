@@ -1,5 +1,5 @@
 -- Searches: each step that is looked at leaves the rest of what is to be told.
-use Rattle.std.proofs.Common.{◌≡◌, ◌∙◌, ℕ, zero, suc, ◌+◌, ◌-◌, ◌/◌, ◌<◌, ◌≤◌, ◌⊎◌, inl, inr, min, Bool, true, false, cond, List, [], ◌∷◌, ◌++◌, length, map, Option, Some, None, refl, sym, ap, append_assoc, arith}
+use Rattle.std.proofs.Common.{◌≡◌, ◌∙◌, ℕ, zero, suc, ◌+◌, ◌-◌, ◌/◌, ◌<◌, ◌≤◌, ◌⊎◌, inl, inr, min, Bool, true, false, cond, List, [], ◌∷◌, ◌++◌, length, map, Option, Some, None, refl, sym, ap, subst, append_assoc, append-nil, arith}
 use Rattle.std.specs.Bool.{then_some}
 use Rattle.std.proofs.Math.Nat.{mul-le-mul_left, mul-div-le}
 use Rattle.sv8_model.specs.declared.touch.Touch.{Touch}
@@ -47,7 +47,7 @@ module _ (k : Kept) (cs : List Condition) where
   step_looked false n left most e = rw e refl
 
   -- a step that is looked at: what it adds, and what is left
-  pub rising_more : (n to most : ℕ) → n < to → 0 < most
+  rising_more : (n to most : ℕ) → n < to → 0 < most
       → list_of (wanted_found k cs n) ++ map (found_at k) (rising (is_wanted k cs) (n + 1) (to - (n + 1)) (left_behind (wanted_found k cs n) most))
       ≡ map (found_at k) (rising (is_wanted k cs) n (to - n) most)
   unfolding wanted told
@@ -56,7 +56,7 @@ module _ (k : Kept) (cs : List Condition) where
       let more : suc (most - 1) ≡ most = omega (arith, some) in
       rw (sym first, sym more) (step_told (is_wanted k cs n) n (to - (n + 1)) (most - 1) refl)
 
-  pub looked_more : (n to most : ℕ) → n < to → 0 < most
+  looked_more : (n to most : ℕ) → n < to → 0 < most
       → looked_to (is_wanted k cs) (n + 1) (to - (n + 1)) (left_behind (wanted_found k cs n) most) ≡ looked_to (is_wanted k cs) n (to - n) most
   unfolding wanted
   looked_more n to most below some =
@@ -185,6 +185,9 @@ module _ (k : ℕ) (pos : 0 < k) (from : ℕ) where
         worked = (raised.0, omega (arith, raised.1, high), raised.2);
       }
 
+pub searched_at : (k from m n : ℕ) (old new : Workbench) → m ≡ n → IsSearched k from m old new → IsSearched k from n old new
+searched_at k from m n old new e s = subst (λ (x : ℕ). IsSearched k from x old new) e s
+
 -- a step that was made, and one that was not
 pub made_tried : (k n : ℕ) (old new : Workbench) → IsMade k n old new → IsTried k n old new
 made_tried k n old new m =
@@ -218,7 +221,7 @@ module _ (k : Kept) (cs : List Condition) (n to left : ℕ) where
         ap (λ m. looked_to (is_wanted k cs) m (to - m) next) at ∙ ap (looked_to (is_wanted k cs) (n + 1) (to - (n + 1))) rest_is ∙ looked_more k cs n to left below some
 
   -- where it ends
-  pub no_more_rise : (to ≤ n) ⊎ (left ≡ 0) → rising (is_wanted k cs) n (to - n) left ≡ []
+  no_more_rise : (to ≤ n) ⊎ (left ≡ 0) → rising (is_wanted k cs) n (to - n) left ≡ []
   no_more_rise (inl past) =
       let none : to - n ≡ 0 = omega (arith, past) in
       ap (λ b. rising (is_wanted k cs) n b left) none
@@ -226,6 +229,9 @@ module _ (k : Kept) (cs : List Condition) (n to left : ℕ) where
     nothing : (b : ℕ) → rising (is_wanted k cs) n b 0 ≡ []
     nothing zero = refl
     nothing (suc b) = refl
+
+  pub all_risen : (to ≤ n) ⊎ (left ≡ 0) → (now all : List Found) → now ++ map (found_at k) (rising (is_wanted k cs) n (to - n) left) ≡ all → now ≡ all
+  all_risen done now all e = sym (append-nil now) ∙ ap (λ xs. now ++ map (found_at k) xs) (sym (no_more_rise done)) ∙ e
 
   pub looked_end : (to ≤ n) ⊎ (left ≡ 0) → looked_to (is_wanted k cs) n (to - n) left ≡ n
   looked_end (inl past) =

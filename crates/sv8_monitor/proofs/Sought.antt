@@ -1,21 +1,19 @@
 -- How many steps a falling search makes.
 use Rattle.std.proofs.Common.{◌≡◌, ◌∙◌, ℕ, ◌+◌, ◌-◌, ◌*◌, ◌/◌, ◌<◌, ◌≤◌, ◌⊎◌, inl, inr, Bool, true, false, nat_lt, min, max, refl, ap, arith, subst}
 use Rattle.std.proofs.lemmas.Bool.{ltb-true, ltb-false}
-use Rattle.std.proofs.Math.Nat.{div-lt_iff_lt-mul, le-div_iff_mul-le, mul_comm, mul-le-mul_left, mul-div-le, div-add-mod, mod-lt}
+use Rattle.std.proofs.Math.Nat.{le-div_iff_mul-le, mul_comm, mul-le-mul_left, mul-div-le, div-add-mod, mod-lt}
 use Rattle.sv8_history.specs.Growing.{restored}
 use Rattle.sv8_trace.specs.Recorder.{counted_by, RaisedUpTo}
 use Rattle.sv8_monitor.specs.Search.{checkpoint_of, sought_steps, IsSought, IsAbandoned, IsStart}
 use Rattle.sv8_bench.specs.Workbench.{Workbench, checkpoints}
+use Rattle.sv8_bench.proofs.Walking.{in_interval as interval_of}
 use Rattle.sv8_bench.proofs.Queried.{raised_more}
 
 -- the interval of a step
 pub in_interval : (k q n : ℕ) → 0 < k → k * q ≤ n → n < k * q + k → n / k ≡ q
-in_interval k q n pos low high =
-    let least : q ≤ n / k = (le-div_iff_mul-le pos).1 (omega (arith, low, mul_comm q k)) in
-    let most : n / k < q + 1 = (div-lt_iff_lt-mul pos).1 (omega (arith, high, mul_comm (q + 1) k)) in
-    omega (arith, least, most)
+in_interval k q n pos low high = interval_of k q (n - k * q) n pos (omega (arith, low, high)) (omega (arith, low))
 
-pub interval_end : (k n : ℕ) → 0 < k → n < k * (n / k) + k
+interval_end : (k n : ℕ) → 0 < k → n < k * (n / k) + k
 interval_end k n pos =
     let parts = div-add-mod n k in
     let few = mod-lt n pos in
@@ -92,7 +90,7 @@ module _ (k from to : ℕ) (pos : 0 < k) where
   raised_less few most first new a le = (a.0, omega (arith, a.1, le), a.2)
 
   -- an interval more
-  pub interval_raised : (first before end recorded worked start new : ℕ) → to < end → IsStart k to end start → IsDown k from to first before end recorded worked
+  interval_raised : (first before end recorded worked start new : ℕ) → to < end → IsStart k to end start → IsDown k from to first before end recorded worked
       → RaisedUpTo (end - restored k recorded start) worked new → RaisedUpTo (sought_steps k first from start) before new
   interval_raised first before end recorded worked start new up s (inl d) r =
       let few : end - restored k recorded start ≤ sought_steps k first from start =
@@ -119,7 +117,7 @@ module _ (k from to : ℕ) (pos : 0 < k) where
       )
 
   -- at the end
-  pub down_raised : (first before end recorded worked lowest : ℕ) → end / k ≡ lowest / k → IsDown k from to first before end recorded worked
+  down_raised : (first before end recorded worked lowest : ℕ) → end / k ≡ lowest / k → IsDown k from to first before end recorded worked
       → RaisedUpTo (sought_steps k first from lowest) before worked
   down_raised first before end recorded worked lowest e (inl d) = (0, omega arith, d.2)
   down_raised first before end recorded worked lowest e (inr d) =
@@ -127,7 +125,7 @@ module _ (k from to : ℕ) (pos : 0 < k) where
       raised_less (sought_steps k first from end) (sought_steps k first from lowest) before worked d.3 (omega (arith, same))
 
   -- further down it is no less
-  pub raised_further : (first before low high new : ℕ) → low ≤ high → RaisedUpTo (sought_steps k first from high) before new → RaisedUpTo (sought_steps k first from low) before new
+  raised_further : (first before low high new : ℕ) → low ≤ high → RaisedUpTo (sought_steps k first from high) before new → RaisedUpTo (sought_steps k first from low) before new
   raised_further first before low high new le r =
       let grown = mul-le-mul_left k (divided k low high pos le) in
       raised_less (sought_steps k first from high) (sought_steps k first from low) before new r (omega (arith, grown))
@@ -145,7 +143,7 @@ module _ (k from to : ℕ) (pos : 0 < k) where
   }
 
   -- one that stops higher up makes no more steps
-  pub sought_higher : (low high : ℕ) (old new : Workbench) → low ≤ high → IsSought k from high old new → IsSought k from low old new
+  sought_higher : (low high : ℕ) (old new : Workbench) → low ≤ high → IsSought k from high old new → IsSought k from low old new
   sought_higher low high old new le s = record {
     kept = s.kept;
     fewest = s.fewest;

@@ -1,6 +1,7 @@
 """GDB on the machine of a script: a stub of the remote serial protocol over the proved monitor.
 
-It holds no rule of the machine. `packets` speaks with GDB, `monitor` with the proved program, `machine` reads what that
-tells, `memory` and `registers` show it to GDB, `points` and `conditions` read what GDB wants to stop at, `running` looks
-for it, `words` has the user's own commands, `symbols` makes the file of labels and lines, and `stub` answers packets.
+`packets` speaks with GDB, `monitor` with the proved program. `machine` and `listing` read what that tells; `memory`,
+`registers` and `windows` show it to GDB. `points`, `conditions` and `judging` take what GDB wants to stop at,
+`watching` and `running` look for it, `stops` tells of it. `words` has the user's own commands, `files` and `symbols`
+the file of labels and lines. `stub` answers packets, `serving` serves a session, and `command` starts GDB on one.
 """

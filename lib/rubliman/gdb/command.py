@@ -1,15 +1,17 @@
 """`./sparc8 --gdb [--windows N] [SCRIPT] [-- GDB's words]`: starts GDB on the machine of a script."""
 from __future__ import annotations
 
+import os
 import shlex
 import shutil
-import subprocess
+import signal
 import sys
-import tempfile
 from collections.abc import Sequence
 from pathlib import Path
+from typing import NoReturn
 
 SESSION = Path(__file__).with_name("session.gdb")
+_PACKAGE = Path(__file__).resolve().parents[2]
 _GDBS = ("gdb-multiarch", "sparc-elf-gdb", "sparc64-linux-gnu-gdb")
 
 
@@ -17,26 +19,25 @@ class NoGdb(Exception):
     """GDB is not there."""
 
 
-def main(program: Path, windows: str, script: str | None, words: Sequence[str]) -> int:
-    """Runs GDB, and gives its status. `words` are its own."""
-    gdb = next(filter(None, map(shutil.which, _GDBS)), None)
-    if gdb is None:
+def find() -> str:
+    """The GDB that is there. Raises `NoGdb`."""
+    found = next(filter(None, map(shutil.which, _GDBS)), None)
+    if found is None:
         raise NoGdb
-    with tempfile.TemporaryDirectory(prefix="sparc8-gdb-") as folder:
-        command = [gdb, "-q", "-iex", "set auto-load safe-path /", "-x", str(SESSION)]
-        command += ["-ex", f"target extended-remote | {_stub(program, windows, script, folder)}", *words]
-        with subprocess.Popen(command) as process:
-            while True:
-                try:
-                    return process.wait()
-                except KeyboardInterrupt:
-                    # Ctrl-C is GDB's.
-                    continue
+    return found
 
 
-def _stub(program: Path, windows: str, script: str | None, folder: str) -> str:
-    """The command that GDB starts."""
-    package = Path(__file__).resolve().parents[2]
-    words = ["env", f"PYTHONPATH={package}", sys.executable, "-B", "-m", "rubliman.gdb"]
-    words += ["--program", str(program), "--windows", windows, "--folder", folder]
-    return shlex.join([*words, *([script] if script else [])])
+def words_of_gdb(program: Path | str, windows: str, script: str | None, words: Sequence[str]) -> list[str]:
+    """The words that start GDB on the machine of a script. `words` are its own."""
+    stub = ["env", f"PYTHONPATH={_PACKAGE}", sys.executable, "-B", "-m", "rubliman.gdb"]
+    stub += ["--program", str(program), "--windows", windows, *(["--", script] if script else [])]
+    return [find(), "-q", "-x", str(SESSION), "-ex", f"target extended-remote | {shlex.join(stub)}", *words]
+
+
+def become(program: Path, windows: str, script: str | None, words: Sequence[str]) -> NoReturn:
+    """Has GDB take over this process. Raises `NoGdb`."""
+    command = words_of_gdb(program, windows, script, words)
+    # Python ignores these, and GDB would inherit that.
+    for it in (signal.SIGPIPE, signal.SIGXFSZ):
+        signal.signal(it, signal.SIG_DFL)
+    os.execv(command[0], command)

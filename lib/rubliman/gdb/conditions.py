@@ -134,11 +134,15 @@ def _register(agent: _Agent) -> None:
     agent.push(agent.register(agent.argument(2)))
 
 
-def _pick(agent: _Agent) -> None:
-    place = agent.argument(1)
-    if place >= len(agent.stack):
+def _copy(agent: _Agent, depth: int) -> None:
+    """One more of what stands so deep."""
+    if depth >= len(agent.stack):
         raise NotKnown
-    agent.push(agent.stack[-1 - place])
+    agent.push(agent.stack[-1 - depth])
+
+
+def _drop(agent: _Agent) -> None:
+    agent.pop()
 
 
 def _exchange(agent: _Agent) -> None:
@@ -184,10 +188,10 @@ _OPERATIONS: dict[int, Callable[[_Agent], None]] = {
     0x24: _constant(4),
     0x25: _constant(8),
     0x26: _register,
-    0x28: lambda agent: agent.stack.append(agent.stack[-1]) if agent.stack else agent.push(agent.pop()),
-    0x29: lambda agent: agent.pop() and None,
+    0x28: lambda agent: _copy(agent, 0),
+    0x29: _drop,
     0x2A: _extend_by_zero,
     0x2B: _exchange,
-    0x32: _pick,
+    0x32: lambda agent: _copy(agent, agent.argument(1)),
     0x33: _rotate,
 }

@@ -5,6 +5,9 @@ from dataclasses import dataclass
 
 from .monitor import Monitor
 
+# Where, among the words of `regs`, the values of its last six lines stand, and how many.
+_ROWS = ((18, 8), (27, 8), (36, 8), (45, 8), (54, 5), (60, 4))
+
 
 @dataclass(frozen=True)
 class Machine:
@@ -34,20 +37,19 @@ class Machine:
     @staticmethod
     def of(lines: list[str]) -> Machine:
         """What the lines of `regs` say."""
-        head, counters, control, *rows = (line.split() for line in lines)
-        psr, wim, tbr, y = (int(it, 16) for it in control[1::2])
-        *windows, mmu, devices = (tuple(int(it, 16) for it in row[1:]) for row in rows)
+        words = " ".join(lines).split()
+        *windows, mmu, devices = (tuple([int(it, 16) for it in words[at : at + size]]) for at, size in _ROWS)
         return Machine(
-            step=int(head[1]),
-            is_running=head[2] == "run",
-            pc=int(counters[1], 16),
-            npc=int(counters[3], 16),
-            annul=counters[5] == "1",
-            psr=psr,
-            wim=wim,
-            tbr=tbr,
-            y=y,
-            registers=tuple(it for row in windows for it in row),
+            step=int(words[1]),
+            is_running=words[2] == "run",
+            pc=int(words[4], 16),
+            npc=int(words[6], 16),
+            annul=words[8] == "1",
+            psr=int(words[10], 16),
+            wim=int(words[12], 16),
+            tbr=int(words[14], 16),
+            y=int(words[16], 16),
+            registers=sum(windows, ()),
             mmu=mmu,
             devices=devices,
         )
@@ -70,11 +72,12 @@ class Made:
         step, pc, _, _, what, *rest = line.split()
         trap = int(rest.pop(0), 16) if what in ("trap", "error") else None
         items: dict[str, list[str]] = {}
+        words: list[str] = []
         for word in rest:
-            if word.islower() and not word.isdigit() and word in _ITEMS:
-                items[word] = []
-            elif items:
-                items[next(reversed(items))].append(word)
+            if word in _ITEMS:
+                words = items[word] = []
+            else:
+                words.append(word)
         return Made(int(step), int(pc, 16), what, trap, items)
 
     def is_interrupt(self) -> bool:
@@ -84,6 +87,10 @@ class Made:
     def reaches(self) -> bool:
         """Whether the instruction at PC was carried out, or trapped itself."""
         return self.what == "run" or (self.trap is not None and not self.is_interrupt())
+
+    def put_out(self) -> bytes:
+        """The byte that it put out at the console, if it did."""
+        return bytes.fromhex("".join(self.items.get("out", [])))
 
 
 _ITEMS = frozenset(("load", "store", "swap", "in", "out", "timer", "event"))

@@ -5,10 +5,12 @@ import re
 from dataclasses import dataclass
 from enum import Enum
 
-_PACKET = re.compile(rb"[Zz]([0-4]),([0-9a-fA-F]{1,16}),([0-9a-fA-F]{1,16})((?:;.*)?)", re.DOTALL)
-_CONDITION = re.compile(rb"X([0-9a-fA-F]+),")
-MOST_POINTS = 4096
-MOST_BYTES = 4096
+from .packets import Bad
+
+_PACKET = re.compile(r"[Zz]([0-4]),([0-9a-fA-F]{1,8}),([0-9a-fA-F]{1,8})((?:;X[0-9a-fA-F]+,[0-9a-fA-F]*)*)")
+_CONDITION = re.compile(r"X([0-9a-fA-F]+),([0-9a-fA-F]*)")
+_MOST_POINTS = 4096
+_MOST_BYTES = 4096
 
 
 class Kind(Enum):
@@ -34,10 +36,6 @@ class Point:
     size: int
 
 
-class Bad(Exception):
-    """A packet that cannot be read."""
-
-
 class Points:
     """All that are set."""
 
@@ -45,12 +43,12 @@ class Points:
         # Each with its conditions, of which one has to hold; with none it always does.
         self._set: dict[Point, tuple[bytes, ...]] = {}
 
-    def take(self, packet: bytes) -> None:
-        """Sets or clears a point. One that stands already gets the new conditions."""
+    def take(self, packet: str) -> None:
+        """Sets or clears a point. One that stands already gets the new conditions. Raises `Bad`."""
         point, conditions = _read(packet)
-        if packet[:1] == b"z":
+        if packet[0] == "z":
             self._set.pop(point, None)
-        elif len(self._set) < MOST_POINTS or point in self._set:
+        elif len(self._set) < _MOST_POINTS or point in self._set:
             self._set[point] = conditions
         else:
             raise Bad
@@ -59,45 +57,30 @@ class Points:
         """Clears all."""
         self._set.clear()
 
-    def breaks(self) -> list[int]:
-        """The addresses of breakpoints, each once."""
-        return sorted({it.address for it in self._set if it.kind.is_break()})
+    def breaks(self) -> dict[int, list[bytes]]:
+        """The conditions of breakpoints by their addresses: none where the machine always stops."""
+        found: dict[int, list[bytes]] = {}
+        always = set()
+        for point, conditions in self._set.items():
+            if point.kind.is_break():
+                found.setdefault(point.address, []).extend(conditions)
+                always.update([point.address] * (not conditions))
+        return {address: [] if address in always else conditions for address, conditions in sorted(found.items())}
 
     def watches(self) -> list[Point]:
         """The watchpoints."""
         return [it for it in self._set if not it.kind.is_break()]
 
-    def conditions(self, address: int) -> list[bytes]:
-        """The conditions of the breakpoints at an address: none where one of them has none."""
-        found = [conditions for point, conditions in self._set.items() if point.kind.is_break() and point.address == address]
-        return [] if () in found else [it for conditions in found for it in conditions]
 
-
-def _read(packet: bytes) -> tuple[Point, tuple[bytes, ...]]:
-    """The point of a packet, and its conditions."""
+def _read(packet: str) -> tuple[Point, tuple[bytes, ...]]:
+    """The point of a packet, and its conditions, each behind the number of its bytes."""
     match = _PACKET.fullmatch(packet)
     if match is None:
         raise Bad
-    number, address, size, rest = match.groups()
-    point = Point(Kind(int(number)), int(address, 16), int(size, 16))
-    if point.address >= 1 << 32 or (not point.kind.is_break() and not 1 <= point.size <= MOST_BYTES):
+    point = Point(Kind(int(match[1])), int(match[2], 16), int(match[3], 16))
+    if not point.kind.is_break() and not 1 <= point.size <= _MOST_BYTES:
         raise Bad
-    return point, tuple(_conditions(rest[1:]))
-
-
-def _conditions(text: bytes) -> list[bytes]:
-    """The conditions behind a point: `X`, the length, a comma, and so many bytes in hexadecimal."""
-    found = []
-    while text.startswith(b"X"):
-        match = _CONDITION.match(text)
-        if match is None:
-            raise Bad
-        end = match.end() + 2 * int(match[1], 16)
-        try:
-            found.append(bytes.fromhex(text[match.end() : end].decode("ascii")))
-        except ValueError:
-            raise Bad from None
-        if len(text) < end:
-            raise Bad
-        text = text[end:]
-    return found
+    conditions = _CONDITION.findall(match[4])
+    if any(2 * int(size, 16) != len(code) for size, code in conditions):
+        raise Bad
+    return point, tuple(bytes.fromhex(code) for _, code in conditions)

@@ -2,10 +2,12 @@
 # nothing of it is kept.
 set stack-cache off
 set code-cache off
+# A large script takes its time to be entered.
+set remotetimeout 300
+# Registers belong to the run, so no function can be called. GDB would poke the stack before it is told so.
+set may-call-functions off
 set confirm off
 set pagination off
-set breakpoint condition-evaluation target
-set architecture sparc
 
 define goto
   monitor goto $arg0
@@ -25,6 +27,7 @@ end
 
 define reload
   symbol-file target:/workbench.elf
+  maintenance flush source-cache
 end
 document reload
 Reads labels and lines again, after an edit of the source.

@@ -3,17 +3,17 @@ from __future__ import annotations
 
 import re
 from collections.abc import Callable
-from dataclasses import dataclass, field
 from pathlib import Path
 
 from . import registers
+from .files import SYMBOLS, Files
 from .machine import Machine
 from .memory import Memory, Unreadable
-from .monitor import Gone, Monitor, Refused
-from .packets import PACKET_SIZE, Connection, Ended
-from .points import Bad, Points
-from .running import Runner, Stop
-from .symbols import Listing, elf
+from .monitor import Monitor, Refused
+from .packets import PACKET_SIZE, Bad, Connection, Ended, numbers
+from .points import Points
+from .running import Runner
+from .stops import INTERRUPTED, Stop
 from .windows import laid_over, save_areas
 from .words import Place, Words
 
@@ -21,167 +21,100 @@ _OFFERED = (
     f"PacketSize={PACKET_SIZE:x};QStartNoAckMode+;swbreak+;hwbreak+;ReverseStep+;ReverseContinue+;vContSupported+;"
     "qXfer:features:read+;qXfer:exec-file:read+;error-message+;ConditionalBreakpoints+"
 )
-_SYMBOLS = "/workbench.elf"
 _NO_REGISTERS = "E.registers belong to the run: poke memory, edit the source, or go to another step"
-_ONE_THREAD = {"qC": "QC1", "qfThreadInfo": "m1", "qsThreadInfo": "l", "qAttached": "1", "QStartNoAckMode": "OK", "!": "OK"}
+_BAD, _UNREADABLE = "E01", "E14"
+_FIXED = {
+    "QStartNoAckMode": "OK",
+    "!": "OK",
+    "qC": "QC1",
+    "qfThreadInfo": "m1",
+    "qsThreadInfo": "l",
+    "qAttached": "1",
+    "vCont?": "vCont;c;C;s;S",
+}
 _MOST_TEXT = 1000
-# The last time that a file can have; each edit of the source moves it on.
-_TIME = 0x7FFF0000
-
-
-@dataclass
-class Files:
-    """The symbol file, which GDB reads as if it lay on the target."""
-
-    monitor: Monitor
-    folder: Path
-    name: str
-    _open: dict[int, bytes] = field(default_factory=dict)
-
-    def write_source(self) -> Listing:
-        """Writes the source as it stands, for GDB to show its lines."""
-        listing = Listing.of(self.monitor)
-        (self.folder / self.name).write_text(listing.text(), encoding="latin-1")
-        return listing
-
-    def answer(self, text: str, edits: int) -> bytes | None:
-        """What a request is answered; None for one that is not known."""
-        what, _, rest = text.partition(":")
-        if what == "setfs":
-            return b"F0"
-        if what == "open":
-            return self._opened(rest)
-        if what not in ("pread", "fstat", "close"):
-            return None
-        try:
-            handle, *numbers = (int(it, 16) for it in rest.split(","))
-        except ValueError:
-            return b"F-1,16"
-        if handle not in self._open or len(numbers) != (2 if what == "pread" else 0):
-            return b"F-1,9"
-        data = self._open[handle]
-        if what == "close":
-            del self._open[handle]
-            return b"F0"
-        if what == "fstat":
-            return _behind_length(_status(len(data), edits))
-        count, offset = numbers
-        return _behind_length(data[offset : offset + min(count, PACKET_SIZE // 4)])
-
-    def _opened(self, rest: str) -> bytes:
-        """Opens the symbol file, made anew. No other file is there."""
-        try:
-            name = bytes.fromhex(rest.split(",")[0]).decode("latin-1")
-        except ValueError:
-            return b"F-1,16"
-        if name != _SYMBOLS or len(self._open) > 8:
-            return b"F-1,2"
-        handle = max(self._open, default=2) + 1
-        self._open[handle] = elf(self.write_source(), str(self.folder), self.name)
-        return b"F%x" % handle
-
-
-def _behind_length(data: bytes) -> bytes:
-    return b"F%x;%s" % (len(data), data)
-
-
-def _status(size: int, edits: int) -> bytes:
-    """What `fstat` tells: the mode, the size, and a time of change."""
-    found = bytes(8) + (0o100444).to_bytes(4, "big") + bytes(16) + size.to_bytes(8, "big") + bytes(20)
-    return found + (_TIME + edits).to_bytes(4, "big") + bytes(4)
+_Answer = str | bytes
 
 
 class Stub:
     """A session with GDB."""
 
-    def __init__(self, connection: Connection, monitor: Monitor, folder: Path, name: str) -> None:
+    def __init__(self, connection: Connection, monitor: Monitor, folder: Path) -> None:
         self._connection, self._monitor = connection, monitor
         self._memory, self._points, self._place = Memory(monitor), Points(), Place()
         self._runner = Runner(monitor, self._memory, self._points, connection.is_interrupted)
-        self._words = Words(monitor, self._memory, self._runner.catches, self._place)
-        self._files = Files(monitor, folder, name)
-        self._files.write_source()
+        self._files = Files(monitor, folder)
+        # GDB may run the machine again when it has detached.
+        self._is_extended = False
+        self._words = Words(monitor, self._memory, self._runner.catches, self._place, self._files.change)
+        # Packets by what they begin with. Each takes what stands behind that.
+        self._answers: dict[str, Callable[[str], _Answer]] = {
+            "qSupported": lambda rest: _OFFERED,
+            "qXfer:features:read:target.xml:": lambda rest: _part(registers.description().encode(), rest),
+            "qXfer:exec-file:read:": lambda rest: _part(SYMBOLS.encode(), rest.rpartition(":")[2]),
+            "qRcmd,": self._command,
+            "vFile:": self._files.answer,
+            "vCont;": lambda rest: self._resume(rest[:1].lower()),
+            "vRun": self._run,
+            "vKill": lambda rest: "OK",
+            "?": lambda rest: Stop(self._place.step).packet(),
+            "g": lambda rest: "".join(map(registers.text, self._registers()[: registers.OWN_FROM])),
+            "p": self._register,
+            "G": lambda rest: _NO_REGISTERS,
+            "P": lambda rest: _NO_REGISTERS,
+            "m": self._read,
+            "M": lambda rest: self._write(*_data(rest, bytes.fromhex)),
+            "X": lambda rest: self._write(*_data(rest, lambda text: text.encode("latin-1"))),
+            "c": lambda rest: self._resume("c"),
+            "C": lambda rest: self._resume("c"),
+            "s": lambda rest: self._resume("s"),
+            "S": lambda rest: self._resume("s"),
+            "bs": lambda rest: self._went(self._runner.one_back),
+            "bc": lambda rest: self._went(self._runner.back),
+            "H": lambda rest: "OK",
+            "T": lambda rest: "OK",
+            "D": lambda rest: "OK",
+        }
 
     def serve(self) -> None:
         """Answers packets until GDB goes."""
         try:
-            while self._answer(self._connection.packet()):
+            while self._serve_one(self._connection.packet().decode("latin-1")):
                 pass
-        except (Ended, Gone):
+        except Ended:
             pass
 
-    def _answer(self, packet: bytes) -> bool:
+    def _serve_one(self, packet: str) -> bool:
         """Answers a packet. Gives whether more may come."""
-        text = packet.decode("latin-1")
-        if text == "k":
+        if packet == "k":
             return False
-        try:
-            reply = self._reply(text, packet)
-        except Refused as refused:
-            reply = f"E.{refused}".encode("latin-1") if text[:1] in ("M", "X") else b"E14"
-        except Unreadable:
-            reply = b"E14"
-        except (Bad, ValueError, IndexError):
-            reply = b"E01"
-        self._connection.send(reply)
-        if text == "QStartNoAckMode":
+        if packet.startswith("R"):
+            # To this one alone no reply is due.
+            self._run("")
+            return True
+        reply = self._reply(packet)
+        self._connection.send(reply if isinstance(reply, bytes) else reply.encode("latin-1"))
+        if packet == "QStartNoAckMode":
             self._connection.acknowledges = False
-        return not text.startswith("D")
+        self._is_extended = self._is_extended or packet == "!"
+        return self._is_extended or not packet.startswith("D")
 
-    def _reply(self, text: str, packet: bytes) -> bytes:
-        """What a packet is answered; empty where it is not known."""
-        if text in _ONE_THREAD:
-            return _ONE_THREAD[text].encode()
-        for begin, does in self._long().items():
-            if text.startswith(begin):
-                found = does(text[len(begin) :])
-                return found if isinstance(found, bytes) else found.encode("latin-1")
-        return self._short(text, packet)
-
-    def _long(self) -> dict[str, Callable[[str], str | bytes]]:
-        """Packets by what they begin with."""
-        return {
-            "qSupported": lambda rest: _OFFERED,
-            "qXfer:features:read:target.xml:": lambda rest: _part(registers.description().encode(), rest),
-            "qXfer:exec-file:read:": lambda rest: _part(_SYMBOLS.encode(), rest.rpartition(":")[2]),
-            "vFile:": lambda rest: self._files.answer(rest, self._words.edits) or "",
-            "vCont?": lambda rest: "vCont;c;C;s;S",
-            "vCont;": lambda rest: self._resume(rest[:1].lower()),
-            "vRun": self._run,
-            "vKill": lambda rest: "OK",
-            "qRcmd,": self._command,
-            "bs": lambda rest: self._went(self._runner.one_back),
-            "bc": lambda rest: self._went(self._runner.back),
-        }
-
-    def _short(self, text: str, packet: bytes) -> bytes:
-        """Packets by their first letter."""
-        head, rest = text[:1], text[1:]
-        if head in "Zz" and rest[:1] in tuple("01234"):
-            self._points.take(packet)
-            return b"OK"
-        answers: dict[str, Callable[[], str | bytes]] = {
-            "?": lambda: _stopped(Stop(self._place.step)),
-            "g": lambda: "".join(map(registers.text, self._registers()[: registers.OWN_FROM])),
-            "p": lambda: self._register(int(rest, 16)),
-            "G": lambda: _NO_REGISTERS,
-            "P": lambda: _NO_REGISTERS,
-            "m": lambda: self._read(rest).hex(),
-            "M": lambda: self._write(rest.partition(":")[0], bytes.fromhex(rest.partition(":")[2])),
-            "X": lambda: self._write(rest.partition(":")[0], packet[packet.index(b":") + 1 :]),
-            "c": lambda: self._resume("c"),
-            "C": lambda: self._resume("c"),
-            "s": lambda: self._resume("s"),
-            "S": lambda: self._resume("s"),
-            "R": lambda: self._run(""),
-            "H": lambda: "OK",
-            "T": lambda: "OK",
-            "D": lambda: "OK",
-        }
-        if head not in answers:
-            return b""
-        found = answers[head]()
-        return found if isinstance(found, bytes) else found.encode("latin-1")
+    def _reply(self, packet: str) -> _Answer:
+        """What a packet is answered; nothing where it is not known."""
+        try:
+            if packet in _FIXED:
+                return _FIXED[packet]
+            if re.match("[Zz][0-4]", packet):
+                self._points.take(packet)
+                return "OK"
+            begin = next((it for it in self._answers if packet.startswith(it)), None)
+            return self._answers[begin](packet[len(begin) :]) if begin else ""
+        except Unreadable:
+            return _UNREADABLE
+        except Refused as refused:
+            return f"E.{refused}"
+        except (Bad, ValueError):
+            return _BAD
 
     # ---- registers and memory
 
@@ -191,21 +124,21 @@ class Stub:
     def _registers(self) -> list[int | None]:
         return registers.values(self._machine())
 
-    def _register(self, number: int) -> str:
-        found = self._registers()
-        return registers.text(found[number]) if number < len(found) else "E01"
+    def _register(self, text: str) -> str:
+        """One register, of all."""
+        found, (number,) = self._registers(), numbers(text, 1)
+        return registers.text(found[number]) if number < len(found) else _BAD
 
-    def _read(self, text: str) -> bytes:
+    def _read(self, text: str) -> str:
         """Memory: no more than a packet holds."""
-        address, count = _range(text)
-        data = self._memory.read(self._place.step, address, min(count, PACKET_SIZE // 2)) if count else b""
-        return laid_over(data, address, save_areas(self._monitor, self._machine())) if self._place.shows_windows else data
+        address, count = numbers(text, 2)
+        data = self._memory.read(self._place.step, address, min(count, PACKET_SIZE // 2))
+        if self._place.shows_windows:
+            data = laid_over(data, address, save_areas(self._monitor, self._machine()))
+        return data.hex()
 
-    def _write(self, place: str, data: bytes) -> str:
-        """Pokes at the present step. GDB asks by none whether it may."""
-        address, count = _range(place)
-        if count != len(data):
-            raise Bad
+    def _write(self, address: int, data: bytes) -> str:
+        """Pokes at the present step. With no data GDB asks whether it may."""
         self._memory.write(self._place.step, address, data)
         return "OK"
 
@@ -215,63 +148,56 @@ class Stub:
         """Runs on, or one step."""
         if kind not in ("c", "s"):
             return ""
-        runs = self._runner.forward if kind == "c" else self._runner.one_forward
-        return self._went(lambda step: runs(step, self._place.end))
+        runs, place = self._runner.forward if kind == "c" else self._runner.one_forward, self._place
+        return self._went(lambda step: runs(step, place.end, place.shows_console))
 
     def _went(self, runs: Callable[[int], Stop]) -> str:
-        """Goes where this leads, and tells of it. GDB has old registers where the place was moved: then it is told of
-        that first."""
-        place = self._place
-        if place.is_moved:
-            place.is_moved = False
-            self._say(f"step {place.step}\n".encode())
-            return _stopped(Stop(place.step))
-        before, stop = place.step, runs(place.step)
-        place.step = stop.step
-        if place.shows_console:
-            self._say(self._runner.said_between(before, stop.step))
-        self._say(stop.said.encode("latin-1"))
-        return _stopped(stop)
+        """Goes where this leads, and tells of it. Where the present machine is another one than GDB knows, it is told
+        of that first, by a stop where it stands."""
+        step = self._place.step
+        if self._place.is_moved:
+            stop = Stop(step, said=f"step {step}\n")
+        else:
+            try:
+                stop = runs(step)
+            except Refused as refused:
+                stop = Stop(step, INTERRUPTED, said=f"{refused}\n")
+        self._place.go(stop.step)
+        self._say(stop.said)
+        return stop.packet()
 
     def _run(self, rest: str) -> str:
-        """`run`, from the first step or the one that its word names. GDB takes its points for gone."""
+        """`run`, from the first step or from the one that its word names. GDB takes its points for gone."""
         words = [bytes.fromhex(it).decode("latin-1") for it in rest.split(";")[2:] if it]
-        step = int(words[0]) if words and re.fullmatch(r"\d{1,7}", words[0]) else 0
-        self._place.step, self._place.is_moved = min(step, self._place.end), False
+        step = int(words[0]) if words and re.fullmatch("[0-9]{1,7}", words[0]) else 0
         self._points.clear()
-        return _stopped(Stop(self._place.step))
+        self._place.go(min(step, self._place.end))
+        return Stop(self._place.step).packet()
 
     # ---- the user
 
     def _command(self, rest: str) -> str:
         """A command behind `monitor`."""
-        edits = self._words.edits
-        self._say(self._words.answer(bytes.fromhex(rest).decode("latin-1")).encode("latin-1"))
-        if self._words.edits != edits:
-            self._files.write_source()
+        self._say(self._words.answer(bytes.fromhex(rest).decode("latin-1")))
         return "OK"
 
-    def _say(self, text: bytes) -> None:
+    def _say(self, text: str) -> None:
         """Text that GDB shows."""
         for at in range(0, len(text), _MOST_TEXT):
-            self._connection.send(b"O" + text[at : at + _MOST_TEXT].hex().encode())
-
-
-def _stopped(stop: Stop) -> str:
-    """A stop as a packet."""
-    return f"T{stop.signal:02x}{stop.reason}thread:1;"
+            self._connection.send(b"O" + text[at : at + _MOST_TEXT].encode("latin-1").hex().encode())
 
 
 def _part(data: bytes, text: str) -> bytes:
     """A part of a text that is read piece by piece."""
-    offset, count = _range(text)
+    offset, count = numbers(text, 2)
     return (b"m" if offset + count < len(data) else b"l") + data[offset : offset + count]
 
 
-def _range(text: str) -> tuple[int, int]:
-    """An address and a count."""
-    address, _, count = text.partition(",")
-    if not re.fullmatch(r"[0-9a-fA-F]{1,8}", address) or not re.fullmatch(r"[0-9a-fA-F]{1,8}", count):
+def _data(text: str, read: Callable[[str], bytes]) -> tuple[int, bytes]:
+    """An address, and the data that are to stand there. Raises `Bad` where they are not as many as is said."""
+    place, _, rest = text.partition(":")
+    address, count = numbers(place, 2)
+    data = read(rest)
+    if len(data) != count:
         raise Bad
-    return int(address, 16), int(count, 16)
-
+    return address, data

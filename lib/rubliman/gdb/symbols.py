@@ -6,111 +6,19 @@ It is an ELF file for a 32-bit SPARC with lines and functions in DWARF, version 
 from __future__ import annotations
 
 import struct
-from collections.abc import Iterable
 from dataclasses import dataclass
 
-from .monitor import Monitor
-
-
-@dataclass(frozen=True)
-class Line:
-    """A line of the listing."""
-
-    number: int
-    address: int
-    data: bytes
-    text: str
-
-
-@dataclass(frozen=True)
-class Function:
-    """A stretch of code under a label's name."""
-
-    name: str
-    begin: int
-    end: int
-
-
-@dataclass(frozen=True)
-class Listing:
-    """The source as it stands: its lines, labels by address, and names with their values."""
-
-    lines: list[Line]
-    labels: list[tuple[str, int]]
-    values: list[tuple[str, int]]
-
-    @staticmethod
-    def of(monitor: Monitor) -> Listing:
-        """What the monitor tells of it."""
-        lines = []
-        for told in monitor.ask("list"):
-            head, _, text = told.partition(" |")
-            number, address, *groups = head.split()
-            lines.append(Line(int(number), int(address, 16), bytes.fromhex("".join(groups)), text))
-        labels, values = [], []
-        for told in monitor.ask("names"):
-            value, kind, name = told.split(" ", 2)
-            (labels if kind == "label" else values).append((name, int(value, 16)))
-        return Listing(lines, labels, values)
-
-    def text(self) -> str:
-        """The source."""
-        return "".join(f"{it.text}\n" for it in self.lines)
-
-    def end(self) -> int:
-        """The address behind all that it places."""
-        return max((it.address + len(it.data) for it in self.lines), default=0)
-
-    def image(self) -> bytes:
-        """The bytes from address 0 on."""
-        found = bytearray(self.end())
-        for it in self.lines:
-            found[it.address : it.address + len(it.data)] = it.data
-        return bytes(found)
-
-    def functions(self) -> list[Function]:
-        """Stretches of code: each begins behind a gap, or where a call leads to."""
-        named = {address: name for name, address in reversed(self.labels)}
-        stretches = _stretches(it for it in self.lines if it.data)
-        calls = self._called()
-        found = []
-        for begin, end in stretches:
-            starts = sorted({begin, *(it for it in calls if begin < it < end and it in named)})
-            for start, stop in zip(starts, [*starts[1:], end]):
-                found.append(Function(named.get(start, f"at_{start:X}"), start, stop))
-        return found
-
-    def _called(self) -> set[int]:
-        """Where the calls lead to (section B.24 of the manual)."""
-        found = set()
-        for it in self.lines:
-            for offset in range(0, len(it.data) - 3, 4):
-                word = int.from_bytes(it.data[offset : offset + 4], "big")
-                if word >> 30 == 1:
-                    found.add((it.address + offset + 4 * word) & 0xFFFFFFFF)
-        return found
-
-
-def _stretches(lines: Iterable[Line]) -> list[tuple[int, int]]:
-    """Where bytes follow each other without a gap."""
-    found: list[tuple[int, int]] = []
-    for it in sorted(lines, key=lambda it: it.address):
-        if found and found[-1][1] == it.address:
-            found[-1] = (found[-1][0], it.address + len(it.data))
-        else:
-            found.append((it.address, it.address + len(it.data)))
-    return found
-
+from .listing import Listing
 
 # ---- DWARF
 
-_DIRECTORY_INDEX = 0
 _UNIT, _SUBPROGRAM = 1, 2
 _TAG_UNIT, _TAG_SUBPROGRAM = 0x11, 0x2E
 _NAME, _STATEMENTS, _LOW, _HIGH, _LANGUAGE, _FOLDER = 0x03, 0x10, 0x11, 0x12, 0x13, 0x1B
 _ADDRESS, _TWO, _FOUR, _STRING = 0x01, 0x05, 0x06, 0x08
 # The language of assemblers, of the vendors of GNU's.
 _ASSEMBLER = 0x8001
+_END_OF_SEQUENCE = b"\0\x01\x01"
 
 
 def _signed(value: int) -> bytes:
@@ -133,30 +41,47 @@ def _counted(body: bytes) -> bytes:
 
 
 def _line_program(listing: Listing, name: str) -> bytes:
-    """The section of lines: each that places bytes is a row."""
+    """The section of lines: each that places bytes is a row, and each stretch without a gap a sequence."""
     tables = b"\x04\x01\xfb\x0e\x0a" + bytes([0, 1, 1, 1, 1, 0, 0, 0, 1]) + b"\0" + _string(name) + b"\0\0\0" + b"\0"
-    program, last = bytearray(), 1
+    program, end, last = bytearray(), 0, 1
     for it in sorted((it for it in listing.lines if it.data), key=lambda it: it.address):
-        program += b"\0\x05\x02" + struct.pack(">I", it.address) + b"\x03" + _signed(it.number - last) + b"\x01"
-        last = it.number
-    program += b"\0\x05\x02" + struct.pack(">I", listing.end()) + b"\0\x01\x01"
+        if program and it.address != end:
+            program += _address(end) + _END_OF_SEQUENCE
+            last = 1
+        program += _address(it.address) + b"\x03" + _signed(it.number - last) + b"\x01"
+        end, last = it.address + len(it.data), it.number
+    program += _address(end) + _END_OF_SEQUENCE
     return _counted(struct.pack(">HI", 2, len(tables)) + tables + bytes(program))
+
+
+def _address(value: int) -> bytes:
+    """Sets the address of the rows that follow."""
+    return b"\0\x05\x02" + struct.pack(">I", value)
 
 
 def _information(listing: Listing, folder: str, name: str) -> bytes:
     """The section of what there is: the unit, and its functions."""
-    unit = bytes([_UNIT]) + struct.pack(">III", 0, 0, listing.end()) + _string(name) + _string(folder) + struct.pack(">H", _ASSEMBLER)
+    unit = bytes([_UNIT]) + struct.pack(">III", 0, 0, listing.end())
+    unit += _string(name) + _string(folder) + struct.pack(">H", _ASSEMBLER)
     functions = b"".join(
-        bytes([_SUBPROGRAM]) + _string(it.name) + struct.pack(">II", it.begin, it.end) for it in listing.functions()
+        bytes([_SUBPROGRAM]) + _string(it.name) + struct.pack(">II", it.begin, it.end) for it in listing.functions
     )
     return _counted(struct.pack(">HIB", 2, 0, 4) + unit + functions + b"\0")
 
 
 def _abbreviations() -> bytes:
     """How both are written."""
-    unit = [(_STATEMENTS, _FOUR), (_LOW, _ADDRESS), (_HIGH, _ADDRESS), (_NAME, _STRING), (_FOLDER, _STRING), (_LANGUAGE, _TWO)]
+    unit = [
+        (_STATEMENTS, _FOUR),
+        (_LOW, _ADDRESS),
+        (_HIGH, _ADDRESS),
+        (_NAME, _STRING),
+        (_FOLDER, _STRING),
+        (_LANGUAGE, _TWO),
+    ]
     function = [(_NAME, _STRING), (_LOW, _ADDRESS), (_HIGH, _ADDRESS)]
-    return _abbreviation(_UNIT, _TAG_UNIT, True, unit) + _abbreviation(_SUBPROGRAM, _TAG_SUBPROGRAM, False, function) + b"\0"
+    units = _abbreviation(_UNIT, _TAG_UNIT, True, unit)
+    return units + _abbreviation(_SUBPROGRAM, _TAG_SUBPROGRAM, False, function) + b"\0"
 
 
 def _abbreviation(number: int, tag: int, has_children: bool, attributes: list[tuple[int, int]]) -> bytes:
@@ -166,7 +91,7 @@ def _abbreviation(number: int, tag: int, has_children: bool, attributes: list[tu
 # ---- ELF
 
 _PROGBITS, _SYMTAB, _STRTAB = 1, 2, 3
-_ABSOLUTE = 0xFFF1
+_IN_TEXT, _ABSOLUTE = 1, 0xFFF1
 _GLOBAL, _FUNCTION = 0x10, 2
 _SPARC, _EXECUTABLE, _BIG_ENDIAN, _CLASS_32 = 2, 2, 2, 1
 _HEADER, _SEGMENT, _SECTION = 52, 32, 40
@@ -187,12 +112,15 @@ class _Section:
 
 def _symbol_table(listing: Listing) -> tuple[bytes, bytes]:
     """The symbols and their names."""
-    sizes = {it.name: it.end - it.begin for it in listing.functions()}
+    functions = {it.begin for it in listing.functions}
+    symbols = [
+        (name, begin, size, _GLOBAL | _FUNCTION * (begin in functions), _IN_TEXT)
+        for name, begin, size in listing.symbols()
+    ]
+    symbols += [(name, value, 0, _GLOBAL, _ABSOLUTE) for name, value in listing.values]
     table, strings = bytearray(16), bytearray(1)
-    labels = [(name, value, 1) for name, value in listing.labels] + [(name, value, _ABSOLUTE) for name, value in listing.values]
-    for name, value, section in labels:
-        kind = _GLOBAL | (_FUNCTION if name in sizes and section == 1 else 0)
-        table += struct.pack(">IIIBBH", len(strings), value, sizes.get(name, 0), kind, 0, section)
+    for name, value, size, kind, section in symbols:
+        table += struct.pack(">IIIBBH", len(strings), value, size, kind, 0, section)
         strings += _string(name)
     return bytes(table), bytes(strings)
 
@@ -213,10 +141,9 @@ def elf(listing: Listing, folder: str, name: str) -> bytes:
     body, headers = bytearray(), bytearray(_SECTION)
     begin = _HEADER + _SEGMENT
     for it in sections:
-        place = names.index(b"\0" + _string(it.name)) + 1
-        headers += struct.pack(
-            ">10I", place, it.kind, it.flags, 0, begin + len(body), len(it.data), it.link, it.info, 4 if it.data else 1, it.entry
-        )
+        place, align = names.index(b"\0" + _string(it.name)) + 1, 4 if it.data else 1
+        fields = (place, it.kind, it.flags, 0, begin + len(body), len(it.data), it.link, it.info, align, it.entry)
+        headers += struct.pack(">10I", *fields)
         body += it.data + bytes(-len(it.data) % 4)
     head = b"\x7fELF" + bytes([_CLASS_32, _BIG_ENDIAN, 1]) + bytes(9)
     counts = (_HEADER, _SEGMENT, 1, _SECTION, len(sections) + 1, len(sections))

@@ -7,7 +7,7 @@ from dataclasses import dataclass, field
 
 from .machine import Machine
 from .memory import Memory
-from .monitor import LAST_STEP, Monitor, Refused
+from .monitor import CHANGES, LAST_STEP, MOST_LINES, Monitor, Refused, lines_behind
 from .running import Catches
 
 HELP = """goto N, goto +N, goto -N   go to a step
@@ -24,9 +24,7 @@ Any other line is the monitor's: edits (edit A B COUNT, and then its lines, each
 irq and what clears them, list, regs, mem, out, steps, windows, where, names, events, keep, before, part, differ.
 A word `.` is the present step.
 """
-_EDITS = frozenset("edit poke unpoke pokeb unpokeb input uninput irq unirq".split())
-_GOTO = re.compile(r"goto ([+-]?)(\d{1,7})")
-_EDIT = re.compile(r"edit \d{1,10} \d{1,10} (\d{1,10})")
+_TYPE = "[0-9a-fA-F]{1,2}"
 _SHOWN_WORDS = 20
 
 
@@ -36,11 +34,14 @@ class Place:
 
     step: int = 0
     end: int = 100_000
-    # GDB has yet to ask anew for what it shows: it does so when it is told of a stop.
+    # The present machine is another one than GDB knows. It asks anew when it is told of a stop.
     is_moved: bool = False
-    # The present machine is another one than GDB knows.
     shows_console: bool = True
     shows_windows: bool = False
+
+    def go(self, step: int) -> None:
+        """Goes to a step, of which GDB is told."""
+        self.step, self.is_moved = step, False
 
 
 @dataclass
@@ -51,93 +52,126 @@ class Words:
     memory: Memory
     catches: Catches
     place: Place
-    # Source lines changed.
-    edits: int = 0
+    # To be called where the source is another one.
+    on_edit: Callable[[], None]
+    # An edit and the lines that have come for it, and how many are still to come.
     _taken: list[str] = field(default_factory=list)
     _wanted: int = 0
 
+    def __post_init__(self) -> None:
+        self._own: dict[str, Callable[..., str]] = {
+            "": lambda: "",
+            "help": lambda: HELP,
+            "step": self._told_step,
+            "goto ([+-]?)([0-9]{1,7})": self._go,
+            "goto.*": self._stay,
+            "onestep": lambda: self._go("+", "1"),
+            "end ([0-9]{1,7})": self._end,
+            "catch (out|noout)": self._catch_output,
+            f"catch (all|none|{_TYPE}(?: {_TYPE})*)": self._catch_traps,
+            "(physical|windows|console) (on|off)": self._switch,
+            "part": self._part,
+            "differ": self._differ,
+            "quit": lambda: "quit is GDB's\n",
+        }
+
     def answer(self, line: str) -> str:
         """What the user is told."""
+        line = line.replace("\n", " ")
         if self._wanted:
             return self._take(line)
-        text = " ".join(line.split())
-        for pattern, does in self._own().items():
+        text = re.sub(r"(?<= )\.(?= |$)", str(self.place.step), " ".join(line.split()))
+        for pattern, does in self._own.items():
             match = re.fullmatch(pattern, text)
             if match is not None:
                 return does(*match.groups())
-        edit = _EDIT.fullmatch(text)
-        if edit is not None and 0 < int(edit[1]) <= 65_536:
-            self._taken, self._wanted = [text], int(edit[1])
-            return f"{self._wanted} lines are to follow, each behind `monitor`\n"
-        return self._ask(re.sub(r"(?<= )\.(?= |$)", str(self.place.step), text))
+        wanted = lines_behind(text)
+        if wanted > MOST_LINES:
+            return "refused 3 TooManyLines\n"
+        if wanted:
+            self._taken, self._wanted = [text], wanted
+            return f"lines to follow, each behind `monitor`: {wanted}\n"
+        return self._ask(text)
 
-    def _own(self) -> dict[str, Callable[..., str]]:
-        """The commands of the stub."""
-        place = self.place
-        return {
-            "help": lambda: HELP,
-            "step": lambda: f"step {place.step} of {place.end}\n",
-            "onestep": lambda: self._go("+", "1"),
-            _GOTO.pattern: self._go,
-            r"end (\d{1,7})": self._end,
-            r"catch (all|none|out|noout|[0-9a-fA-F]{1,2}(?: [0-9a-fA-F]{1,2})*)": self._catch,
-            r"(physical|windows|console) (on|off)": self._switch,
-            "quit": lambda: "quit is GDB's\n",
-            "part": lambda: self._ask(f"part 0 {place.end}"),
-            "differ": lambda: self._ask(f"differ {place.step} {place.step} {_SHOWN_WORDS}"),
-        }
+    # ---- where to go, and what to stop at
 
-    def _go(self, sign: str, number: str) -> str:
-        """Goes to a step."""
-        step = int(number) * (-1 if sign == "-" else 1) + (self.place.step if sign else 0)
-        if not 0 <= step <= self.place.end:
-            return f"steps are from 0 to {self.place.end}\n"
-        self.place.step, self.place.is_moved = step, True
-        return f"step {step}; GDB shows it when the machine is resumed\n"
-
-    def _end(self, number: str) -> str:
-        self.place.end = max(self.place.step, min(int(number), LAST_STEP))
+    def _told_step(self) -> str:
         return f"step {self.place.step} of {self.place.end}\n"
 
-    def _catch(self, what: str) -> str:
-        if what in ("out", "noout"):
-            self.catches.output = what == "out"
-        elif what == "all":
-            self.catches.traps = None
-        else:
-            self.catches.traps = frozenset() if what == "none" else frozenset(int(it, 16) for it in what.split())
+    def _go(self, sign: str, number: str) -> str:
+        """Goes to a step. GDB shows it when the machine is resumed, which then goes nowhere."""
+        step = int(f"{sign}{number}") + (self.place.step if sign else 0)
+        if not 0 <= step <= self.place.end:
+            return self._stay()
+        self.place.step, self.place.is_moved = step, True
+        return ""
+
+    def _stay(self) -> str:
+        """Goes nowhere, and neither does the resumption that is to show where."""
+        self.place.is_moved = True
+        return f"goto N, goto +N or goto -N: steps are from 0 to {self.place.end}\n"
+
+    def _end(self, number: str) -> str:
+        """Sets the end of time, which is not below the present step."""
+        self.place.end = max(self.place.step, min(int(number), LAST_STEP))
+        return self._told_step()
+
+    def _catch_output(self, what: str) -> str:
+        self.catches.output = what == "out"
+        return ""
+
+    def _catch_traps(self, what: str) -> str:
+        types = [] if what in ("all", "none") else what.split()
+        self.catches.traps = None if what == "all" else frozenset(int(it, 16) for it in types)
         return ""
 
     def _switch(self, what: str, value: str) -> str:
+        is_on = value == "on"
         if what == "physical":
-            self.memory.is_physical = value == "on"
+            self.memory.is_physical = is_on
         elif what == "windows":
-            self.place.shows_windows = value == "on"
+            self.place.shows_windows = is_on
         else:
-            self.place.shows_console = value == "on"
+            self.place.shows_console = is_on
         return ""
 
+    # ---- what a change changed
+
+    def _part(self) -> str:
+        """The first step at which now and before differ."""
+        end = self.place.end
+        return self._ask(f"part 0 {end}") or f"now and before are the same machine up to step {end}\n"
+
+    def _differ(self) -> str:
+        """The words of RAM that differ here."""
+        step = self.place.step
+        return self._ask(f"differ {step} {step} {_SHOWN_WORDS}") or f"no word of RAM differs at step {step}\n"
+
+    # ---- the monitor's
+
     def _take(self, line: str) -> str:
-        """One more line of an edit; the last one has it made."""
+        """One more line of an edit. The last one has it made."""
         self._taken.append(line)
         self._wanted -= 1
-        return self._ask("\n".join(self._taken)) if not self._wanted else ""
+        return "" if self._wanted else self._ask("\n".join(self._taken))
 
     def _ask(self, command: str) -> str:
         """The monitor's answer, and a word on it where the present machine is another one now."""
-        if not command:
-            return ""
-        is_edit = command.split(" ", 1)[0] in _EDITS
-        before = Machine.at(self.monitor, self.place.step) if is_edit else None
+        name = command.split(" ", 1)[0]
         try:
+            before = self._machine() if name in CHANGES else None
             lines = self.monitor.ask(command)
         except Refused as refused:
             return f"{refused}\n"
         said = "".join(f"{line}\n" for line in lines)
-        if not is_edit:
+        if name not in CHANGES:
             return said
-        self.edits += command.startswith("edit")
-        if Machine.at(self.monitor, self.place.step) != before:
-            self.place.is_moved = True
-            said += f"step {self.place.step} is another one now; GDB shows it when the machine is resumed\n"
-        return said
+        if name == "edit":
+            self.on_edit()
+        if self._machine() == before:
+            return said
+        self.place.is_moved = True
+        return f"{said}step {self.place.step} is another one now; GDB shows it when the machine is resumed\n"
+
+    def _machine(self) -> Machine:
+        return Machine.at(self.monitor, self.place.step)

@@ -20,6 +20,7 @@ Words of ./sparc8 itself, each the first:
   --unproved [--windows N] [SCRIPT]   runs a script with no proof, and says so
   --gdb [--windows N] [SCRIPT] [-- WORD ..]
                                       GDB on the machine of a script, back and forth; WORDs are GDB's; docs/GDB.md
+  --gdb-stub [--windows N] [SCRIPT]   what GDB speaks to then, for editors that start GDB themselves
   --import FILE .. [-o OUT] ..        makes a source of a real program; --import --help tells more, docs/IMPORT.md all
   --install PREFIX                    installs the proved programs, the importer and the manual pages below PREFIX
   --check                             tells what stands here: version, sources, proved or not, by what and when
@@ -44,6 +45,7 @@ def _workbench(words: Sequence[str]) -> int:
     own: dict[str, Callable[[Sequence[str]], int]] = {
         "--unproved": _unproved,
         "--gdb": _gdb,
+        "--gdb-stub": _gdb_stub,
         "--install": _install,
         "--check": _check,
         "--program": _program,
@@ -203,17 +205,33 @@ def _gdb(words: Sequence[str]) -> int:
     status = _answered(WORKBENCH, words[:at])
     if status is not None:
         return status
-    from rubliman.gdb.command import NoGdb
-    from rubliman.gdb.command import main as gdb_main
+    from rubliman.gdb import command as gdb
 
     from .words import read
 
     settings = read(words[:at])
     try:
-        return gdb_main(_proved_program(MONITOR), settings.windows, settings.script, words[at + 1 :])
-    except NoGdb:
+        gdb.find()
+        gdb.become(_proved_program(MONITOR), settings.windows, settings.script, words[at + 1 :])
+    except gdb.NoGdb:
         how = "run tests/install, or apt-get install" if places.is_repository() else "apt-get install"
         raise Problem(f"GDB is not there: {how} gdb-multiarch") from None
+
+
+def _gdb_stub(words: Sequence[str]) -> int:
+    """What GDB speaks to, over standard input and output, for editors that start GDB themselves."""
+    status = _answered(WORKBENCH, words)
+    if status is not None:
+        return status
+    program = _kept_program(MONITOR)
+    if program is None:
+        raise Problem("the monitor is not proved yet, and GDB would not wait: ./sparc8 --program proves it")
+    from rubliman.gdb.serving import serve
+
+    from .words import read
+
+    settings = read(words)
+    return serve(program, settings.windows, settings.script)
 
 
 def _import(words: Sequence[str]) -> int:

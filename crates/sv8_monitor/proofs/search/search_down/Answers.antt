@@ -1,7 +1,7 @@
 use Rattle.std.proofs.Common.{◌≡◌, ◌∙◌, ◌-◌, ◌++◌, inl, inr, length, map, take, reverse, refl, ap, arith}
 use Rattle.sv8_bench.specs.Kept.{Kept}
 use Rattle.sv8_bench.specs.Workbench.{checkpoints}
-use Rattle.sv8_monitor.specs.Search.{found_at, is_wanted, rising, sought_to}
+use Rattle.sv8_monitor.specs.Search.{found_at, is_wanted, rising, falling, sought_to}
 use Rattle.sv8_monitor.proofs.Falling.{falling_next, sought_next, all_fallen, lowest_sought}
 use Rattle.sv8_monitor.proofs.Sought.{divided, within_interval, interval_down, sought_down, sought_abandoned}
 use Rattle.sv8_monitor.proofs.search.search_down.Goals as goal
@@ -40,6 +40,7 @@ loop-end-preserved g c =
     c.in_ok-left.ensures.left ∙ ap (λ (x : Kept). left - length (rising (is_wanted x cs) start size size)) inv.kept in
     let found = c.in_ok-left.ensures.found
     ∙ ap (λ (x : Kept). c.loop-end.found.items ++ map (found_at x) (take left (reverse (rising (is_wanted x cs) start size size)))) inv.kept in
+    let all = c.args.found.now.items ++ map (found_at kept) (falling wanted to (c.args.from - to) c.args.most) in
     record {
       low = from_start.low;
       high = omega (arith, from_start.below, inv.high);
@@ -48,7 +49,7 @@ loop-end-preserved g c =
       most = omega (arith, inv.most, recorded, below);
       down = interval_down k c.args.from to pos (checkpoints c.args.bench.now) c.args.bench.now.worked end (checkpoints c.loop-end.bench) c.loop-end.bench.worked start
           (checkpoints c.search_interval.new.bench) c.search_interval.new.bench.worked c.loop-end-test.true inv.high from_start inv.down recorded searched.worked;
-      found = falling_next wanted to start end left next from_start.low from_start.below rest (found_at kept) c.loop-end.found.items c.search_interval.new.found.items _ found inv.found;
+      found = falling_next wanted to start end left next from_start.low from_start.below rest (found_at kept) c.loop-end.found.items c.search_interval.new.found.items all found inv.found;
       sought = sought_next wanted to start end left next from_start.low from_start.below rest k pos c.if-left-gt0.true (within_interval k to end start pos from_start) ∙ inv.sought;
     }
 

@@ -1,7 +1,8 @@
-use Rattle.std.proofs.Common.{◌≡◌, ◌∙◌, ◌+◌, ◌-◌, ◌++◌, ℕ, [], List, map, ap, subst, arith}
+use Rattle.std.proofs.Common.{◌≡◌, ◌∙◌, ◌+◌, ◌-◌, ◌++◌, [], List, map, ap, arith}
 use Rattle.sv8_monitor.specs.declared.found.Found.{Found}
-use Rattle.sv8_monitor.specs.Search.{found_at, is_wanted, rising, IsSearched}
+use Rattle.sv8_monitor.specs.Search.{found_at, is_wanted, rising, looked_to}
 use Rattle.sv8_monitor.proofs.Falling.{looked_all}
+use Rattle.sv8_monitor.proofs.Searching.{searched_at}
 use Rattle.sv8_monitor.proofs.Turned.{turned_found}
 use Rattle.sv8_monitor.proofs.search.search_interval.Goals as goal
 
@@ -18,6 +19,6 @@ pub returns-clause-searched : goal.returns-clause-searched
 returns-clause-searched g c =
     let size = c.args.end - c.args.start in
     let all : c.args.start + size ≡ c.args.end = omega (arith, c.requires.ordered) in
-    subst
-    (λ (m : ℕ). IsSearched g.row.K c.args.start m c.args.bench.now c.search_up.new.bench)
-    (looked_all (is_wanted c.args.bench.now.kept c.args.conditions.now) c.args.start size size (omega arith) ∙ all) c.in_ok-search_up.ensures.searched
+    let wanted = is_wanted c.args.bench.now.kept c.args.conditions.now in
+    let looked = looked_all wanted c.args.start size size (omega arith) ∙ all in
+    searched_at g.row.K c.args.start (looked_to wanted c.args.start size size) c.args.end c.args.bench.now c.search_up.new.bench looked c.in_ok-search_up.ensures.searched

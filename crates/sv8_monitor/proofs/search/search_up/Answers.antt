@@ -1,8 +1,8 @@
-use Rattle.std.proofs.Common.{◌≡◌, ◌∙◌, ◌+◌, ◌++◌, ◌<◌, ◌≤◌, ◌⊎◌, inl, inr, ℕ, map, sym, ap, append-nil, subst, arith}
+use Rattle.std.proofs.Common.{◌-◌, ◌≡◌, ◌∙◌, ◌+◌, ◌++◌, ◌<◌, ◌≤◌, ◌⊎◌, inl, inr, ℕ, map, sym, ap, arith}
 use Rattle.sv8_bench.specs.Kept.{Kept}
 use Rattle.sv8_bench.specs.Shown.{machine_state}
-use Rattle.sv8_monitor.specs.Search.{olds_of, found_at, wanted_found, IsSearched}
-use Rattle.sv8_monitor.proofs.Searching.{found_next, looked_next, no_more_rise, looked_end, searched_more, searched_tried, searched_abandoned, made_tried}
+use Rattle.sv8_monitor.specs.Search.{olds_of, found_at, is_wanted, wanted_found, rising, looked_to}
+use Rattle.sv8_monitor.proofs.Searching.{found_next, looked_next, all_risen, looked_end, searched_more, searched_tried, searched_abandoned, searched_at, made_tried}
 use Rattle.sv8_monitor.proofs.search.search_up.Goals as goal
 use Rattle.sv8_monitor.proofs.search.search_up.Goals.{then-loop-bench-test+else-left-gt0, else-loop-bench-test}
 
@@ -38,16 +38,17 @@ loop-bench-preserved g c =
     let some = c.if-left-gt0.true in
     let is : seen ≡ wanted_found kept cs n = c.in_ok-next.ensures.found ∙ ap (λ (k : Kept). wanted_found k cs n) inv.searched.kept in
     let rest = c.in_ok-left.ensures.left in
+    let all = c.args.found.now.items ++ map (found_at kept) (rising (is_wanted kept cs) c.args.from (to - c.args.from) c.args.most) in
     record {
       walk = c.in_ok-next.ensures.walk;
       begun = omega (arith, inv.begun, at);
       below = omega (arith, below, at);
-      searched = subst (λ (m : ℕ). IsSearched g.row.K c.args.from m c.args.bench.now c.look.new.bench) (sym at)
+      searched = searched_at g.row.K c.args.from (n + 1) later c.args.bench.now c.look.new.bench (sym at)
           (searched_more g.row.K c.sizes.ensures.some_steps c.args.from n c.args.bench.now c.loop-bench.bench c.look.new.bench inv.begun inv.searched made);
       bytes = c.in_ok-next.ensures.bytes ∙ ap (λ (k : Kept). olds_of cs (machine_state k (n + 1)).memory.ram) inv.searched.kept
           ∙ ap (λ (m : ℕ). olds_of cs (machine_state kept m).memory.ram) (sym at);
       count = c.in_ok-next.ensures.count;
-      found = found_next kept cs n to left later next seen below some at is rest c.loop-bench.found.items c.add_found.new.found.items _ c.in_ok-left.ensures.found inv.found;
+      found = found_next kept cs n to left later next seen below some at is rest c.loop-bench.found.items c.add_found.new.found.items all c.in_ok-left.ensures.found inv.found;
       looked = looked_next kept cs n to left later next seen below some at is rest ∙ inv.looked;
     }
 
@@ -59,7 +60,8 @@ returns-clause-found g c =
     let n = c.loop-bench.walk.step in
     let done : (c.args.to ≤ n) ⊎ (c.loop-bench.left ≡ 0) =
     elim c.loop-bench-test.branch [ then-loop-bench-test+else-left-gt0 w ↦ inr (omega arith) | else-loop-bench-test w ↦ inl (omega arith) ] in
-    sym (append-nil c.loop-bench.found.items) ∙ sym (ap (λ xs. c.loop-bench.found.items ++ map (found_at kept) xs) (no_more_rise kept cs n c.args.to c.loop-bench.left done)) ∙ inv.found
+    let all = c.args.found.now.items ++ map (found_at kept) (rising (is_wanted kept cs) c.args.from (c.args.to - c.args.from) c.args.most) in
+    all_risen kept cs n c.args.to c.loop-bench.left done c.loop-bench.found.items all inv.found
 
 pub returns-clause-searched : goal.returns-clause-searched
 returns-clause-searched g c =
@@ -69,7 +71,8 @@ returns-clause-searched g c =
     let n = c.loop-bench.walk.step in
     let done : (c.args.to ≤ n) ⊎ (c.loop-bench.left ≡ 0) =
     elim c.loop-bench-test.branch [ then-loop-bench-test+else-left-gt0 w ↦ inr (omega arith) | else-loop-bench-test w ↦ inl (omega arith) ] in
-    subst (λ (m : ℕ). IsSearched g.row.K c.args.from m c.args.bench.now c.loop-bench.bench) (sym (looked_end kept cs n c.args.to c.loop-bench.left done) ∙ inv.looked) inv.searched
+    let end = looked_to (is_wanted kept cs) c.args.from (c.args.to - c.args.from) c.args.most in
+    searched_at g.row.K c.args.from n end c.args.bench.now c.loop-bench.bench (sym (looked_end kept cs n c.args.to c.loop-bench.left done) ∙ inv.looked) inv.searched
 
 pub returns-clause-given_up : goal.returns-clause-given_up
 returns-clause-given_up g c =

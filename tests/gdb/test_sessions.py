@@ -1,0 +1,73 @@
+"""Sessions with GDB, compared as text.
+
+A file of `sessions` has the line that starts GDB, and behind each command what GDB shows. Run as a program, this writes
+the named files anew, from their commands. What it writes is to be judged by the monitor's answers and by the manual.
+"""
+from __future__ import annotations
+
+import re
+import shutil
+import subprocess
+import sys
+import tempfile
+import textwrap
+import unittest
+from collections.abc import Callable
+from pathlib import Path
+
+from gdb.support import PROGRAMS, PROMPT, TOP, session
+
+SESSIONS = Path(__file__).with_name("sessions")
+GUIDE = TOP / "docs/GDB.md"
+IN_GUIDE = ("boot", "tables", "timer")
+C_PROGRAM = "sum"
+
+
+def shown(file: Path) -> str:
+    """What the session of a file looks like now."""
+    line, *rest = file.read_text(encoding="utf-8").splitlines()
+    commands = [it.removeprefix(PROMPT) for it in rest if it.startswith(PROMPT)]
+    if file.stem != C_PROGRAM:
+        return f"{line}\n{session(line, commands)}"
+    with tempfile.TemporaryDirectory(prefix="gdb-test-") as folder:
+        build(Path(folder))
+        # Addresses and steps are the compiler's choice.
+        found = session(line, commands, Path(folder))
+        return f"{line}\n" + re.sub(r"\b(0x|step |PC )[0-9a-fA-F]+", r"\1..", found)
+
+
+def build(folder: Path) -> None:
+    """Builds the C program in a folder, and imports it, by the commands of the guide."""
+    for it in ("lib", "sparc8"):
+        (folder / it).symlink_to(TOP / it)
+    shutil.copy(PROGRAMS / f"{C_PROGRAM}.c", folder)
+    blocks = GUIDE.read_text(encoding="utf-8").split("\n\n")
+    block = next(it for it in blocks if f"--import {C_PROGRAM}.elf" in it)
+    *commands, last = textwrap.dedent(block).splitlines()
+    assert last == f"./sparc8 --gdb {C_PROGRAM}.txt -- {C_PROGRAM}.elf", last
+    subprocess.run(["sh", "-ec", "\n".join(commands)], cwd=folder, check=True, stderr=subprocess.DEVNULL)
+
+
+class Sessions(unittest.TestCase):
+    """One test for each file."""
+
+    maxDiff = None
+
+    def test_the_guide_has_the_same_ones(self) -> None:
+        lines = [it.removeprefix("    ") for it in GUIDE.read_text(encoding="utf-8").splitlines()]
+        for name in IN_GUIDE:
+            self.assertIn((SESSIONS / f"{name}.txt").read_text(encoding="utf-8"), "\n".join(lines))
+
+
+def compared(file: Path) -> Callable[[Sessions], None]:
+    """The test of a file."""
+    return lambda self: self.assertEqual(shown(file), file.read_text(encoding="utf-8"))
+
+
+for it in sorted(SESSIONS.glob("*.txt")):
+    setattr(Sessions, f"test_{it.stem}", compared(it))
+
+
+if __name__ == "__main__":
+    for name in sys.argv[1:]:
+        (SESSIONS / f"{name}.txt").write_text(shown(SESSIONS / f"{name}.txt"), encoding="utf-8")
