@@ -5,9 +5,11 @@ import os
 import re
 import select
 import shlex
+import shutil
 import subprocess
 import sys
 import tempfile
+import textwrap
 import time
 from collections.abc import Sequence
 from collections.abc import Sequence
@@ -19,6 +21,8 @@ from rubliman.launcher.words import read
 
 TOP = Path(__file__).resolve().parents[2]
 PROGRAMS = Path(__file__).with_name("programs")
+GUIDE = TOP / "docs/GDB.md"
+C_PROGRAM = "sum"
 SECONDS = 60
 COMMAND, PROMPT = "$ ./sparc8 --gdb", "(gdb) "
 # What GDB tells before anything is asked.
@@ -129,14 +133,23 @@ class Packets:
         return self.said.decode()
 
 
-def gdb(line: str, commands: Sequence[str], folder: Path = TOP, more: Sequence[str] = ()) -> str:
-    """What GDB prints where it is started by a line in a folder, and `commands` are typed. Nothing is left behind."""
-    words = shlex.split(line.removeprefix(COMMAND))
-    at = words.index("--") if "--" in words else len(words)
-    settings = read(words[:at])
+def build(folder: Path) -> None:
+    """Builds the C program in a folder, and imports it, by the commands of the guide."""
+    for it in ("lib", "sparc8"):
+        (folder / it).symlink_to(TOP / it)
+    shutil.copy(PROGRAMS / f"{C_PROGRAM}.c", folder)
+    blocks = GUIDE.read_text(encoding="utf-8").split("\n\n")
+    block = next(it for it in blocks if f"--import {C_PROGRAM}.elf" in it)
+    *commands, last = textwrap.dedent(block).splitlines()
+    assert last == f"./sparc8 --gdb {C_PROGRAM}.txt -- {C_PROGRAM}.elf", last
+    subprocess.run(["sh", "-ec", "\n".join(commands)], cwd=folder, check=True, stderr=subprocess.DEVNULL)
+
+
+def typed(words: Sequence[str], commands: Sequence[str], folder: Path) -> str:
+    """What GDB prints where these words start it in a folder, and `commands` are typed. Nothing is left behind."""
     with tempfile.TemporaryDirectory(prefix="gdb-test-") as left:
         done = subprocess.run(
-            words_of_gdb(program(), settings.windows, settings.script, ["-nx", *more, *words[at + 1 :]]),
+            words,
             cwd=folder,
             env=environment(left),
             input="".join(f"{it}\n" for it in commands),
@@ -149,6 +162,15 @@ def gdb(line: str, commands: Sequence[str], folder: Path = TOP, more: Sequence[s
         )
         assert not os.listdir(left), left
     return done.stdout.replace(f"{TOP}/", "")
+
+
+def gdb(line: str, commands: Sequence[str], folder: Path = TOP, more: Sequence[str] = ()) -> str:
+    """The same where a line starts it, as a user would type it; `more` are words of GDB."""
+    words = shlex.split(line.removeprefix(COMMAND))
+    at = words.index("--") if "--" in words else len(words)
+    settings = read(words[:at])
+    own = ["-nx", *more, *words[at + 1 :]]
+    return typed(words_of_gdb(program(), settings.windows, settings.script, own), commands, folder)
 
 
 def session(line: str, commands: Sequence[str], folder: Path = TOP) -> str:

@@ -9,7 +9,9 @@ import time
 import unittest
 from pathlib import Path
 
-from gdb.support import COMMAND, PROGRAMS, environment, gdb, program, words_of_gdb
+from rubliman.gdb.command import SESSION, words_of_gdb
+
+from gdb.support import COMMAND, PROGRAMS, build, environment, gdb, program, typed
 
 BOOT, TIMER = f"{COMMAND} tests/gdb/programs/boot.txt", PROGRAMS / "timer.txt"
 
@@ -78,27 +80,37 @@ class Clients(unittest.TestCase):
             "^exit",
         )
 
-    def test_plain_remote(self) -> None:
-        stub = f"env PYTHONPATH=lib python3 -B -m rubliman.gdb --program {program()} {TIMER}"
-        with tempfile.TemporaryDirectory() as left:
-            done = subprocess.run(
-                ["gdb-multiarch", "-q", "-nx", "--interpreter=mi2"],
-                input=f"-target-select remote | {stub}\n-exec-step-instruction\n-target-detach\n",
-                cwd=PROGRAMS.parents[2],
-                env=environment(left),
-                stdout=subprocess.PIPE,
-                stderr=subprocess.STDOUT,
-                text=True,
-                timeout=60,
-                check=True,
-            )
-            self.assertEqual(os.listdir(left), [])
+    def test_what_an_editor_asks_of_a_c_program(self) -> None:
+        with tempfile.TemporaryDirectory() as folder:
+            build(Path(folder))
+            stub = f"env PYTHONPATH=lib python3 -B -m rubliman.gdb --program {program()} sum.txt"
+            commands = [
+                "-file-exec-and-symbols sum.elf",
+                f'-interpreter-exec console "source {SESSION}"',
+                f"-target-select remote | {stub}",
+                '-interpreter-exec console "monitor windows on"',
+                "-break-insert -f sum.c:14",
+                "-exec-continue",
+                "-stack-list-frames",
+                "-stack-list-variables --simple-values",
+                "-var-create - * list->value",
+                "-exec-finish",
+                '-interpreter-exec console "reverse-next"',
+                "-gdb-exit",
+            ]
+            shown = typed(["gdb-multiarch", "-q", "-nx", "--interpreter=mi2"], commands, Path(folder))
         self.assert_lines(
-            done.stdout,
-            '*stopped,frame={addr="0x00000000",func="at_0"',
+            shown,
+            '*stopped,frame={addr="0x00000000",func="_start"',
             "^connected",
-            '*stopped,reason="end-stepping-range",frame={addr="0x00000004",func="at_0"',
-            "^done",
+            '^done,bkpt={number="1",type="breakpoint"',
+            '*stopped,reason="breakpoint-hit",disp="keep",bkptno="1"',
+            '^done,stack=[frame={level="0"',
+            '^done,variables=[{name="list",arg="1",type="const struct node *",value="0x',
+            '^done,name="var1",numchild="0",value="40",type="int"',
+            '*stopped,reason="function-finished"',
+            '*stopped,reason="breakpoint-hit",disp="keep",bkptno="1"',
+            "^exit",
         )
 
     def test_ctrl_c(self) -> None:

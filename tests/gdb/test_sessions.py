@@ -6,21 +6,16 @@ the named files anew, from their commands. What it writes is to be judged by the
 from __future__ import annotations
 
 import re
-import shutil
-import subprocess
 import sys
 import tempfile
-import textwrap
 import unittest
 from collections.abc import Callable
 from pathlib import Path
 
-from gdb.support import PROGRAMS, PROMPT, TOP, session
+from gdb.support import C_PROGRAM, GUIDE, PROMPT, build, session
 
 SESSIONS = Path(__file__).with_name("sessions")
-GUIDE = TOP / "docs/GDB.md"
 IN_GUIDE = ("boot", "tables", "timer")
-C_PROGRAM = "sum"
 
 
 def shown(file: Path) -> str:
@@ -34,18 +29,6 @@ def shown(file: Path) -> str:
         # Addresses and steps are the compiler's choice.
         found = session(line, commands, Path(folder))
         return f"{line}\n" + re.sub(r"\b(0x|step |PC )[0-9a-fA-F]+", r"\1..", found)
-
-
-def build(folder: Path) -> None:
-    """Builds the C program in a folder, and imports it, by the commands of the guide."""
-    for it in ("lib", "sparc8"):
-        (folder / it).symlink_to(TOP / it)
-    shutil.copy(PROGRAMS / f"{C_PROGRAM}.c", folder)
-    blocks = GUIDE.read_text(encoding="utf-8").split("\n\n")
-    block = next(it for it in blocks if f"--import {C_PROGRAM}.elf" in it)
-    *commands, last = textwrap.dedent(block).splitlines()
-    assert last == f"./sparc8 --gdb {C_PROGRAM}.txt -- {C_PROGRAM}.elf", last
-    subprocess.run(["sh", "-ec", "\n".join(commands)], cwd=folder, check=True, stderr=subprocess.DEVNULL)
 
 
 class Sessions(unittest.TestCase):

@@ -181,7 +181,7 @@ class Runner:
         """The first steps, in the order of the search, that meet a condition."""
         wanted = [f"pc {it:x}" for it in breaks] + [condition for it in watched for condition in it.conditions()]
         hits = self._found(first, last, [*wanted, *self.catches.conditions(), *conditions])
-        meeting = {}
+        meeting: dict[int, Watched] = {}
         for it in watched if hits else ():
             for hit in self._found(first, last, it.conditions()):
                 meeting.setdefault(hit.step, it)
