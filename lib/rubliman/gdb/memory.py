@@ -10,8 +10,9 @@ from collections.abc import Iterator, Sequence
 from .monitor import Monitor, Refused
 
 _PAGE = 4096
-# RAM is read by blocks, since GDB reads one word after the other.
+# RAM is read by blocks, since GDB reads one word after the other. So many are remembered.
 _BLOCK = 64
+_MOST_BLOCKS = 256
 _POKE = re.compile(r"pokeb? [0-9]+ ([0-9A-F]+) ([0-9A-F]+)")
 
 
@@ -26,6 +27,8 @@ class Memory:
         self._monitor = monitor
         # Addresses are those of RAM, and not the program's.
         self.is_physical = False
+        # By the number of changes so far, the step, the address, and whether it is one of RAM.
+        self._blocks: dict[tuple[int, int, int, bool], bytes] = {}
 
     def pieces(self, step: int, address: int, count: int) -> Iterator[tuple[int, int]]:
         """The physical pieces of a range, cut where pages end: address and count. Raises `Unreadable` at the first
@@ -40,6 +43,22 @@ class Memory:
 
     def read(self, step: int, address: int, count: int) -> bytes:
         """Bytes from an address on, fewer where not all can be read. Raises `Unreadable` where not even one can."""
+        offset = address % _BLOCK
+        if offset + count > _BLOCK:
+            return self._read(step, address, count)
+        return self._block(step, address - offset)[offset : offset + count] if count else b""
+
+    def _block(self, step: int, address: int) -> bytes:
+        """The bytes of a block, which lies in one page."""
+        key = self._monitor.changes, step, address, self.is_physical
+        if key not in self._blocks:
+            if len(self._blocks) >= _MOST_BLOCKS:
+                self._blocks.clear()
+            self._blocks[key] = self._read(step, address, _BLOCK)
+        return self._blocks[key]
+
+    def _read(self, step: int, address: int, count: int) -> bytes:
+        """The same, asked of the monitor."""
         # What is wanted of a few bytes is asked together, as if addresses led to themselves, which they mostly do.
         asked = [_pokes_at(step), _page(step, address), *[_words(step, address, count, _BLOCK)] * (count <= _BLOCK)]
         self._monitor.answers(asked)

@@ -43,6 +43,8 @@ class Monitor:
             [program, "--windows", windows], stdin=subprocess.PIPE, stdout=subprocess.PIPE, start_new_session=True
         )
         self._known: dict[str, list[str]] = {}
+        # How many changes were made so far.
+        self.changes = 0
 
     def ask(self, command: str) -> list[str]:
         """The lines of an answer. An edit has its lines behind it. Raises `Refused`."""
@@ -81,7 +83,9 @@ class Monitor:
 
     def _remember(self, command: str, lines: list[str]) -> None:
         """Remembers an answer, or forgets all behind a change."""
-        if len(self._known) >= _MOST_KNOWN or command.split(None, 1)[0] in CHANGES:
+        is_change = command.split(None, 1)[0] in CHANGES
+        self.changes += is_change
+        if len(self._known) >= _MOST_KNOWN or is_change:
             self._known.clear()
         elif len(lines) <= _MOST_KNOWN_LINES:
             self._known[command] = lines
