@@ -13,7 +13,7 @@ use Rattle.sv8_shell.proofs.OrderLemmas.{reply-order}
 use Rattle.sv8_monitor.specs.declared.question.Question.{Question}
 use Rattle.sv8_monitor.specs.declared.question.Question.TheVariants.{Differ}
 use Rattle.sv8_monitor.specs.Answers.{differ_outcome}
-use Rattle.sv8_monitor.specs.Session.{Both, Order, shell, ask, begins, order, language}
+use Rattle.sv8_monitor.specs.Session.{Both, shell, ask, begins, order, language}
 
 -- what the workbench that is edited answers, before being as it was
 pub reply-on-now : {A E : Type 0} (r : Result A E) (a b : Option (List ℕ)) (old next : Both) (o : workbench_order.Order) → Replies workbench.language r a b old.now o next.now → next.before ≡ old.before

@@ -1,12 +1,11 @@
 -- What a question of one workbench comes to.
-use Rattle.std.specs.Prelude.{ℕ, ◌+◌, ◌-◌, ◌*◌, Bool, true, false, List, length, map, take, drop, nat_lt, nat_le, ◌||◌, ◌&&◌, Option, Some, None, if◌then◌else◌}
-use Rattle.std.specs.List.{range_with_len}
+use Rattle.std.specs.Prelude.{ℕ, ◌+◌, ◌-◌, ◌*◌, Bool, true, false, List, length, map, take, drop, nat_le, ◌&&◌, Option, Some, None, if◌then◌else◌}
 use Rattle.sv8_mmu.specs.Place.{place_of}
 use Rattle.sv8_source.specs.Listing.{listing}
 use Rattle.sv8_source.specs.Names.{names}
 use Rattle.sv8_watch.specs.declared.condition.Condition.{Condition}
 use Rattle.sv8_bench.specs.declared.fault.BenchFault.{BenchFault}
-use Rattle.sv8_bench.specs.declared.fault.BenchFault.TheVariants.{NoSuchLine, StepTooLarge, BadAddress}
+use Rattle.sv8_bench.specs.declared.fault.BenchFault.TheVariants.{NoSuchLine, BadAddress}
 use Rattle.sv8_bench.specs.Faults.{step_refusal}
 use Rattle.sv8_bench.specs.Kept.{Kept}
 use Rattle.sv8_bench.specs.Shown.{machine_state}

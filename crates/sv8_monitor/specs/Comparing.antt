@@ -1,11 +1,9 @@
 -- What differs between a workbench and the one that was kept.
-use Rattle.std.specs.Prelude.{◌≡◌, ℕ, zero, suc, ◌+◌, ◌-◌, ◌*◌, ◌/◌, ◌<◌, ◌≤◌, ◌==◌, Bool, not, List, [], ◌∷◌, length, map, Option, Some, None, nat_lt, ◌||◌, if◌then◌else◌}
+use Rattle.std.specs.Prelude.{◌≡◌, ℕ, ◌*◌, ◌/◌, ◌<◌, ◌≤◌, ◌==◌, Bool, not, List, map, Option, Some, None, nat_lt, ◌||◌, if◌then◌else◌}
 use Rattle.sv8_model.specs.Outside.{word_of}
-use Rattle.sv8_cpu.specs.State.{State}
 use Rattle.sv8_cpu.specs.Sameness.{IsSameProcessor}
 use Rattle.sv8_bench.specs.declared.fault.BenchFault.{BenchFault}
 use Rattle.sv8_bench.specs.declared.fault.BenchFault.TheVariants.{StepTooLarge}
-use Rattle.sv8_bench.specs.Faults.{step_refusal}
 use Rattle.sv8_bench.specs.Kept.{Kept}
 use Rattle.sv8_bench.specs.Shown.{machine_state}
 use Rattle.sv8_bench.specs.Walks.{IsWalk}

@@ -1,5 +1,5 @@
 -- The lines of what stands in a timeline, as commands that set it.
-use Rattle.std.specs.Prelude.{ℕ, ◌+◌, ◌-◌, ◌%◌, ◌==◌, ◌&&◌, Bool, List, [], ◌∷◌, ◌++◌, flat_map, slice_index_or, Option, Some, None, if◌then◌else◌, codes, decimal}
+use Rattle.std.specs.Prelude.{ℕ, ◌+◌, ◌-◌, ◌%◌, ◌==◌, ◌&&◌, Bool, List, [], ◌∷◌, ◌++◌, slice_index_or, Option, Some, None, if◌then◌else◌, codes, decimal}
 use Rattle.std.specs.List.{range_with_len}
 use Rattle.sv8_time.specs.Schedule.{Schedule, BytePoke, poke_of, pokes_of_step, bytes_of_step, requests_of_step}
 use Rattle.sv8_time.specs.declared.requests.Request.{Request}

@@ -1,6 +1,5 @@
 -- How words read as questions of the monitor.
-use Rattle.std.specs.Prelude.{◌≡◌, ℕ, Bool, true, false, List, [], ◌∷◌, Option, Some, None, Result, Ok, Err, if◌then◌else◌, codes, bytes_eq, ◌||◌, ◌&&◌, not, is_some, option_and_then, option_map}
-use Rattle.sv8_watch.specs.declared.condition.Condition.{Condition}
+use Rattle.std.specs.Prelude.{◌≡◌, ℕ, Bool, true, false, List, [], ◌∷◌, Option, Some, None, Result, Ok, Err, if◌then◌else◌, codes, bytes_eq, ◌||◌, ◌&&◌, option_and_then, option_map}
 use Rattle.sv8_shell.specs.declared.command.Command.{Command}
 use Rattle.sv8_shell.specs.declared.command.Command.TheVariants.{Edit, Poke, ClearPoke, PokeByte, ClearPokeByte, Input, ClearInput, Request, ClearRequest, Listing, Regs, Mem, Out, Quit}
 use Rattle.sv8_shell.specs.Words.{first_number, first_hex}

@@ -1,5 +1,5 @@
 -- The lines of answers, as bytes.
-use Rattle.std.specs.Prelude.{ℕ, ◌+◌, ◌-◌, ◌*◌, ◌/◌, ◌%◌, Bool, List, [], ◌∷◌, ◌++◌, take, drop, map, flat_map, Option, Some, None, nat_lt, if◌then◌else◌, codes, decimal}
+use Rattle.std.specs.Prelude.{ℕ, ◌/◌, ◌%◌, Bool, List, [], ◌∷◌, ◌++◌, map, flat_map, Option, Some, None, nat_lt, if◌then◌else◌, codes, decimal}
 use Rattle.sv8_model.specs.declared.observation.AccessKind.{AccessKind}
 use Rattle.sv8_model.specs.declared.observation.AccessKind.TheVariants as kind
 use Rattle.sv8_watch.specs.declared.happening.Fetch.{Fetch}

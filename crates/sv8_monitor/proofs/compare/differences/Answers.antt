@@ -1,6 +1,5 @@
-use Rattle.std.proofs.Common.{◌≡◌, ◌∙◌, ◌%◌, ◌/◌, ◌+◌, ◌-◌, ◌*◌, ◌++◌, ◌∷◌, [], refl, sym, ap, append-nil, arith}
+use Rattle.std.proofs.Common.{◌≡◌, ◌∙◌, ◌+◌, ◌-◌, ◌++◌, ◌∷◌, [], sym, ap, append-nil, arith}
 use Rattle.sv8_phys.specs.Memory.{ram_size}
-use Rattle.sv8_monitor.specs.Comparing.{difference_at, differences}
 use Rattle.sv8_monitor.proofs.Differing.{differences_from, all_differences, none_wanted, found_next, found_none, difference_is}
 use Rattle.sv8_monitor.proofs.compare.differences.Goals as goal
 

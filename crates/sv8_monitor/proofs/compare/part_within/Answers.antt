@@ -1,4 +1,4 @@
-use Rattle.std.proofs.Common.{◌≡◌, ◌+◌, ◌<◌, ◌≤◌, ℕ, sym, arith, subst}
+use Rattle.std.proofs.Common.{◌<◌, ◌≤◌, ℕ, sym, arith, subst}
 use Rattle.sv8_monitor.specs.Search.{IsSearched}
 use Rattle.sv8_monitor.specs.Comparing.{AreWalks, AreAlike}
 use Rattle.sv8_monitor.proofs.Searching.{searched_more, searched_tried, searched_abandoned}
