@@ -12,7 +12,7 @@ from pathlib import Path
 
 from rubliman.gdb.machine import Made, made
 from rubliman.gdb.memory import Memory, Unreadable
-from rubliman.gdb.monitor import Monitor, Refused
+from rubliman.asking.monitor import Monitor, Refused
 from rubliman.gdb.points import Points
 from rubliman.gdb.running import Runner
 from rubliman.gdb.serving import enter

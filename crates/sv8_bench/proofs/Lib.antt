@@ -4,3 +4,4 @@ pub mod Queried
 pub mod Places
 pub mod Edited
 pub mod Walking
+pub mod Untouched

@@ -3,3 +3,4 @@ pub mod Kept
 pub mod Shown
 pub mod Workbench
 pub mod Walks
+pub mod Touching

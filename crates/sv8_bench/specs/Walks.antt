@@ -28,6 +28,11 @@ abbrev pub IsPlaced : (k : ℕ) → Workbench → ℕ → {windows pages : ℕ} 
 IsPlaced k w n (Restored s) = (n ≤ recorded k w.recording) ⊎ (1000000 < recorded k w.recording + k)
 IsPlaced k w n (Drafted d) = IsDraft w.kept.windows w.kept.pages k w.kept.timeline w.recording d × (n ≡ recorded k w.recording + d.count)
 
+-- The next step can be made from there: of the machine alone where it is recorded already or no checkpoint can follow, else of the record.
+abbrev pub IsReady : (k : ℕ) → Workbench → ℕ → {windows pages : ℕ} → Place windows pages → Type 0
+IsReady k w n (Restored s) = (n < recorded k w.recording) ⊎ (1000000 < recorded k w.recording + k)
+IsReady k w n (Drafted d) = HasRoom k w.recording
+
 -- A WALK of a workbench has come to a step: it has the machine of that step.
 pub record IsWalk (k : ℕ) (w : Workbench) {windows pages : ℕ} (walk : Walk windows pages) : Type 0 where
   pub within : walk.step ≤ 1000000

@@ -15,6 +15,7 @@ mod copies;
 mod edits;
 mod patches;
 mod queries;
+mod touching;
 mod walks;
 
 use crate::bench::patches::image_patches;

@@ -31,15 +31,15 @@ fn counting(alloc: Global) -> Result<Small, Fail> {
 /// one from step 255 records none again.
 fn leads_on(alloc: Global, bench: &mut Small) -> Result<bool, AllocError> {
     let mut watch = Watch::new(alloc);
-    let walk = bench.walk(511, &mut watch)?;
+    let mut walk = bench.walk(511, &mut watch)?;
     let begun = steps(bench) == (256, 511) && walk.machine().registers().get(1) == 255;
-    let walk = bench.walk_on(walk, &mut watch)?;
+    bench.walk_on(&mut walk, &mut watch)?;
     let recorded = steps(bench) == (512, 512) && walk.machine().registers().get(1) == 256;
     let seen = watch.touches().len() == 1 && watch.observations().len() == 1;
-    let walk = bench.walk_on(walk, &mut watch)?;
+    bench.walk_past(&mut walk, &mut watch)?;
     let behind = steps(bench) == (512, 513) && walk.step() == 513 && walk.machine().pc() == 4;
-    let again = bench.walk(255, &mut watch)?;
-    let again = bench.walk_on(again, &mut watch)?;
+    let mut again = bench.walk(255, &mut watch)?;
+    bench.walk_on(&mut again, &mut watch)?;
     let kept = steps(bench) == (512, 769) && again.machine().registers().get(1) == 128;
     Ok(begun && recorded && seen && behind && kept)
 }

@@ -69,7 +69,8 @@ fn watch(
         touches: Vec::new(alloc),
         observations: Vec::new(alloc),
     };
-    let machine = machine.watch(n, timeline, &mut notes, &mut Work::new())?;
+    let mut machine = machine;
+    machine.watch(n, timeline, &mut notes, &mut Work::new())?;
     let is_due = notes.observations.as_slice() == due;
     Ok((machine, is_due))
 }

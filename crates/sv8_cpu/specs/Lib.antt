@@ -9,6 +9,7 @@ pub mod Recorded
 pub mod RecordedLaws
 pub mod Frames
 pub mod DeviceLaws
+pub mod Touching
 pub mod Loading
 pub mod Work
 pub mod WordPokes

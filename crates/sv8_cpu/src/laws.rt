@@ -8,6 +8,7 @@ ghost use Rattle.sv8_cpu.specs.Examples.{counting, spinning, moving, saving, set
 ghost use Rattle.sv8_cpu.specs.RecordedLaws.{AccessFrames, StepFrames, RunsAgree, TimelinesServe};
 ghost use Rattle.sv8_cpu.specs.DeviceLaws.{DevicesAreServed};
 ghost use Rattle.sv8_cpu.specs.Frames.{EventsCome, StepsAreWhole, RunsAreWhole, SetsFrame, RunsFrame, CellsStay, BytesFrame, WaitingFrames, LevelsFrame, RequestedLevelsAgree};
+ghost use Rattle.sv8_cpu.specs.Touching.{SparedBytesStay, AccessesTouch, StepsTouch, FetchesTouch, AnnulledStepsPass};
 
 /// The steps of small programs, computed from the definition of a step.
 ///
@@ -187,4 +188,34 @@ pub fn requested_levels_agree()
 /// It holds where NF hides no fault; one that is hidden is answered with 0.
 pub fn devices_are_served()
     ensures { DevicesAreServed }
+{}
+
+/// A byte of RAM whose word a step neither reads nor writes, and which no event of the step pokes, holds after the step what it held
+/// before.
+pub fn spared_bytes_stay()
+    ensures { SparedBytesStay }
+{}
+
+/// What is seen of an access in RAM is touched: each byte lies in a word that the access reads or writes.
+///
+/// It holds of an access whose address is a multiple of its size, which that of every instruction is, where RAM lies below the devices.
+pub fn accesses_touch()
+    ensures { AccessesTouch }
+{}
+
+/// What is seen of a step in RAM is touched: each byte that its access loads or stores, and the first one of the instruction that it
+/// fetches, lie in words that the step reads or writes.
+pub fn steps_touch()
+    ensures { StepsTouch }
+{}
+
+/// A step that carries out the instruction at PC, or traps in it, touches the word at PC, where no address is translated and PC is in
+/// RAM.
+pub fn fetches_touch()
+    ensures { FetchesTouch }
+{}
+
+/// A step that has an annulled slot in front of it takes an interrupt, or it passes over the slot, and nothing is seen of it.
+pub fn annulled_steps_pass()
+    ensures { AnnulledStepsPass }
 {}

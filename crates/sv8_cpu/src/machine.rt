@@ -247,32 +247,52 @@ impl<const NW: usize, const PAGES: usize> Machine<NW, PAGES> {
     }
 
     /// Step n, as `step` makes it, for an observer: `notes` takes each touch as it comes, where `step` tells a step's
-    /// touches at its end and each once, and it takes what is to be seen of the step.
+    /// touches at its end and each once, and it takes what is to be seen of the step. The machine is changed where it
+    /// stands.
     ///
     /// # Errors
     ///
-    /// Those of `step`.
-    #[inline]
+    /// Those of `step`. What the machine is then is not said, and a caller that wants to go on must go back to an earlier
+    /// state.
+    #[inline(always)]
     pub fn watch<T: Touches>(
-        self,
+        &mut self,
         n: u32,
         timeline: &Timeline,
         notes: &mut T,
         work: &mut Work,
-    ) -> Result<Self, AllocError>
+    ) -> Result<(), AllocError>
         requires limit { timeline.now.limit ≡ ram_size PAGES }
-        requires delivered { self.memory.taken ≤ bytes_below n timeline.now.inputs }
-        ensures ok { IfOk result (λ m. m ≡ step NW PAGES timeline.now n self.entry) }
-        ensures delivered { IfOk result (λ m. m.memory.taken ≤ bytes_below (n + 1) timeline.now.inputs) }
+        requires delivered { self.old.memory.taken ≤ bytes_below n timeline.now.inputs }
+        ensures ok { OnOk result (self.new ≡ step NW PAGES timeline.now n self.old) }
+        ensures delivered { OnOk result (self.new.memory.taken ≤ bytes_below (n + 1) timeline.now.inputs) }
         ensures noted { OnOk result (T.noted notes.new ≡ noting (keeping T.KEEPS T.OBSERVES) (T.noted notes.old)
-            (footprint NW PAGES timeline.now n self.entry) (observed NW PAGES timeline.now n self.entry)) }
+            (footprint NW PAGES timeline.now n self.old) (observed NW PAGES timeline.now n self.old)) }
         ensures counted { OnOk result (work.new ≡ counted work.old) }
         ensures uncounted { OnErr result (work.new ≡ work.old) }
     {
-        let mut machine = self;
-        step_watched(&mut machine.parts, n, timeline, notes)?;
+        step_watched(&mut self.parts, n, timeline, notes)?;
         work.raise();
-        Ok(machine)
+        Ok(())
+    }
+
+    /// The same with no notes.
+    ///
+    /// # Errors
+    ///
+    /// Those of `watch`.
+    #[inline(always)]
+    pub fn pass(&mut self, n: u32, timeline: &Timeline, work: &mut Work) -> Result<(), AllocError>
+        requires limit { timeline.now.limit ≡ ram_size PAGES }
+        requires delivered { self.old.memory.taken ≤ bytes_below n timeline.now.inputs }
+        ensures ok { OnOk result (self.new ≡ step NW PAGES timeline.now n self.old) }
+        ensures delivered { OnOk result (self.new.memory.taken ≤ bytes_below (n + 1) timeline.now.inputs) }
+        ensures counted { OnOk result (work.new ≡ counted work.old) }
+        ensures uncounted { OnErr result (work.new ≡ work.old) }
+    {
+        step_unnoted(&mut self.parts, n, timeline)?;
+        work.raise();
+        Ok(())
     }
 
     /// Step n.

@@ -86,14 +86,28 @@ fn watch(alloc: Global, machine: Small, n: u32, timeline: &Timeline) -> Result<S
     if timeline.delivered(n) < machine.taken() {
         return Err(AllocError);
     }
-    machine.watch(n, timeline, &mut Watch::new(alloc), &mut Work::new())
+    let mut machine = machine;
+    machine.watch(n, timeline, &mut Watch::new(alloc), &mut Work::new())?;
+    Ok(machine)
+}
+
+/// The same, with no notes.
+fn pass(machine: Small, n: u32, timeline: &Timeline) -> Result<Small, AllocError>
+    requires { timeline.now.limit ≡ 8192 }
+{
+    if timeline.delivered(n) < machine.taken() {
+        return Err(AllocError);
+    }
+    let mut machine = machine;
+    machine.pass(n, timeline, &mut Work::new())?;
+    Ok(machine)
 }
 
 fn run(alloc: Global, source: &Source) -> Result<Small, AllocError> {
     let timeline = Timeline::new(alloc, 8_192);
     let first = advance(Small::reset(alloc, source)?, 0, &timeline)?;
     let second = advance(first, 1, &timeline)?;
-    let third = advance(second, 2, &timeline)?;
+    let third = pass(second, 2, &timeline)?;
     watch(alloc, third, 3, &timeline)
 }
 

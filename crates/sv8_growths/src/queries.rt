@@ -200,9 +200,9 @@ fn is_copied(alloc: Global, bench: &Small) -> bool {
 /// Whether a walk leads over the next checkpoint.
 fn walked(alloc: Global, bench: &mut Small) -> Result<bool, AllocError> {
     let mut watch = Watch::new(alloc);
-    let walk = bench.walk(1_279, &mut watch)?;
-    let walk = bench.walk_on(walk, &mut watch)?;
-    let walk = bench.walk_on(walk, &mut watch)?;
+    let mut walk = bench.walk(1_279, &mut watch)?;
+    bench.walk_on(&mut walk, &mut watch)?;
+    bench.walk_past(&mut walk, &mut watch)?;
     Ok(walk.step() == 1_281 && bench.recorded() == 1_280 && walk.machine().word(0x104) == 7)
 }
 

@@ -1,7 +1,7 @@
 //! Records a run, copies, patches and cuts it: each call that is refused memory leaves the recorded run as it was, and each other one does what it
 //! should.
 
-ghost use Rattle.std.specs.Prelude.{◌+◌, ◌≡◌, ◌<◌, ◌≤◌, IfOk};
+ghost use Rattle.std.specs.Prelude.{◌+◌, ◌≡◌, ◌<◌, ◌≤◌, IfOk, OnOk};
 ghost use Rattle.std.specs.List.{All};
 ghost use Rattle.sv8_time.specs.Schedule.{bytes_below};
 ghost use Rattle.sv8_trace.specs.Patch.{IsPatch};
@@ -438,15 +438,15 @@ fn are_kept(alloc: Global, trace: &mut Small, timeline: &Timeline) -> bool
 fn watched(
     alloc: Global,
     trace: &mut Small,
-    draft: Draft<8, 2>,
+    draft: &mut Draft<8, 2>,
     timeline: &Timeline,
     work: &mut Work,
-) -> Result<Draft<8, 2>, AllocError>
+) -> Result<(), AllocError>
     requires limit { timeline.now.limit ≡ 8192 }
-    requires draft { IsDraft 8 2 4 timeline.now trace.old draft }
-    requires delivered { draft.state.memory.taken ≤ bytes_below (recorded 4 trace.old + draft.count) timeline.now.inputs }
-    ensures draft { IfOk result (λ d. IsDraft 8 2 4 timeline.now trace.new d) }
-    ensures delivered { IfOk result (λ d. d.state.memory.taken ≤ bytes_below (recorded 4 trace.new + d.count) timeline.now.inputs) }
+    requires draft { IsDraft 8 2 4 timeline.now trace.old draft.old }
+    requires delivered { draft.old.state.memory.taken ≤ bytes_below (recorded 4 trace.old + draft.old.count) timeline.now.inputs }
+    ensures draft { OnOk result (IsDraft 8 2 4 timeline.now trace.new draft.new) }
+    ensures delivered { OnOk result (draft.new.state.memory.taken ≤ bytes_below (recorded 4 trace.new + draft.new.count) timeline.now.inputs) }
 {
     if 1_000 < trace.recorded() {
         return Err(AllocError);
@@ -460,11 +460,11 @@ fn watch_four(alloc: Global, trace: &mut Small, timeline: &Timeline) -> Result<u
     requires delivered { (last_point trace.old).memory.taken ≤ bytes_below (recorded 4 trace.old) timeline.now.inputs }
 {
     let mut work = Work::new();
-    let none = trace.draft(alloc)?;
-    let first = watched(alloc, trace, none, timeline, &mut work)?;
-    let second = watched(alloc, trace, first, timeline, &mut work)?;
-    let third = watched(alloc, trace, second, timeline, &mut work)?;
-    let _next = watched(alloc, trace, third, timeline, &mut work)?;
+    let mut draft = trace.draft(alloc)?;
+    watched(alloc, trace, &mut draft, timeline, &mut work)?;
+    watched(alloc, trace, &mut draft, timeline, &mut work)?;
+    watched(alloc, trace, &mut draft, timeline, &mut work)?;
+    watched(alloc, trace, &mut draft, timeline, &mut work)?;
     Ok(work.done())
 }
 

@@ -2,6 +2,7 @@ pub mod Searching
 pub mod Compared
 pub mod Turned
 pub mod Falling
+pub mod Passed
 pub mod Sought
 pub mod Differing
 pub mod Parting

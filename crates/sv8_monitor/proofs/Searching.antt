@@ -1,6 +1,5 @@
 -- Searches: each step that is looked at leaves the rest of what is to be told.
 use Rattle.std.proofs.Common.{◌≡◌, ◌∙◌, ℕ, zero, suc, ◌+◌, ◌-◌, ◌/◌, ◌<◌, ◌≤◌, ◌⊎◌, inl, inr, min, Bool, true, false, cond, List, [], ◌∷◌, ◌++◌, length, map, Option, Some, None, refl, sym, ap, subst, append_assoc, append-nil, arith}
-use Rattle.std.specs.Bool.{then_some}
 use Rattle.std.proofs.Math.Nat.{mul-le-mul_left, mul-div-le}
 use Rattle.sv8_model.specs.declared.touch.Touch.{Touch}
 use Rattle.sv8_model.specs.declared.observation.Observation.{Observation}
@@ -102,20 +101,18 @@ met_is kept n m cs after ts h at state touched e =
     same (x ∷ xs) = refl
 
 -- .. and whether it is told
-pub looked_found : (kept : Kept) (n m : ℕ) (timeline : Schedule) (after again : State) (os : List Observation) (ts noted : List Touch) (h : Happening) (cs : List Condition) (b : Bool)
-    (found : Option Found) → m ≡ n → timeline ≡ kept.timeline → after ≡ machine_state kept (n + 1) → again ≡ machine_state kept (n + 1)
-    → os ≡ observed kept.windows kept.pages kept.timeline n (machine_state kept n) → ts ≡ footprint kept.windows kept.pages kept.timeline n (machine_state kept n) → noted ≡ ts
-    → h ≡ happened timeline m (machine_state kept n) after os (expires ts) → b ≡ any_met m (machine_state kept n) again h noted cs
-    → found ≡ then_some b (record { step = m; happening = h }) → found ≡ wanted_found kept cs n
-looked_found kept n m timeline after again os ts noted h cs b found at under state same seen touched notes e f g =
-    let happens = happened_is kept n m timeline after os ts h at under state seen touched e in
-    let wanted_is = f ∙ met_is kept n m cs again noted h at same (notes ∙ touched) happens in
-    g ∙ ap (λ i. then_some b (record { step = i; happening = h })) at ∙ ap (λ x. then_some b (record { step = n; happening = x })) happens
-    ∙ ap (λ x. then_some x (found_at kept n)) wanted_is ∙ both (is_wanted kept cs n)
-  where
-    both : (x : Bool) → then_some x (found_at kept n) ≡ cond x (Some (found_at kept n)) None
-    both true = refl
-    both false = refl
+pub looked_found : (kept : Kept) (n m : ℕ) (timeline : Schedule) (after : State) (os : List Observation) (ts : List Touch) (cs : List Condition) (found : Option Found) → m ≡ n
+    → timeline ≡ kept.timeline → after ≡ machine_state kept (n + 1) → os ≡ observed kept.windows kept.pages kept.timeline n (machine_state kept n)
+    → ts ≡ footprint kept.windows kept.pages kept.timeline n (machine_state kept n)
+    → found ≡ cond (any_met m (machine_state kept n) after (happened timeline m (machine_state kept n) after os (expires ts)) ts cs)
+    (Some (record { step = m; happening = happened timeline m (machine_state kept n) after os (expires ts) })) None
+    → found ≡ wanted_found kept cs n
+looked_found kept n m timeline after os ts cs found at under state seen touched e =
+    let h = happened timeline m (machine_state kept n) after os (expires ts) in
+    let happens = happened_is kept n m timeline after os ts h at under state seen touched refl in
+    e ∙ ap (λ x. cond x (Some (record { step = m; happening = h })) None) (met_is kept n m cs after ts h at state touched happens)
+    ∙ ap (λ i. cond (is_wanted kept cs n) (Some (record { step = i; happening = h })) None) at
+    ∙ ap (λ x. cond (is_wanted kept cs n) (Some (record { step = n; happening = x })) None) happens
 
 -- ---- what is made of a workbench
 

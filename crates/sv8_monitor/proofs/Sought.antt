@@ -1,10 +1,10 @@
 -- How many steps a falling search makes.
-use Rattle.std.proofs.Common.{◌≡◌, ◌∙◌, ℕ, ◌+◌, ◌-◌, ◌*◌, ◌/◌, ◌<◌, ◌≤◌, ◌⊎◌, inl, inr, Bool, true, false, nat_lt, min, max, refl, ap, arith, subst}
+use Rattle.std.proofs.Common.{◌≡◌, ◌∙◌, ℕ, ◌+◌, ◌-◌, ◌*◌, ◌/◌, ◌<◌, ◌≤◌, ◌⊎◌, inl, inr, Bool, true, false, nat_lt, min, max, refl, sym, ap, arith, subst}
 use Rattle.std.proofs.lemmas.Bool.{ltb-true, ltb-false}
 use Rattle.std.proofs.Math.Nat.{le-div_iff_mul-le, mul_comm, mul-le-mul_left, mul-div-le, div-add-mod, mod-lt}
 use Rattle.sv8_history.specs.Growing.{restored}
 use Rattle.sv8_trace.specs.Recorder.{counted_by, RaisedUpTo}
-use Rattle.sv8_monitor.specs.Search.{checkpoint_of, sought_steps, IsSought, IsAbandoned, IsStart}
+use Rattle.sv8_monitor.specs.Search.{checkpoint_of, sought_steps, IsSought, IsPassedOrSearched, IsAbandoned, IsStart}
 use Rattle.sv8_bench.specs.Workbench.{Workbench, checkpoints}
 use Rattle.sv8_bench.proofs.Walking.{in_interval as interval_of}
 use Rattle.sv8_bench.proofs.Queried.{raised_more}
@@ -104,7 +104,7 @@ module _ (k from to : ℕ) (pos : 0 < k) where
         (more_steps first recorded end start (omega (arith, up)) d.0 e d.2 s.interval)
 
   -- .. of which all is recorded
-  pub interval_down : (first before end recorded worked start now new : ℕ) → to < end → end ≤ from → IsStart k to end start → IsDown k from to first before end recorded worked
+  interval_down : (first before end recorded worked start now new : ℕ) → to < end → end ≤ from → IsStart k to end start → IsDown k from to first before end recorded worked
       → now ≡ max recorded (end / k) → new ≡ counted_by (end - restored k recorded start) worked → IsDown k from to first before start now new
   interval_down first before end recorded worked start now new up high s d e f =
       let some : start / k ≤ end / k = divided k start end pos (let below = s.below in omega (arith, below)) in
@@ -116,6 +116,24 @@ module _ (k from to : ℕ) (pos : 0 < k) where
         interval_raised first before end recorded worked start new up s d (end - restored k recorded start, omega arith, f),
       )
 
+  -- further down it is no less
+  raised_further : (first before low high new : ℕ) → low ≤ high → RaisedUpTo (sought_steps k first from high) before new → RaisedUpTo (sought_steps k first from low) before new
+  raised_further first before low high new le r =
+      let grown = mul-le-mul_left k (divided k low high pos le) in
+      raised_less (sought_steps k first from high) (sought_steps k first from low) before new r (omega (arith, grown))
+
+  -- .. or which is passed over, since all of it is recorded
+  interval_passed : (first before end recorded worked start : ℕ) → end ≤ from → IsStart k to end start → end / k ≤ recorded
+      → IsDown k from to first before end recorded worked → IsDown k from to first before start recorded worked
+  interval_passed first before end recorded worked start high s all d =
+      let below = s.below in
+      let some : start / k ≤ end / k = divided k start end pos (omega (arith, below)) in
+      inr (omega (arith, below, high), s.aligned, omega (arith, all, some), go d)
+    where
+      go : IsDown k from to first before end recorded worked → RaisedUpTo (sought_steps k first from start) before worked
+      go (inl e) = (0, omega arith, e.2)
+      go (inr e) = let below = s.below in raised_further first before start end worked (omega (arith, below)) e.3
+
   -- at the end
   down_raised : (first before end recorded worked lowest : ℕ) → end / k ≡ lowest / k → IsDown k from to first before end recorded worked
       → RaisedUpTo (sought_steps k first from lowest) before worked
@@ -124,13 +142,33 @@ module _ (k from to : ℕ) (pos : 0 < k) where
       let same : sought_steps k first from end ≡ sought_steps k first from lowest = ap (λ q. (from - restored k first (from - 1)) + (checkpoint_of k (from - 1) - k * q)) e in
       raised_less (sought_steps k first from end) (sought_steps k first from lowest) before worked d.3 (omega (arith, same))
 
-  -- further down it is no less
-  raised_further : (first before low high new : ℕ) → low ≤ high → RaisedUpTo (sought_steps k first from high) before new → RaisedUpTo (sought_steps k first from low) before new
-  raised_further first before low high new le r =
-      let grown = mul-le-mul_left k (divided k low high pos le) in
-      raised_less (sought_steps k first from high) (sought_steps k first from low) before new r (omega (arith, grown))
-
   -- ---- what is made of a workbench
+
+  -- what an interval leaves of it
+  pub record IsLower (old now new : Workbench) (end start : ℕ) : Type 0 where
+    pub kept : new.kept ≡ now.kept
+    pub fewest : checkpoints now ≤ checkpoints new
+    pub most : checkpoints new ≤ max (checkpoints now) (end / k)
+    pub down : IsDown k from to (checkpoints old) old.worked start (checkpoints new) new.worked
+
+  pub interval_sought : (old now new : Workbench) (end start : ℕ) → to < end → end ≤ from → IsStart k to end start
+      → IsDown k from to (checkpoints old) old.worked end (checkpoints now) now.worked → IsPassedOrSearched k start end now new → IsLower old now new end start
+  interval_sought old now new end start up high s d (inl p) =
+      subst (λ (w : Workbench). IsLower old now w end start) (sym p.0)
+      (record {
+        kept = refl;
+        fewest = omega arith;
+        most = omega arith;
+        down = interval_passed (checkpoints old) old.worked end (checkpoints now) now.worked start high s p.1 d;
+      })
+  interval_sought old now new end start up high s d (inr p) =
+      let more = p.recorded in
+      record {
+        kept = p.kept;
+        fewest = omega (arith, more);
+        most = omega (arith, more);
+        down = interval_down (checkpoints old) old.worked end (checkpoints now) now.worked start (checkpoints new) new.worked up high s d p.recorded p.worked;
+      }
 
   -- a search that has come down to a step
   pub sought_down : (end lowest : ℕ) (old now : Workbench) → now.kept ≡ old.kept → checkpoints old ≤ checkpoints now → checkpoints now ≤ max (checkpoints old) (from / k)

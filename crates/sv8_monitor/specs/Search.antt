@@ -88,6 +88,10 @@ pub record IsSearched (k from end : ℕ) (old new : Workbench) : Type 0 where
   pub recorded : checkpoints new ≡ max (checkpoints old) (end / k)
   pub worked : new.worked ≡ counted_by (end - restored k (checkpoints old) from) old.worked
 
+-- .. or it has passed over them, since all of them are recorded and their notes show that none can be wanted
+abbrev pub IsPassedOrSearched : ℕ → ℕ → ℕ → Workbench → Workbench → Type 0
+IsPassedOrSearched k from end old new = ((new ≡ old) × (end / k ≤ checkpoints old)) ⊎ IsSearched k from end old new
+
 -- the checkpoint at a step, or the last one below it
 abbrev pub checkpoint_of : ℕ → ℕ → ℕ
 checkpoint_of k n = k * (n / k)

@@ -84,23 +84,24 @@ fn begin_both<const NW: usize, const PAGES: usize, const K: u32>(
 }
 
 /// Makes the next step of both.
+#[inline(always)]
 fn step_both<const NW: usize, const PAGES: usize, const K: u32>(
     now: &mut Bench<NW, PAGES, K>,
     before: &mut Bench<NW, PAGES, K>,
-    both: Both<NW, PAGES>,
+    both: &mut Both<NW, PAGES>,
     watch: &mut Watch,
-) -> Result<Both<NW, PAGES>, AllocError>
-    requires walks { AreWalks K now.old before.old both.walk.step both }
-    requires within { both.walk.step < 1000000 }
-    ensures walks { IfOk result (λ b. AreWalks K now.new before.new (both.entry.walk.step + 1) b) }
-    ensures now_made { OnOk result (IsMade K both.entry.walk.step now.old now.new) }
-    ensures before_made { OnOk result (IsMade K both.entry.walk.step before.old before.new) }
-    ensures now_tried { OnErr result (IsTried K both.entry.walk.step now.old now.new) }
-    ensures before_tried { OnErr result (IsTried K both.entry.walk.step before.old before.new) }
+) -> Result<(), AllocError>
+    requires walks { AreWalks K now.old before.old both.old.walk.step both.old }
+    requires within { both.old.walk.step < 1000000 }
+    ensures walks { OnOk result (AreWalks K now.new before.new (both.old.walk.step + 1) both.new) }
+    ensures now_made { OnOk result (IsMade K both.old.walk.step now.old now.new) }
+    ensures before_made { OnOk result (IsMade K both.old.walk.step before.old before.new) }
+    ensures now_tried { OnErr result (IsTried K both.old.walk.step now.old now.new) }
+    ensures before_tried { OnErr result (IsTried K both.old.walk.step before.old before.new) }
 {
-    let walk = now.walk_on(both.walk, watch)?;
-    let other = before.walk_on(both.other, watch)?;
-    Ok(Both { walk, other })
+    now.walk_past(&mut both.walk, watch)?;
+    before.walk_past(&mut both.other, watch)?;
+    Ok(())
 }
 
 fn part_within<const NW: usize, const PAGES: usize, const K: u32>(
@@ -124,7 +125,7 @@ fn part_within<const NW: usize, const PAGES: usize, const K: u32>(
         if both.walk.step() == to {
             return Ok(None);
         }
-        both = step_both(now, before, both, &mut watch)?;
+        step_both(now, before, &mut both, &mut watch)?;
     }
     Ok(Some(both.walk.step()))
 }

@@ -1,22 +1,24 @@
 //! Searches for the steps of a run that meet a condition.
 
-ghost use Rattle.std.specs.Prelude.{◌≡◌, ◌⊎◌, ℕ, ◌+◌, ◌-◌, ◌*◌, ◌<◌, ◌≤◌, ◌++◌, ◌∷◌, [], List, length, true, take, map, reverse, None, IfOk, IfErr, IfSome, OnOk, OnErr};
+ghost use Rattle.std.specs.Prelude.{◌≡◌, ◌⊎◌, ℕ, ◌+◌, ◌-◌, ◌*◌, ◌/◌, ◌<◌, ◌≤◌, ◌++◌, ◌∷◌, [], List, length, true, false, take, map, reverse, Some, None, if◌then◌else◌, IfOk, IfErr, IfSome, OnOk, OnErr};
 ghost use Rattle.std.specs.List.{list_any};
 ghost use Rattle.sv8_bench.specs.Faults.{IsQueryFault};
 ghost use Rattle.sv8_monitor.specs.Answers.{steps_refusal};
 ghost use Rattle.sv8_phys.specs.Memory.{ram_size};
 ghost use Rattle.sv8_cpu.specs.State.{State};
-ghost use Rattle.sv8_watch.specs.Conditions.{is_met, bytes_from};
+ghost use Rattle.sv8_watch.specs.Conditions.{is_met, meets, bytes_from};
+ghost use Rattle.sv8_watch.specs.Watched.{IsBefore, happening_of};
 ghost use Rattle.sv8_bench.specs.Shown.{machine_state};
 ghost use Rattle.sv8_bench.specs.Walks.{IsWalk, IsMade, IsUnmade};
-ghost use Rattle.sv8_monitor.specs.Search.{old_of, olds_of, old_count, olds_count, is_inside, are_inside, any_met, found_at, is_wanted, wanted_found, list_of, left_behind, rising, looked_to, falling, sought_to, steps_told, IsSearched, IsSought, IsTried, IsAbandoned, IsStart};
+ghost use Rattle.sv8_bench.specs.Workbench.{checkpoints};
+ghost use Rattle.sv8_monitor.specs.Search.{old_of, olds_of, old_count, olds_count, is_inside, are_inside, any_met, found_at, is_wanted, wanted_found, list_of, left_behind, rising, looked_to, falling, sought_to, steps_told, IsSearched, IsPassedOrSearched, IsSought, IsTried, IsAbandoned, IsStart};
 
 use crate::found::Found;
 use std::alloc::AllocError;
 use sv8_bench::{Bench, BenchFault, LAST_STEP, Walk};
 use sv8_cpu::Machine;
-use sv8_phys::{Touch, Watch};
-use sv8_watch::{Before, Condition, Happening};
+use sv8_phys::Watch;
+use sv8_watch::{Before, Condition, MadeStep};
 
 /// How many bytes a condition compares.
 fn old_count(condition: Condition) -> u32
@@ -109,25 +111,22 @@ fn look_again<const NW: usize, const PAGES: usize>(
 
 /// Whether a step meets one of some conditions. `old` are the bytes that they compare with those of the machine behind it.
 fn is_any_met<const NW: usize, const PAGES: usize>(
+    step: &MadeStep<'_, NW, PAGES>,
     conditions: &[Condition],
-    n: u32,
-    happening: &Happening,
-    touches: &[Touch],
     old: &[u8],
-    after: &Machine<NW, PAGES>,
 ) -> bool
     requires few_windows { NW ≤ 32 }
     requires few_pages { PAGES ≤ 65536 }
     requires inside { are_inside (ram_size PAGES) conditions.now ≡ true }
     requires count { length old.now ≡ olds_count conditions.now }
-    ensures { (before : State) → old.now ≡ olds_of conditions.now before.memory.ram
-        → result ≡ list_any (is_met n before after.now happening.now touches.now) conditions.now }
+    ensures { (before : State) → IsBefore before step.now.before → old.now ≡ olds_of conditions.now before.memory.ram
+        → result ≡ list_any (is_met step.now.n before step.now.after.now (happening_of before step.now) step.now.watch.now.touches) conditions.now }
 {
     let mut rest = conditions;
     let mut bytes = old;
     while let [first, others @ ..] = rest {
         let (own, next) = bytes.split_at(old_count(*first) as usize);
-        if first.is_met(n, happening, touches, own, after) {
+        if first.is_met(step, own) {
             return true;
         }
         rest = others;
@@ -137,24 +136,55 @@ fn is_any_met<const NW: usize, const PAGES: usize>(
 }
 
 /// The same, and also where there is no condition.
+#[inline(always)]
 fn is_wanted<const NW: usize, const PAGES: usize>(
+    step: &MadeStep<'_, NW, PAGES>,
     conditions: &[Condition],
-    n: u32,
-    happening: &Happening,
-    touches: &[Touch],
     old: &[u8],
-    after: &Machine<NW, PAGES>,
 ) -> bool
     requires few_windows { NW ≤ 32 }
     requires few_pages { PAGES ≤ 65536 }
     requires inside { are_inside (ram_size PAGES) conditions.now ≡ true }
     requires count { length old.now ≡ olds_count conditions.now }
-    ensures { (before : State) → old.now ≡ olds_of conditions.now before.memory.ram
-        → result ≡ any_met n before after.now happening.now touches.now conditions.now }
+    ensures { (before : State) → IsBefore before step.now.before → old.now ≡ olds_of conditions.now before.memory.ram
+        → result ≡ any_met step.now.n before step.now.after.now (happening_of before step.now) step.now.watch.now.touches conditions.now }
 {
     match conditions {
         [] => true,
-        [_, ..] => is_any_met(conditions, n, happening, touches, old, after),
+        [_, ..] => is_any_met(step, conditions, old),
+    }
+}
+
+/// A step with what happened in it.
+#[inline(never)]
+fn found<const NW: usize, const PAGES: usize>(step: &MadeStep<'_, NW, PAGES>) -> Found
+    ensures { (before : State) → IsBefore before step.now.before → result ≡ record { step = step.now.n; happening = happening_of before step.now } }
+{
+    Found {
+        step: step.n,
+        happening: step.happening(),
+    }
+}
+
+/// The same, where it is wanted.
+#[inline(always)]
+fn found_in<const NW: usize, const PAGES: usize>(
+    step: &MadeStep<'_, NW, PAGES>,
+    conditions: &[Condition],
+    old: &[u8],
+) -> Option<Found>
+    requires few_windows { NW ≤ 32 }
+    requires few_pages { PAGES ≤ 65536 }
+    requires inside { are_inside (ram_size PAGES) conditions.now ≡ true }
+    requires count { length old.now ≡ olds_count conditions.now }
+    ensures { (before : State) → IsBefore before step.now.before → old.now ≡ olds_of conditions.now before.memory.ram
+        → result ≡ if any_met step.now.n before step.now.after.now (happening_of before step.now) step.now.watch.now.touches conditions.now
+        then Some (record { step = step.now.n; happening = happening_of before step.now }) else None }
+{
+    if is_wanted(step, conditions, old) {
+        Some(found(step))
+    } else {
+        None
     }
 }
 
@@ -163,43 +193,42 @@ fn is_wanted<const NW: usize, const PAGES: usize>(
 /// # Errors
 ///
 /// `AllocError` where memory for it cannot be had.
+#[inline(always)]
 fn look<const NW: usize, const PAGES: usize, const K: u32>(
     bench: &mut Bench<NW, PAGES, K>,
-    walk: Walk<NW, PAGES>,
+    walk: &mut Walk<NW, PAGES>,
     watch: &mut Watch,
     conditions: &[Condition],
     old: &mut Vec<u8>,
-) -> Result<(Walk<NW, PAGES>, Option<Found>), AllocError>
+) -> Result<Option<Found>, AllocError>
     requires few_windows { NW ≤ 32 }
     requires few_pages { PAGES ≤ 65536 }
-    requires walk { IsWalk K bench.old walk }
-    requires within { walk.step < 1000000 }
+    requires walk { IsWalk K bench.old walk.old }
+    requires within { walk.old.step < 1000000 }
     requires inside { are_inside (ram_size PAGES) conditions.now ≡ true }
-    requires bytes { old.old.items ≡ olds_of conditions.now (machine_state bench.old.kept walk.step).memory.ram }
+    requires bytes { old.old.items ≡ olds_of conditions.now (machine_state bench.old.kept walk.old.step).memory.ram }
     requires count { length old.old.items ≡ olds_count conditions.now }
-    ensures walk { IfOk result (λ r. IsWalk K bench.new r.0) }
-    ensures step { IfOk result (λ r. r.0.step ≡ walk.entry.step + 1) }
-    ensures found { IfOk result (λ r. r.1 ≡ wanted_found bench.old.kept conditions.now walk.entry.step) }
-    ensures made { OnOk result (IsMade K walk.entry.step bench.old bench.new) }
-    ensures bytes { OnOk result (old.new.items ≡ olds_of conditions.now (machine_state bench.old.kept (walk.entry.step + 1)).memory.ram) }
+    ensures walk { OnOk result (IsWalk K bench.new walk.new) }
+    ensures step { OnOk result (walk.new.step ≡ walk.old.step + 1) }
+    ensures found { IfOk result (λ r. r ≡ wanted_found bench.old.kept conditions.now walk.old.step) }
+    ensures made { OnOk result (IsMade K walk.old.step bench.old bench.new) }
+    ensures bytes { OnOk result (old.new.items ≡ olds_of conditions.now (machine_state bench.old.kept (walk.old.step + 1)).memory.ram) }
     ensures count { OnOk result (length old.new.items ≡ olds_count conditions.now) }
-    ensures unmade { OnErr result (IsTried K walk.entry.step bench.old bench.new) }
+    ensures unmade { OnErr result (IsTried K walk.old.step bench.old bench.new) }
 {
     let n = walk.step();
     let before = Before::of(walk.machine());
-    let walk = bench.walk_on(walk, watch)?;
-    let happening = Happening::of(n, bench.timeline(), before, walk.machine(), watch);
-    let wanted = is_wanted(
-        conditions,
+    bench.walk_on(walk, watch)?;
+    let step = MadeStep {
         n,
-        &happening,
-        watch.touches(),
-        old.as_slice(),
-        walk.machine(),
-    );
+        timeline: bench.timeline(),
+        before,
+        after: walk.machine(),
+        watch,
+    };
+    let next = found_in(&step, conditions, old.as_slice());
     look_again(old, conditions, walk.machine())?;
-    let found = wanted.then_some(Found { step: n, happening });
-    Ok((walk, found))
+    Ok(next)
 }
 
 /// Adds a step that was found, if one was; answers how many more may follow, of so many.
@@ -247,8 +276,7 @@ fn search_up<const NW: usize, const PAGES: usize, const K: u32>(
     look_at_old(&mut old, conditions, walk.machine())?;
     let mut left = most;
     while walk.step() < to && left > 0 {
-        let (next, seen) = look(bench, walk, &mut watch, conditions, &mut old)?;
-        walk = next;
+        let seen = look(bench, &mut walk, &mut watch, conditions, &mut old)?;
         left = add_found(found, seen, left)?;
     }
     Ok(())
@@ -269,8 +297,66 @@ fn add_falling(found: &mut Vec<Found>, seen: &[Found], most: u32) -> Result<u32,
     Ok(left)
 }
 
+/// Whether the notes of the recorded run show that no step of a range meets a condition.
+fn shows_none<const NW: usize, const PAGES: usize, const K: u32>(
+    bench: &Bench<NW, PAGES, K>,
+    condition: Condition,
+    from: u32,
+    to: u32,
+) -> bool
+    requires inside { is_inside (ram_size PAGES) condition ≡ true }
+    ensures none { result ≡ true → (n : ℕ) → from ≤ n → n < to
+        → meets bench.now.kept.windows bench.now.kept.pages bench.now.kept.timeline n (machine_state bench.now.kept n) condition ≡ false }
+    ensures recorded { result ≡ true → to / K ≤ checkpoints bench.now }
+{
+    bench.sizes();
+    match condition.span() {
+        Some(span) => bench.is_untouched(span.address, span.count, from, to),
+        None => false,
+    }
+}
+
+/// Whether they show that of each of some conditions.
+fn each_shows_none<const NW: usize, const PAGES: usize, const K: u32>(
+    bench: &Bench<NW, PAGES, K>,
+    conditions: &[Condition],
+    from: u32,
+    to: u32,
+) -> bool
+    requires inside { are_inside (ram_size PAGES) conditions.now ≡ true }
+    ensures none { result ≡ true → (n : ℕ) → from ≤ n → n < to
+        → list_any (meets bench.now.kept.windows bench.now.kept.pages bench.now.kept.timeline n (machine_state bench.now.kept n)) conditions.now ≡ false }
+    ensures recorded { result ≡ true → 0 < length conditions.now → to / K ≤ checkpoints bench.now }
+{
+    let mut rest = conditions;
+    while let [first, others @ ..] = rest {
+        if !shows_none(bench, *first, from, to) {
+            return false;
+        }
+        rest = others;
+    }
+    true
+}
+
+/// The same. Where there is no condition each step is wanted.
+fn show_none<const NW: usize, const PAGES: usize, const K: u32>(
+    bench: &Bench<NW, PAGES, K>,
+    conditions: &[Condition],
+    from: u32,
+    to: u32,
+) -> bool
+    requires inside { are_inside (ram_size PAGES) conditions.now ≡ true }
+    ensures none { result ≡ true → (n : ℕ) → from ≤ n → n < to → is_wanted bench.now.kept conditions.now n ≡ false }
+    ensures recorded { result ≡ true → to / K ≤ checkpoints bench.now }
+{
+    match conditions {
+        [] => false,
+        [_, ..] => each_shows_none(bench, conditions, from, to),
+    }
+}
+
 /// Adds the steps of an interval, which ends below a step, that meet a condition, from the last one down, and at most so many
-/// of them; answers how many more may follow.
+/// of them; answers how many more may follow. It makes no step where the notes show that none of them meets one.
 ///
 /// # Errors
 ///
@@ -289,9 +375,12 @@ fn search_interval<const NW: usize, const PAGES: usize, const K: u32>(
     ensures found { OnOk result (found.new.items ≡ found.old.items ++ map (found_at bench.old.kept)
         (take most (reverse (rising (is_wanted bench.old.kept conditions.now) start (end - start) (end - start))))) }
     ensures left { IfOk result (λ left. left ≡ most - length (rising (is_wanted bench.old.kept conditions.now) start (end - start) (end - start))) }
-    ensures searched { OnOk result (IsSearched K start end bench.old bench.new) }
+    ensures sought { OnOk result (IsPassedOrSearched K start end bench.old bench.new) }
     ensures given_up { IsAbandoned K start end bench.old bench.new }
 {
+    if show_none(bench, conditions, start, end) {
+        return Ok(most);
+    }
     let mut seen = Vec::new(bench.alloc());
     search_up(bench, conditions, start, end, end - start, &mut seen)?;
     let left = add_falling(found, seen.as_slice(), most)?;

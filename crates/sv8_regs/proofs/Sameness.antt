@@ -1,5 +1,7 @@
 -- Registers that are the same, field by field.
-use Rattle.std.proofs.Common.{Bool, true, false, MatchBool, ◌≡◌, ◌==◌, ◌&&◌, not, refl, sym, ◌∙◌}
+use Rattle.std.proofs.Common.{Bool, true, false, MatchBool, ◌≡◌, ◌≢◌, ◌==◌, ◌&&◌, ◌⊎◌, inl, inr, ℕ, ◌+◌, ◌-◌, ◌*◌, ◌<◌, ◌≤◌, nat_lt, List, length, get_or, not, refl, sym, ◌∙◌, subst, arith}
+use Rattle.std.proofs.lemmas.Bool.{ltb-true, ltb-false}
+use Rattle.std.proofs.lemmas.Grind.{same_number_lists}
 use Rattle.std.proofs.lemmas.Bool.{not-false}
 use Rattle.std.proofs.lemmas.Bool.Decides.{Decides-eqb}
 use Rattle.std.proofs.Math.Bool.{beq}
@@ -48,3 +50,35 @@ same_fields u v s t us vt globals cwp psr wim tbr y =
     sym us
     ∙ (λ i. record { globals = globals i; ring = u.ring; cwp = cwp i; psr = psr i; wim = wim i; tbr = tbr i; y = y i })
     ∙ (λ i. record (vt i) { ring = (us i).ring })
+
+-- ---- the ring, window by window
+
+either : (a b : Bool) → (a && b) ≡ false → (a ≡ false) ⊎ (b ≡ false)
+either true b e = inr e
+either false b e = inl refl
+
+-- the registers below a window are the same, and those of the window
+pub window_more : (xs ys : List ℕ) (window : ℕ) (same next : Bool)
+    → (same ≡ true → (k : ℕ) → k < 16 * window → get_or xs k 0 ≡ get_or ys k 0)
+    → (next ≡ true → (k : ℕ) → k < 16 → get_or xs (16 * window + k) 0 ≡ get_or ys (16 * window + k) 0)
+    → (same && next) ≡ true → (k : ℕ) → k < 16 * (window + 1) → get_or xs k 0 ≡ get_or ys k 0
+window_more xs ys window same next below here e k within = go (nat_lt k (16 * window)) refl where
+  go : (b : Bool) → nat_lt k (16 * window) ≡ b → get_or xs k 0 ≡ get_or ys k 0
+  go true t = below (both same next e).0 k (ltb-true k (16 * window) t)
+  go false t =
+      let past : 16 * window ≤ k = ltb-false k (16 * window) t in
+      let at : 16 * window + (k - 16 * window) ≡ k = omega (arith, past) in
+      subst (λ n. get_or xs n 0 ≡ get_or ys n 0) at (here (both same next e).1 (k - 16 * window) (omega (arith, past, within)))
+
+-- one of them is another one
+pub window_unlike : (xs ys : List ℕ) (same next : Bool) → (same ≡ false → xs ≢ ys) → (next ≡ false → xs ≢ ys) → (same && next) ≡ false → xs ≢ ys
+window_unlike xs ys same next below here e = go (either same next e) where
+  go : (same ≡ false) ⊎ (next ≡ false) → xs ≢ ys
+  go (inl f) = below f
+  go (inr f) = here f
+
+-- all are looked at
+pub all_alike : (xs ys : List ℕ) (size : ℕ) (same : Bool) → length xs ≡ size → length ys ≡ size
+    → (same ≡ true → (k : ℕ) → k < size → get_or xs k 0 ≡ get_or ys k 0) → (same ≡ false → xs ≢ ys) → MatchBool same (xs ≡ ys) (xs ≢ ys)
+all_alike xs ys size true one other alike unlike = same_number_lists xs ys (one ∙ sym other) (λ k below. alike refl k (omega (arith, below, one)))
+all_alike xs ys size false one other alike unlike = unlike refl

@@ -89,7 +89,7 @@ impl<const NW: usize> Model for Regs<NW> {
 }
 
 impl<const NW: usize> Regs<NW> {
-    ghost use Rattle.std.specs.Prelude.{◌≡◌, ◌≢◌, ◌<◌, ◌≤◌, ◌^◌, ◌%◌, ◌*◌, MatchBool, length, slice_index};
+    ghost use Rattle.std.specs.Prelude.{◌≡◌, ◌≢◌, ◌<◌, ◌≤◌, ◌^◌, ◌%◌, ◌*◌, ◌+◌, ℕ, true, false, MatchBool, length, slice_index, get_or};
     ghost use Rattle.sv8_regs.specs.Ring.{read, write, reset};
     ghost use Rattle.sv8_model.specs.Words.{bit};
     ghost use Rattle.sv8_regs.specs.Control.{packed_psr, unpacked_psr, window_field, kept_mask, with_base, with_trap_type, below, above, condition_codes, with_condition_codes};
@@ -157,17 +157,33 @@ impl<const NW: usize> Regs<NW> {
         self.tbr == other.tbr && self.y == other.y
     }
 
-    /// Whether the registers of all windows are the same.
+    /// Whether the registers of all windows are the same. All are looked at, so that the machine that it runs on compares
+    /// several at a time.
     fn has_same_windows(&self, other: &Regs<NW>) -> bool
         ensures { MatchBool result (self.now.ring ≡ other.now.ring) (self.now.ring ≢ other.now.ring) }
     {
+        let _whole = self.ring_len();
         let _as_many = other.ring_len();
-        for place in 0..self.ring_len() {
-            if self.word(place) != other.word(place) {
-                return false;
-            }
+        let mut same = true;
+        for window in 0..NW {
+            same &= self.has_same_window(other, window);
         }
-        true
+        same
+    }
+
+    /// Whether the outs and the locals of a window are the same.
+    #[inline(always)]
+    fn has_same_window(&self, other: &Regs<NW>, window: usize) -> bool
+        requires { window < NW }
+        ensures alike { result ≡ true → (k : ℕ) → k < 16 → get_or self.now.ring (16 * window + k) 0 ≡ get_or other.now.ring (16 * window + k) 0 }
+        ensures unlike { result ≡ false → self.now.ring ≢ other.now.ring }
+    {
+        let mut same = true;
+        for column in 0..16 {
+            let place = 16 * window + column;
+            same &= self.word(place) == other.word(place);
+        }
+        same
     }
 
     /// How many words the ring has.

@@ -1,6 +1,6 @@
 -- One step more of a draft, and a draft that has led to a checkpoint.
 use Rattle.std.proofs.Common.{◌≡◌, ℕ, ◌+◌, ◌*◌, ◌<◌, ◌&&◌, ◌==◌, List, [], ◌∷◌, ◌++◌, length, cond, Some, None, is_some, Result, Ok, Err, refl, sym, ◌∙◌, ap, subst, arith}
-use Rattle.std.specs.Prelude.{IfOk, OnOk}
+use Rattle.std.specs.Prelude.{OnOk}
 use Rattle.std.proofs.lemmas.List.{length-append}
 use Rattle.sv8_model.specs.Cells.{Cell}
 use Rattle.sv8_time.specs.Schedule.{Schedule}
@@ -68,9 +68,9 @@ module _ (windows pages k : ℕ) (pos : 0 < k) (schedule : Schedule) (old new : 
 
 -- ---- by what the end of a draft answers
 
-pub if_finished : {A E : Type 0} (r : Result A E) (F G : A → Type 0) (P Q : Type 0) → IfOk r F → OnOk r P → OnOk r Q → ((x : A) → F x → P → Q → G x) → IfOk r G
-if_finished (Ok x) F G P Q f p q h = h x f p q
-if_finished (Err e) F G P Q f p q h = tt
+pub when_finished : {A E : Type 0} (r : Result A E) (F P Q R : Type 0) → OnOk r F → OnOk r P → OnOk r Q → (F → P → Q → R) → OnOk r R
+when_finished (Ok x) F P Q R f p q h = h f p q
+when_finished (Err e) F P Q R f p q h = tt
 
 pub on_finished : {A E : Type 0} (r : Result A E) (P Q R : Type 0) → OnOk r P → OnOk r Q → (P → Q → R) → OnOk r R
 on_finished (Ok x) P Q R p q h = h p q

@@ -18,3 +18,4 @@ pub mod Preparing
 pub mod Committing
 pub mod Editing
 pub mod Common
+pub mod Untouched

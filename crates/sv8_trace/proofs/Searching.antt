@@ -21,7 +21,7 @@ module _ (windows pages k : ℕ) (pos : 0 < k) (r : Recording) (sought : Sought)
   met n = is_met sought ((trace_of windows pages k r).notes n)
 
   -- step n by its interval
-  at : (i j : ℕ) (notes : Steps) → j < k → notes ≡ (get_or r.intervals i no_interval).notes → met (k * i + j) ≡ is_met sought (footprint_in notes j)
+  pub at : (i j : ℕ) (notes : Steps) → j < k → notes ≡ (get_or r.intervals i no_interval).notes → met (k * i + j) ≡ is_met sought (footprint_in notes j)
   at i j notes h is =
       let d : (k * i + j) / k ≡ i = ap (λ x. (x + j) / k) (mul_comm k i) ∙ div-mul-add i k j h in
       let m : (k * i + j) % k ≡ j = ap (λ x. (x + j) % k) (mul_comm k i) ∙ mod-mul-add i k j h in

@@ -7,6 +7,7 @@ pub mod Recorder
 pub mod Recording
 pub mod Drafts
 pub mod Marks
+pub mod Touching
 pub mod Patch
 pub mod PageRuns
 pub mod Prepared

@@ -8,6 +8,7 @@ ghost use Rattle.sv8_trace.specs.Cells.{cell_of};
 ghost use Rattle.sv8_trace.specs.Marks.{mark_of, IsUntouched};
 ghost use Rattle.sv8_trace.specs.Steps.{Gains, IsFirstBelow, footprint_in, is_among, is_asked_in, is_word_of, has_word, no_steps};
 ghost use Rattle.sv8_trace.specs.Sought.{is_met, sought_word};
+ghost use Rattle.sv8_trace.specs.Touching.{is_from_to, is_note_in, are_notes_in, touches_any};
 
 use crate::cell::Cell;
 use crate::marks::Marks;
@@ -129,6 +130,37 @@ fn first_of_word(notes: &[WordNote], address: u32, from: u32, end: u32) -> Optio
         found = lesser(found, note.first(address, from, end));
     }
     found
+}
+
+/// Whether a number is one of those from one to another.
+fn is_from_to(low: u32, last: u32, number: u32) -> bool
+    ensures { result ≡ is_from_to low last number }
+{
+    low <= number && number <= last
+}
+
+impl WordNote {
+    /// Whether it is of a word whose address is from one to another, at a step from one offset on and below another.
+    fn is_in(&self, low: u32, last: u32, from: u32, end: u32) -> bool
+        ensures { result ≡ is_note_in low last from end self.now }
+    {
+        (self.address % 4 == 0 && is_from_to(low, last, self.address))
+            && (from <= self.offset && self.offset < end)
+    }
+}
+
+/// Whether one of some notes is.
+fn are_in(notes: &[WordNote], low: u32, last: u32, from: u32, end: u32) -> bool
+    ensures { result ≡ are_notes_in low last from end notes.now }
+{
+    let mut rest = notes;
+    while let [note, after @ ..] = rest {
+        if note.is_in(low, last, from, end) {
+            return true;
+        }
+        rest = after;
+    }
+    false
 }
 
 /// Marks the words of notes with a number, unless their marks are greater.
@@ -336,5 +368,11 @@ impl Notes {
             ),
             Sought::Input => first_among(&self.inputs, from, end),
         }
+    }
+    /// Whether a step from one offset on and below another touches a word whose address is from one to another.
+    pub(crate) fn touches_any(&self, low: u32, last: u32, from: u32, end: u32) -> bool
+        ensures { result ≡ touches_any low last from end self.now }
+    {
+        are_in(&self.reads, low, last, from, end) || are_in(&self.writes, low, last, from, end)
     }
 }

@@ -161,9 +161,9 @@ fn record_step<const NW: usize, const PAGES: usize>(
     Ok(machine)
 }
 
-/// The same, and `watch` has the notes of the step.
+/// The same, where the machine stands, and `watch` has the notes of the step.
 pub(crate) fn record_watched<const NW: usize, const PAGES: usize>(
-    machine: Machine<NW, PAGES>,
+    machine: &mut Machine<NW, PAGES>,
     timeline: &Timeline,
     n: u32,
     offset: u32,
@@ -171,31 +171,31 @@ pub(crate) fn record_watched<const NW: usize, const PAGES: usize>(
     interval: &mut Interval,
     watch: &mut Watch,
     work: &mut Work,
-) -> Result<Machine<NW, PAGES>, AllocError>
+) -> Result<(), AllocError>
     requires few_windows { NW ≤ 32 }
     requires few_pages { PAGES ≤ 65536 }
     requires limit { timeline.now.limit ≡ ram_size PAGES }
-    requires delivered { machine.memory.taken ≤ bytes_below n timeline.now.inputs }
+    requires delivered { machine.old.memory.taken ≤ bytes_below n timeline.now.inputs }
     requires offset { offset < 1000000 }
     requires free { (c : model.Cell) → kept_in offset c interval.old.kept ≡ None }
-    ensures state { IfOk result (λ m. m ≡ step NW PAGES timeline.now n machine.entry) }
-    ensures delivered { IfOk result (λ m. m.memory.taken ≤ bytes_below (n + 1) timeline.now.inputs) }
-    ensures watched { OnOk result (watch.new ≡ record { touches = footprint NW PAGES timeline.now n machine.entry; observations = observed NW PAGES timeline.now n machine.entry }) }
-    ensures gained { OnOk result (Gains offset (told (footprint NW PAGES timeline.now n machine.entry)) interval.old.notes interval.new.notes) }
+    ensures state { OnOk result (machine.new ≡ step NW PAGES timeline.now n machine.old) }
+    ensures delivered { OnOk result (machine.new.memory.taken ≤ bytes_below (n + 1) timeline.now.inputs) }
+    ensures watched { OnOk result (watch.new ≡ record { touches = footprint NW PAGES timeline.now n machine.old; observations = observed NW PAGES timeline.now n machine.old }) }
+    ensures gained { OnOk result (Gains offset (told (footprint NW PAGES timeline.now n machine.old)) interval.old.notes interval.new.notes) }
     ensures kept { OnOk result ((j : ℕ) (c : model.Cell) → kept_in j c interval.new.kept
-        ≡ cond (is_touched (told (footprint NW PAGES timeline.now n machine.entry)) c) None
-        (cond (j == offset && is_some (poke_of c (event_at timeline.now n))) (Some (get c machine.entry)) (kept_in j c interval.old.kept))) }
+        ≡ cond (is_touched (told (footprint NW PAGES timeline.now n machine.old)) c) None
+        (cond (j == offset && is_some (poke_of c (event_at timeline.now n))) (Some (get c machine.old)) (kept_in j c interval.old.kept))) }
     ensures counted { OnOk result (work.new ≡ counted work.old) }
     ensures uncounted { OnErr result (work.new ≡ work.old ⊎ work.new ≡ counted work.old) }
 {
     touches.clear();
     watch.clear();
-    keep_below(&mut interval.kept, &machine, timeline, n, offset)?;
-    let machine = machine.watch(n, timeline, watch, work)?;
+    keep_below(&mut interval.kept, machine, timeline, n, offset)?;
+    machine.watch(n, timeline, watch, work)?;
     watch.tell(touches)?;
     interval.notes.note_step(touches.touches(), offset)?;
     interval.kept.forget(touches.touches());
-    Ok(machine)
+    Ok(())
 }
 
 /// Makes so many steps from the machine of step n on, and records them. `touches` and `draft` are places for what is gathered

@@ -13,6 +13,7 @@ mod edits;
 mod placing;
 mod preparing;
 mod search;
+mod touching;
 
 use crate::finished::Finished;
 use crate::interval::Interval;

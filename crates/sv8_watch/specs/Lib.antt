@@ -1,3 +1,4 @@
 pub mod Happening
 pub mod Conditions
 pub mod Watched
+pub mod Touching

@@ -3,9 +3,11 @@
 ghost use Rattle.std.specs.Prelude.{◌≡◌, ◌≤◌, ◌+◌, List, length};
 ghost use Rattle.sv8_phys.specs.Memory.{ram_size};
 ghost use Rattle.sv8_cpu.specs.State.{State};
+ghost use Rattle.sv8_watch.specs.Watched.{IsBefore, happening_of};
 ghost use Rattle.sv8_watch.specs.Conditions.{overlap, loads, stores, accesses, is_interrupt, is_reached, is_trap, is_trap_of, is_error, is_touched, differ_from, is_met, AreOld, IsWithin};
 
-use crate::happening::{Access, Happening, Outcome};
+use crate::happening::{Access, Outcome};
+use crate::watched::MadeStep;
 use sv8_cpu::Machine;
 use sv8_phys::{AccessKind, Touch};
 
@@ -174,34 +176,33 @@ fn differ<const NW: usize, const PAGES: usize>(
 }
 
 impl Condition {
-    /// Whether step n meets the condition. `happening` and `touches` are those of the step, and `after` is the machine
-    /// behind it. `old` are the bytes of a `Change` in front of the step; for other conditions it is not looked at.
+    /// Whether a step meets the condition. `old` are the bytes of a `Change` in front of the step; for other conditions it
+    /// is not looked at.
+    #[inline(always)]
     pub fn is_met<const NW: usize, const PAGES: usize>(
         self,
-        n: u32,
-        happening: &Happening,
-        touches: &[Touch],
+        step: &MadeStep<'_, NW, PAGES>,
         old: &[u8],
-        after: &Machine<NW, PAGES>,
     ) -> bool
         requires few_windows { NW ≤ 32 }
         requires few_pages { PAGES ≤ 65536 }
         requires within { IsWithin (ram_size PAGES) self old.now }
-        ensures { (before : State) → AreOld self old.now before → result ≡ is_met n before after.now happening.now touches.now self }
+        ensures { (before : State) → IsBefore before step.now.before → AreOld self old.now before
+            → result ≡ is_met step.now.n before step.now.after.now (happening_of before step.now) step.now.watch.now.touches self }
     {
         match self {
-            Condition::Pc(address) => happening.pc == address && happening.outcome.is_reached(),
-            Condition::Load { address, count } => loads_any(happening.access, address, count),
-            Condition::Store { address, count } => stores_any(happening.access, address, count),
-            Condition::Touch(address) => is_touched(address, touches),
-            Condition::Change { address, .. } => differ(old, address, after),
-            Condition::Trap => happening.outcome.is_trap(),
-            Condition::TrapType(tt) => happening.outcome.is_trap_of(tt),
-            Condition::Error => happening.outcome.is_error(),
-            Condition::Input => happening.taken.is_some(),
-            Condition::Output => happening.put.is_some(),
-            Condition::Event => happening.event,
-            Condition::Every(number) => number > 0 && n % number == 0,
+            Condition::Pc(address) => step.before.pc == address && step.outcome().is_reached(),
+            Condition::Load { address, count } => loads_any(step.access(), address, count),
+            Condition::Store { address, count } => stores_any(step.access(), address, count),
+            Condition::Touch(address) => is_touched(address, step.watch.touches()),
+            Condition::Change { address, .. } => differ(old, address, step.after),
+            Condition::Trap => step.outcome().is_trap(),
+            Condition::TrapType(tt) => step.outcome().is_trap_of(tt),
+            Condition::Error => step.outcome().is_error(),
+            Condition::Input => step.taken().is_some(),
+            Condition::Output => step.put().is_some(),
+            Condition::Event => step.has_event(),
+            Condition::Every(number) => number > 0 && step.n % number == 0,
         }
     }
 }

@@ -3,8 +3,11 @@
 
 mod condition;
 mod happening;
+pub mod laws;
+mod span;
 mod watched;
 
 pub use condition::{Condition, is_touched};
 pub use happening::{Access, Fetch, Happening, Outcome};
-pub use watched::Before;
+pub use span::Span;
+pub use watched::{Before, MadeStep};

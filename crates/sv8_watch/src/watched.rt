@@ -4,8 +4,8 @@ ghost use Rattle.std.specs.Prelude.{◌≡◌, ℕ, List, slice_get};
 ghost use Rattle.sv8_phys.specs.Ends.{IsEnd};
 ghost use Rattle.sv8_model.specs.Footprint.{expires};
 ghost use Rattle.sv8_cpu.specs.State.{State};
-ghost use Rattle.sv8_watch.specs.Happening.{fetch_in, access_in, trap_in, outcome_of, byte_taken, byte_put, is_some_of, stands_at, happened};
-ghost use Rattle.sv8_watch.specs.Watched.{IsBefore};
+ghost use Rattle.sv8_watch.specs.Happening.{fetch_in, access_in, trap_in, outcome_of, byte_taken, byte_put, is_some_of, stands_at};
+ghost use Rattle.sv8_watch.specs.Watched.{IsBefore, happening_of};
 
 use crate::happening::{Access, Fetch, Happening, Outcome};
 use sv8_cpu::Machine;
@@ -167,27 +167,73 @@ fn stands_at(timeline: &Timeline, n: u32) -> bool
     is_some_of(events.pokes) || (is_some_of(events.bytes) || is_some_of(events.requests))
 }
 
-impl Happening {
-    /// What happened in step n: from what was kept of the machine before it, the machine after it, and the notes of the step.
-    pub fn of<const NW: usize, const PAGES: usize>(
-        n: u32,
-        timeline: &Timeline,
-        before: Before,
-        after: &Machine<NW, PAGES>,
-        watch: &Watch,
-    ) -> Happening
-        ensures { (s : State) → IsBefore s before → result ≡ happened timeline.now n s after.now watch.now.observations (expires watch.now.touches) }
+/// A step that was made: its number, the timeline, what was kept of the machine before it, the machine after it, and its
+/// notes. What happened in it is told part by part, so that a search makes no more of it than it looks at.
+#[derive(Clone, Copy)]
+pub struct MadeStep<'a, const NW: usize, const PAGES: usize> {
+    pub n: u32,
+    pub timeline: &'a Timeline,
+    pub before: Before,
+    pub after: &'a Machine<NW, PAGES>,
+    pub watch: &'a Watch,
+}
+
+impl<'a, const NW: usize, const PAGES: usize> MadeStep<'a, NW, PAGES> {
+    /// How it ended.
+    #[inline(always)]
+    pub fn outcome(&self) -> Outcome
+        ensures { result ≡ outcome_of self.now.before.running self.now.before.annul self.now.after.now.processor.running (trap_in self.now.watch.now.observations) }
     {
-        let seen = watch.observations();
+        outcome_of(
+            self.before,
+            self.after.is_running(),
+            trap_in(self.watch.observations()),
+        )
+    }
+
+    /// The access of its instruction, where one was made.
+    #[inline(always)]
+    pub fn access(&self) -> Option<Access>
+        ensures { result ≡ access_in self.now.watch.now.observations }
+    {
+        access_in(self.watch.observations())
+    }
+
+    /// The byte that was taken from the console.
+    #[inline(always)]
+    pub fn taken(&self) -> Option<u8>
+        ensures { result ≡ byte_taken self.now.timeline.now self.now.before.taken self.now.after.now.memory.taken }
+    {
+        byte_taken(self.timeline, self.before.taken, self.after.taken())
+    }
+
+    /// The byte that was put out at the console.
+    pub fn put(&self) -> Option<u8>
+        ensures { (before : List ℕ) → IsEnd before self.now.before.put → result ≡ byte_put before self.now.after.now.memory.output }
+    {
+        byte_put(self.after, self.before.put)
+    }
+
+    /// Whether something stands in the timeline at the step.
+    pub fn has_event(&self) -> bool
+        ensures { result ≡ stands_at self.now.timeline.now self.now.n }
+    {
+        stands_at(self.timeline, self.n)
+    }
+
+    /// What happened in it.
+    pub fn happening(&self) -> Happening
+        ensures { (s : State) → IsBefore s self.now.before → result ≡ happening_of s self.now }
+    {
         Happening {
-            pc: before.pc,
-            fetch: fetch_in(seen),
-            outcome: outcome_of(before, after.is_running(), trap_in(seen)),
-            access: access_in(seen),
-            taken: byte_taken(timeline, before.taken, after.taken()),
-            put: byte_put(after, before.put),
-            expired: expires(watch.touches()),
-            event: stands_at(timeline, n),
+            pc: self.before.pc,
+            fetch: fetch_in(self.watch.observations()),
+            outcome: self.outcome(),
+            access: self.access(),
+            taken: self.taken(),
+            put: self.put(),
+            expired: expires(self.watch.touches()),
+            event: self.has_event(),
         }
     }
 }

@@ -3,8 +3,8 @@ from __future__ import annotations
 
 from pathlib import Path
 
+from ..asking.monitor import Monitor
 from .listing import Listing
-from .monitor import Monitor
 from .packets import PACKET_SIZE, Bad, numbers
 from .symbols import elf
 

@@ -4,10 +4,10 @@ from __future__ import annotations
 from collections.abc import Sequence
 from dataclasses import dataclass
 
+from ..asking.monitor import Monitor
 from .conditions import NotKnown, holds
 from .machine import Machine, Made
 from .memory import Memory, Unreadable
-from .monitor import Monitor
 from .registers import values
 
 # How often a condition may ask for memory by what it found there.

@@ -5,7 +5,8 @@ from bisect import bisect_left, bisect_right
 from dataclasses import dataclass
 from functools import cached_property
 
-from .monitor import Monitor
+from ..asking.monitor import Monitor
+
 
 
 @dataclass(frozen=True)

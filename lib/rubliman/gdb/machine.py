@@ -3,7 +3,7 @@ from __future__ import annotations
 
 from dataclasses import dataclass
 
-from .monitor import Monitor
+from ..asking.monitor import Monitor
 
 # Where, among the words of `regs`, the values of its last six lines stand, and how many.
 _ROWS = ((18, 8), (27, 8), (36, 8), (45, 8), (54, 5), (60, 4))

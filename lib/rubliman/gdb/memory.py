@@ -7,7 +7,7 @@ from __future__ import annotations
 import re
 from collections.abc import Iterator, Sequence
 
-from .monitor import Monitor, Refused
+from ..asking.monitor import Monitor, Refused
 
 _PAGE = 4096
 # RAM is read by blocks, since GDB reads one word after the other. So many are remembered.

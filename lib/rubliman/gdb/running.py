@@ -4,10 +4,10 @@ from __future__ import annotations
 from collections.abc import Callable, Iterable
 from dataclasses import dataclass, field, replace
 
+from ..asking.monitor import Monitor
 from .judging import holding
 from .machine import Machine, Made, made
 from .memory import Memory
-from .monitor import Monitor
 from .points import Kind, Points
 from .stops import Stop, begun, broken, caught, dead, ended, failed, interrupted
 from .watching import Watched, Watcher

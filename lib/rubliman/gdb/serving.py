@@ -7,12 +7,11 @@ import tempfile
 from contextlib import closing
 from pathlib import Path
 
-from .monitor import Gone, Monitor, Refused, lines_behind
+from ..asking.monitor import Monitor, Refused
+from ..asking.program import Gone
+from ..asking.script import QUESTIONS, commands
 from .packets import Connection
 from .stub import Stub
-
-# What a script asks is of no use here.
-_QUESTIONS = frozenset("list regs mem out steps windows where names events before part differ".split())
 
 
 def serve(program: Path | str, windows: str, script: str | None) -> int:
@@ -33,19 +32,15 @@ def serve(program: Path | str, windows: str, script: str | None) -> int:
 
 def enter(monitor: Monitor, script: str) -> None:
     """Gives a script's edits to the monitor, up to `quit`. What is refused is told, with the line."""
-    lines = [it.removesuffix("\r") for it in Path(script).read_bytes().decode("latin-1").split("\n")]
-    at = 0
-    while at < len(lines):
-        number, command, wanted = at + 1, lines[at], lines_behind(lines[at])
-        words, given = command.split(), lines[at + 1 : at + 1 + wanted]
-        at += 1 + wanted
-        if words == ["quit"]:
+    for command in commands(Path(script).read_bytes().decode("latin-1")):
+        if command.words == ["quit"]:
             return
-        if not words or words[0] in _QUESTIONS:
+        # What a script asks is of no use here.
+        if not command.words or command.words[0] in QUESTIONS:
             continue
         try:
-            if len(given) < wanted:
+            if not command.is_whole:
                 raise Refused("refused 18 BadCommand")
-            monitor.ask("\n".join([command, *given]))
+            monitor.ask(command.text())
         except Refused as refused:
-            sys.stderr.write(f"{script}:{number}: {refused}\n")
+            sys.stderr.write(f"{script}:{command.number}: {refused}\n")

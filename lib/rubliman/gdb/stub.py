@@ -5,11 +5,11 @@ import re
 from collections.abc import Callable
 from pathlib import Path
 
+from ..asking.monitor import Monitor, Refused
 from . import registers
 from .files import SYMBOLS, Files
 from .machine import Machine
 from .memory import Memory, Unreadable
-from .monitor import Monitor, Refused
 from .packets import PACKET_SIZE, Bad, Connection, Ended, numbers
 from .points import Points
 from .running import Runner

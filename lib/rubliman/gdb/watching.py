@@ -3,8 +3,8 @@ from __future__ import annotations
 
 from dataclasses import dataclass, field
 
+from ..asking.monitor import Monitor, Refused
 from .memory import Memory, Unreadable
-from .monitor import Monitor, Refused
 from .points import Kind, Point, Points
 
 _CONDITIONS = {Kind.WRITE: ("change",), Kind.READ: ("load",), Kind.ACCESS: ("load", "store")}

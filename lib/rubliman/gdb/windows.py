@@ -5,8 +5,8 @@ one on, up to the one that WIM marks (section 4.3 of the manual, and the SPARC A
 """
 from __future__ import annotations
 
+from ..asking.monitor import Monitor
 from .machine import Machine
-from .monitor import Monitor
 
 _CWP = 31
 

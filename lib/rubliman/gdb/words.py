@@ -5,9 +5,10 @@ import re
 from collections.abc import Callable
 from dataclasses import dataclass, field
 
+from ..asking.monitor import CHANGES, LAST_STEP, MOST_LINES, Monitor, Refused
+from ..asking.script import lines_behind
 from .machine import Machine
 from .memory import Memory
-from .monitor import CHANGES, LAST_STEP, MOST_LINES, Monitor, Refused, lines_behind
 from .running import Catches
 
 HELP = """goto N, goto +N, goto -N   go to a step

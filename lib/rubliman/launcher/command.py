@@ -21,6 +21,8 @@ Words of ./sparc8 itself, each the first:
   --gdb [--windows N] [SCRIPT] [-- WORD ..]
                                       GDB on the machine of a script, back and forth; WORDs are GDB's; docs/GDB.md
   --gdb-stub [--windows N] [SCRIPT]   what GDB speaks to then, for editors that start GDB themselves
+  --page [--windows N] [--no-open] [FILE]
+                                      the run of a source or a script in a browser, and its past changed; docs/PAGE.md
   --import FILE .. [-o OUT] ..        makes a source of a real program; --import --help tells more, docs/IMPORT.md all
   --install PREFIX                    installs the proved programs, the importer and the manual pages below PREFIX
   --check                             tells what stands here: version, sources, proved or not, by what and when
@@ -46,6 +48,7 @@ def _workbench(words: Sequence[str]) -> int:
         "--unproved": _unproved,
         "--gdb": _gdb,
         "--gdb-stub": _gdb_stub,
+        "--page": _page,
         "--install": _install,
         "--check": _check,
         "--program": _program,
@@ -232,6 +235,21 @@ def _gdb_stub(words: Sequence[str]) -> int:
 
     settings = read(words)
     return serve(program, settings.windows, settings.script)
+
+
+def _page(words: Sequence[str]) -> int:
+    """A page over the proved monitor, until it is interrupted. Words behind `--` are no words of its own."""
+    from rubliman.page.command import NO_OPEN, run
+
+    at = list(words).index("--") if "--" in words else len(words)
+    own = [it for it in words[:at] if it != NO_OPEN] + list(words[at:])
+    status = _answered(WORKBENCH, own)
+    if status is not None:
+        return status
+    from .words import read
+
+    settings = read(own)
+    return run(_proved_program(MONITOR), settings.windows, settings.script, NO_OPEN not in words[:at])
 
 
 def _import(words: Sequence[str]) -> int:

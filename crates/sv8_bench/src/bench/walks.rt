@@ -1,12 +1,12 @@
 //! Walks through the steps of the run, one by one, so that each can be watched.
 
-ghost use Rattle.std.specs.Prelude.{◌≡◌, ℕ, ◌+◌, ◌-◌, ◌*◌, ◌/◌, ◌%◌, ◌<◌, ◌≤◌, ◌⊎◌, length, max, IfOk, OnOk, OnErr};
+ghost use Rattle.std.specs.Prelude.{◌≡◌, ℕ, ◌+◌, ◌-◌, ◌*◌, ◌/◌, ◌%◌, ◌<◌, ◌≤◌, ◌⊎◌, true, max, IfOk, OnOk, OnErr};
 ghost use Rattle.sv8_cpu.specs.Run.{footprint, observed};
 ghost use Rattle.sv8_trace.specs.Drafts.{IsDraft};
 ghost use Rattle.sv8_trace.specs.Recorder.{counted_by, RaisedUpTo};
 ghost use Rattle.sv8_trace.specs.Recording.{recorded};
 ghost use Rattle.sv8_bench.specs.Shown.{machine_state};
-ghost use Rattle.sv8_bench.specs.Walks.{state_in, HasRoom, IsWalk, IsMade, IsUnmade};
+ghost use Rattle.sv8_bench.specs.Walks.{HasRoom, IsReady, IsWalk, IsMade, IsUnmade};
 ghost use Rattle.sv8_bench.specs.Workbench.{checkpoints, IsAnswered, IsGivenUp};
 
 use crate::bench::Bench;
@@ -33,8 +33,8 @@ impl<const NW: usize, const PAGES: usize, const K: u32> Bench<NW, PAGES, K> {
     {
         let _trace = &self.trace;
         self.record_below(step)?;
-        let begun = self.restored(step)?;
-        let walk = self.walk_to(begun, step, watch)?;
+        let mut walk = self.restored(step)?;
+        self.walk_to(&mut walk, step, watch)?;
         Ok(walk)
     }
 
@@ -43,69 +43,133 @@ impl<const NW: usize, const PAGES: usize, const K: u32> Bench<NW, PAGES, K> {
     ///
     /// # Errors
     ///
-    /// `AllocError` where memory for the step or its record cannot be had. The walk is given up, and the recorded run is as
-    /// it was.
+    /// `AllocError` where memory for the step or its record cannot be had. The walk is given up: where it stands is not
+    /// said. The recorded run is as it was.
+    #[inline(always)]
     pub fn walk_on(
         &mut self,
-        walk: Walk<NW, PAGES>,
+        walk: &mut Walk<NW, PAGES>,
         watch: &mut Watch,
-    ) -> Result<Walk<NW, PAGES>, AllocError>
-        requires walk { IsWalk K self.old walk }
-        requires within { walk.step < 1000000 }
-        ensures walk { IfOk result (λ w. IsWalk K self.new w) }
-        ensures step { IfOk result (λ w. w.step ≡ walk.entry.step + 1) }
+    ) -> Result<(), AllocError>
+        requires walk { IsWalk K self.old walk.old }
+        requires within { walk.old.step < 1000000 }
+        ensures walk { OnOk result (IsWalk K self.new walk.new) }
+        ensures step { OnOk result (walk.new.step ≡ walk.old.step + 1) }
         ensures touches { OnOk result (watch.new.touches
-            ≡ footprint self.old.kept.windows self.old.kept.pages self.old.kept.timeline walk.entry.step (machine_state self.old.kept walk.entry.step)) }
+            ≡ footprint self.old.kept.windows self.old.kept.pages self.old.kept.timeline walk.old.step (machine_state self.old.kept walk.old.step)) }
         ensures observations { OnOk result (watch.new.observations
-            ≡ observed self.old.kept.windows self.old.kept.pages self.old.kept.timeline walk.entry.step (machine_state self.old.kept walk.entry.step)) }
-        ensures made { OnOk result (IsMade K walk.entry.step self.old self.new) }
+            ≡ observed self.old.kept.windows self.old.kept.pages self.old.kept.timeline walk.old.step (machine_state self.old.kept walk.old.step)) }
+        ensures made { OnOk result (IsMade K walk.old.step self.old self.new) }
         ensures unmade { OnErr result (IsUnmade self.old self.new) }
     {
-        let Walk { step, place } = walk;
+        self.make_ready(walk)?;
+        self.make_next::<true>(walk, watch)
+    }
+
+    /// The same with nothing seen of the step, which takes less time. `watch` is a place for notes, which mean nothing
+    /// afterwards.
+    ///
+    /// # Errors
+    ///
+    /// Those of `walk_on`.
+    #[inline(always)]
+    pub fn walk_past(
+        &mut self,
+        walk: &mut Walk<NW, PAGES>,
+        watch: &mut Watch,
+    ) -> Result<(), AllocError>
+        requires walk { IsWalk K self.old walk.old }
+        requires within { walk.old.step < 1000000 }
+        ensures walk { OnOk result (IsWalk K self.new walk.new) }
+        ensures step { OnOk result (walk.new.step ≡ walk.old.step + 1) }
+        ensures made { OnOk result (IsMade K walk.old.step self.old self.new) }
+        ensures unmade { OnErr result (IsUnmade self.old self.new) }
+    {
+        self.make_ready(walk)?;
+        self.make_next::<false>(walk, watch)
+    }
+
+    /// Has a walk stand where its next step can be made: on the record of the steps since the last checkpoint, where the
+    /// step is above that and another checkpoint can follow, else on the machine alone.
+    #[inline(always)]
+    fn make_ready(&self, walk: &mut Walk<NW, PAGES>) -> Result<(), AllocError>
+        requires walk { IsWalk K self.now walk.old }
+        ensures walk { OnOk result (IsWalk K self.now walk.new) }
+        ensures step { OnOk result (walk.new.step ≡ walk.old.step) }
+        ensures ready { OnOk result (IsReady K self.now walk.new.step walk.new.place) }
+    {
         let recorded = self.trace.recorded();
         let has_room = recorded + K <= LAST_STEP;
-        match place {
-            Place::Restored(machine) => {
-                if step < recorded || !has_room {
-                    return self.step_restored(machine, step, watch);
+        match &walk.place {
+            Place::Restored(_) => {
+                if walk.step < recorded || !has_room {
+                    return Ok(());
                 }
                 let draft = self.trace.draft(self.alloc)?;
-                self.step_drafted(draft, step, watch)
+                walk.place = Place::Drafted(draft);
             }
             Place::Drafted(draft) => {
-                if !has_room {
-                    let machine = draft.machine().snapshot(self.alloc)?;
-                    return self.step_restored(machine, step, watch);
+                if has_room {
+                    return Ok(());
                 }
-                self.step_drafted(draft, step, watch)
+                let machine = draft.machine().snapshot(self.alloc)?;
+                walk.place = Place::Restored(machine);
             }
         }
+        Ok(())
+    }
+
+    /// Makes the next step of a walk that stands where it can be made.
+    #[inline(always)]
+    fn make_next<const SEEN: bool>(
+        &mut self,
+        walk: &mut Walk<NW, PAGES>,
+        watch: &mut Watch,
+    ) -> Result<(), AllocError>
+        requires walk { IsWalk K self.old walk.old }
+        requires within { walk.old.step < 1000000 }
+        requires ready { IsReady K self.old walk.old.step walk.old.place }
+        ensures walk { OnOk result (IsWalk K self.new walk.new) }
+        ensures step { OnOk result (walk.new.step ≡ walk.old.step + 1) }
+        ensures touches { OnOk result (SEEN ≡ true → watch.new.touches
+            ≡ footprint self.old.kept.windows self.old.kept.pages self.old.kept.timeline walk.old.step (machine_state self.old.kept walk.old.step)) }
+        ensures observations { OnOk result (SEEN ≡ true → watch.new.observations
+            ≡ observed self.old.kept.windows self.old.kept.pages self.old.kept.timeline walk.old.step (machine_state self.old.kept walk.old.step)) }
+        ensures made { OnOk result (IsMade K walk.old.step self.old self.new) }
+        ensures unmade { OnErr result (IsUnmade self.old self.new) }
+    {
+        let step = walk.step;
+        match &mut walk.place {
+            Place::Restored(machine) => self.step_restored::<SEEN>(machine, step, watch)?,
+            Place::Drafted(draft) => self.step_drafted(draft, step, watch)?,
+        }
+        walk.step = step + 1;
+        Ok(())
     }
 
     /// Makes the steps of a walk up to another one, all of them below the next checkpoint.
     fn walk_to(
         &mut self,
-        walk: Walk<NW, PAGES>,
+        walk: &mut Walk<NW, PAGES>,
         step: u32,
         watch: &mut Watch,
-    ) -> Result<Walk<NW, PAGES>, AllocError>
-        requires walk { IsWalk K self.old walk }
-        requires ordered { walk.step ≤ step }
+    ) -> Result<(), AllocError>
+        requires walk { IsWalk K self.old walk.old }
+        requires ordered { walk.old.step ≤ step }
         requires within { step ≤ 1000000 }
         requires recorded { step / K ≤ checkpoints self.old }
-        ensures walk { IfOk result (λ w. IsWalk K self.new w) }
-        ensures step { IfOk result (λ w. w.step ≡ step) }
+        ensures walk { OnOk result (IsWalk K self.new walk.new) }
+        ensures step { OnOk result (walk.new.step ≡ step) }
         ensures kept { self.new.kept ≡ self.old.kept }
         ensures recorded { checkpoints self.new ≡ checkpoints self.old }
-        ensures counted { OnOk result (self.new.worked ≡ counted_by (step - walk.entry.step) self.old.worked) }
-        ensures raised { RaisedUpTo (step - walk.entry.step) self.old.worked self.new.worked }
+        ensures counted { OnOk result (self.new.worked ≡ counted_by (step - walk.old.step) self.old.worked) }
+        ensures raised { RaisedUpTo (step - walk.old.step) self.old.worked self.new.worked }
     {
         let _trace = &self.trace;
-        let mut walk = walk;
         while walk.step() < step {
-            walk = self.walk_on(walk, watch)?;
+            self.walk_past(walk, watch)?;
         }
-        Ok(walk)
+        Ok(())
     }
 
     /// Records the run up to the last checkpoint that is not above a step, where it is not recorded so far.
@@ -142,46 +206,49 @@ impl<const NW: usize, const PAGES: usize, const K: u32> Bench<NW, PAGES, K> {
     }
 
     /// Makes a step of which nothing is recorded, since it is recorded already or no checkpoint can follow.
-    fn step_restored(
+    #[inline(always)]
+    fn step_restored<const SEEN: bool>(
         &mut self,
-        machine: Machine<NW, PAGES>,
+        machine: &mut Machine<NW, PAGES>,
         step: u32,
         watch: &mut Watch,
-    ) -> Result<Walk<NW, PAGES>, AllocError>
+    ) -> Result<(), AllocError>
         requires within { step < 1000000 }
-        requires state { machine ≡ machine_state self.old.kept step }
+        requires state { machine.old ≡ machine_state self.old.kept step }
         requires placed { (step < recorded K self.old.recording) ⊎ (1000000 < recorded K self.old.recording + K) }
-        ensures walk { IfOk result (λ w. IsWalk K self.new w) }
-        ensures step { IfOk result (λ w. w.step ≡ step + 1) }
-        ensures touches { OnOk result (watch.new.touches
+        ensures state { OnOk result (machine.new ≡ machine_state self.new.kept (step + 1)) }
+        ensures placed { OnOk result ((step + 1 ≤ recorded K self.new.recording) ⊎ (1000000 < recorded K self.new.recording + K)) }
+        ensures touches { OnOk result (SEEN ≡ true → watch.new.touches
             ≡ footprint self.old.kept.windows self.old.kept.pages self.old.kept.timeline step (machine_state self.old.kept step)) }
-        ensures observations { OnOk result (watch.new.observations
+        ensures observations { OnOk result (SEEN ≡ true → watch.new.observations
             ≡ observed self.old.kept.windows self.old.kept.pages self.old.kept.timeline step (machine_state self.old.kept step)) }
         ensures made { OnOk result (IsMade K step self.old self.new) }
         ensures unmade { OnErr result (IsUnmade self.old self.new) }
     {
-        watch.clear();
-        let machine = machine.watch(step, &self.timeline, watch, &mut self.work)?;
-        Ok(Walk {
-            step: step + 1,
-            place: Place::Restored(machine),
-        })
+        if SEEN {
+            watch.clear();
+            machine.watch(step, &self.timeline, watch, &mut self.work)?;
+        } else {
+            machine.pass(step, &self.timeline, &mut self.work)?;
+        }
+        Ok(())
     }
 
     /// Makes a step above the last checkpoint. If it leads to the next one, it is recorded with those since the last one.
     fn step_drafted(
         &mut self,
-        draft: Draft<NW, PAGES>,
+        draft: &mut Draft<NW, PAGES>,
         step: u32,
         watch: &mut Watch,
-    ) -> Result<Walk<NW, PAGES>, AllocError>
+    ) -> Result<(), AllocError>
         requires within { step < 1000000 }
-        requires state { draft.state ≡ machine_state self.old.kept step }
+        requires state { draft.old.state ≡ machine_state self.old.kept step }
         requires room { HasRoom K self.old.recording }
-        requires draft { IsDraft self.old.kept.windows self.old.kept.pages K self.old.kept.timeline self.old.recording draft }
-        requires step { step ≡ recorded K self.old.recording + draft.count }
-        ensures walk { IfOk result (λ w. IsWalk K self.new w) }
-        ensures step { IfOk result (λ w. w.step ≡ step + 1) }
+        requires draft { IsDraft self.old.kept.windows self.old.kept.pages K self.old.kept.timeline self.old.recording draft.old }
+        requires step { step ≡ recorded K self.old.recording + draft.old.count }
+        ensures state { OnOk result (draft.new.state ≡ machine_state self.new.kept (step + 1)) }
+        ensures draft { OnOk result (IsDraft self.new.kept.windows self.new.kept.pages K self.new.kept.timeline self.new.recording draft.new) }
+        ensures step { OnOk result (step + 1 ≡ recorded K self.new.recording + draft.new.count) }
         ensures touches { OnOk result (watch.new.touches
             ≡ footprint self.old.kept.windows self.old.kept.pages self.old.kept.timeline step (machine_state self.old.kept step)) }
         ensures observations { OnOk result (watch.new.observations
@@ -190,12 +257,8 @@ impl<const NW: usize, const PAGES: usize, const K: u32> Bench<NW, PAGES, K> {
         ensures unmade { OnErr result (IsUnmade self.old self.new) }
     {
         let alloc = self.alloc;
-        let draft = self
-            .trace
+        self.trace
             .watch_step(alloc, draft, &self.timeline, watch, &mut self.work)?;
-        Ok(Walk {
-            step: step + 1,
-            place: Place::Drafted(draft),
-        })
+        Ok(())
     }
 }

@@ -37,85 +37,72 @@ impl<const NW: usize, const PAGES: usize, const K: u32> Trace<NW, PAGES, K> {
     }
 
     /// Makes the next step of a draft under a timeline, and notes in `watch` what it touches and what is seen of it. The
-    /// step that leads to a checkpoint is recorded with those of the draft, and the next draft begins there.
+    /// step that leads to a checkpoint is recorded with those of the draft, which then begins anew there.
     ///
     /// # Errors
     ///
     /// `AllocError` where memory for the step or its record cannot be had. The trace is then as it was, and the draft is
-    /// given up; `work` counts the step if it was made.
+    /// given up: what it has is not said. `work` counts the step if it was made.
     pub fn watch_step(
         &mut self,
         alloc: Global,
-        draft: Draft<NW, PAGES>,
+        draft: &mut Draft<NW, PAGES>,
         timeline: &Timeline,
         watch: &mut Watch,
         work: &mut Work,
-    ) -> Result<Draft<NW, PAGES>, AllocError>
+    ) -> Result<(), AllocError>
         requires limit { timeline.now.limit ≡ ram_size PAGES }
         requires room { recorded K self.old + K ≤ 1000000 }
-        requires draft { IsDraft NW PAGES K timeline.now self.old draft }
-        requires delivered { draft.state.memory.taken ≤ bytes_below (recorded K self.old + draft.count) timeline.now.inputs }
-        ensures state { IfOk result (λ d. d.state ≡ step NW PAGES timeline.now (recorded K self.old + draft.entry.count) draft.entry.state) }
-        ensures delivered { IfOk result (λ d. d.state.memory.taken ≤ bytes_below (recorded K self.old + draft.entry.count + 1) timeline.now.inputs) }
-        ensures touches { OnOk result (watch.new.touches ≡ footprint NW PAGES timeline.now (recorded K self.old + draft.entry.count) draft.entry.state) }
-        ensures observations { OnOk result (watch.new.observations ≡ observed NW PAGES timeline.now (recorded K self.old + draft.entry.count) draft.entry.state) }
-        ensures draft { IfOk result (λ d. IsDraft NW PAGES K timeline.now self.new d) }
-        ensures step { IfOk result (λ d. recorded K self.new + d.count ≡ recorded K self.old + draft.entry.count + 1) }
-        ensures within { OnOk result (draft.entry.count + 1 < K → self.new ≡ self.old) }
-        ensures extended { OnOk result (draft.entry.count + 1 ≡ K → IsExtended NW PAGES K timeline.now self.old self.new) }
+        requires draft { IsDraft NW PAGES K timeline.now self.old draft.old }
+        requires delivered { draft.old.state.memory.taken ≤ bytes_below (recorded K self.old + draft.old.count) timeline.now.inputs }
+        ensures state { OnOk result (draft.new.state ≡ step NW PAGES timeline.now (recorded K self.old + draft.old.count) draft.old.state) }
+        ensures delivered { OnOk result (draft.new.state.memory.taken ≤ bytes_below (recorded K self.old + draft.old.count + 1) timeline.now.inputs) }
+        ensures touches { OnOk result (watch.new.touches ≡ footprint NW PAGES timeline.now (recorded K self.old + draft.old.count) draft.old.state) }
+        ensures observations { OnOk result (watch.new.observations ≡ observed NW PAGES timeline.now (recorded K self.old + draft.old.count) draft.old.state) }
+        ensures draft { OnOk result (IsDraft NW PAGES K timeline.now self.new draft.new) }
+        ensures step { OnOk result (recorded K self.new + draft.new.count ≡ recorded K self.old + draft.old.count + 1) }
+        ensures within { OnOk result (draft.old.count + 1 < K → self.new ≡ self.old) }
+        ensures extended { OnOk result (draft.old.count + 1 ≡ K → IsExtended NW PAGES K timeline.now self.old self.new) }
         ensures counted { OnOk result (work.new ≡ counted work.old) }
         ensures uncounted { OnErr result (work.new ≡ work.old ⊎ work.new ≡ counted work.old) }
         ensures refused { OnErr result (self.new ≡ self.old) }
     {
-        let Draft {
-            machine,
-            interval,
-            count,
-        } = draft;
-        let mut interval = interval;
+        let count = draft.count;
         let n = K * self.intervals.len() as u32 + count;
-        let touches = &mut self.touches;
-        let machine = record_watched(
-            machine,
+        record_watched(
+            &mut draft.machine,
             timeline,
             n,
             count,
-            touches,
-            &mut interval,
+            &mut self.touches,
+            &mut draft.interval,
             watch,
             work,
         )?;
-        let count = count + 1;
-        if count < K {
-            return Ok(Draft {
-                machine,
-                interval,
-                count,
-            });
+        draft.count = count + 1;
+        if draft.count < K {
+            return Ok(());
         }
-        self.finish_draft(alloc, machine, interval)
+        self.finish_draft(alloc, draft)
     }
 
-    /// Records steps that have led to a checkpoint, which is this machine. The next draft begins there.
+    /// Records the steps of a draft, which have led to a checkpoint. The draft begins anew there.
     fn finish_draft(
         &mut self,
         alloc: Global,
-        machine: Machine<NW, PAGES>,
-        interval: Interval,
-    ) -> Result<Draft<NW, PAGES>, AllocError>
+        draft: &mut Draft<NW, PAGES>,
+    ) -> Result<(), AllocError>
         requires room { recorded K self.old + K ≤ 1000000 }
-        ensures points { OnOk result (self.new.points ≡ self.old.points ++ machine.entry ∷ []) }
-        ensures intervals { OnOk result (self.new.intervals ≡ self.old.intervals ++ interval ∷ []) }
-        ensures fresh { IfOk result (λ d. d ≡ record { state = machine.entry; interval = no_interval; count = 0 }) }
+        ensures points { OnOk result (self.new.points ≡ self.old.points ++ draft.old.state ∷ []) }
+        ensures intervals { OnOk result (self.new.intervals ≡ self.old.intervals ++ draft.old.interval ∷ []) }
+        ensures fresh { OnOk result (draft.new ≡ record { state = draft.old.state; interval = no_interval; count = 0 }) }
         ensures refused { OnErr result (self.new ≡ self.old) }
     {
-        let next = machine.snapshot(alloc)?;
-        let interval_kept = interval.copy()?;
-        self.add(alloc, machine, interval_kept)?;
-        Ok(Draft {
-            machine: next,
-            interval: Interval::new(alloc),
-            count: 0,
-        })
+        let reached = draft.machine.snapshot(alloc)?;
+        let interval = draft.interval.copy()?;
+        self.add(alloc, reached, interval)?;
+        draft.interval.clear();
+        draft.count = 0;
+        Ok(())
     }
 }

@@ -17,7 +17,7 @@ use crate::trace::{NO_END, Trace};
 
 impl<const NW: usize, const PAGES: usize, const K: u32> Trace<NW, PAGES, K> {
     /// A step at which what is sought is done no more, nor at any later one that is recorded.
-    fn end_of(&self, sought: Sought) -> u32
+    pub(crate) fn end_of(&self, sought: Sought) -> u32
         ensures end { result ≤ recorded K self.now }
         ensures none { (n : ℕ) → result ≤ n → n < recorded K self.now → is_met sought ((trace_of NW PAGES K self.now).notes n) ≡ false }
     {

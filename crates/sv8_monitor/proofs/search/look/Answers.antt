@@ -10,15 +10,15 @@ use Rattle.sv8_monitor.proofs.search.look.Goals as goal
 pub returns-clause-found : goal.returns-clause-found
 returns-clause-found g c =
     let kept = c.args.bench.now.kept in
-    let n = c.args.walk.step in
+    let n = c.args.walk.now.step in
     let s = machine_state kept n in
     let here : c.machine.result.now ≡ s = c.machine.ensures ∙ c.requires.walk.state in
     let before : IsBefore s c.of-before.result = subst (λ (x : State). IsBefore x c.of-before.result) here c.of-before.ensures in
-    let made = c.in_ok-walk.ensures.made in
-    let walk = c.in_ok-walk.ensures.walk in
-    let there : state_in c.in_ok-walk.walk.place ≡ machine_state kept (n + 1) =
-    walk.state ∙ ap (λ (k : Kept). machine_state k c.in_ok-walk.walk.step) made.kept ∙ ap (machine_state kept) c.in_ok-walk.ensures.step in
-    looked_found kept n c.step-n.result c.timeline.result.now c.machine-2.result.now c.machine-3.result.now c.walk_on.new.watch.observations c.walk_on.new.watch.touches c.touches.result.now
-    c.of-happening.result c.args.conditions.now c.is_wanted-wanted.result c.then_some-found.result c.step-n.ensures (c.timeline.ensures ∙ ap (λ (k : Kept). k.timeline) made.kept)
-    (c.machine-2.ensures ∙ there) (c.machine-3.ensures ∙ there) c.in_ok-walk.ensures.observations c.in_ok-walk.ensures.touches c.touches.ensures (c.of-happening.ensures s before)
-    (c.is_wanted-wanted.ensures s (c.as_slice.ensures.value ∙ c.requires.bytes)) c.then_some-found.ensures
+    let made = c.in_ok-walk_on.ensures.made in
+    let walk = c.in_ok-walk_on.ensures.walk in
+    let there : state_in c.walk_on.new.walk.place ≡ machine_state kept (n + 1) =
+    walk.state ∙ ap (λ (k : Kept). machine_state k c.walk_on.new.walk.step) made.kept ∙ ap (machine_state kept) c.in_ok-walk_on.ensures.step in
+    looked_found kept n c.step-n.result c.timeline.result.now c.machine-2.result.now c.walk_on.new.watch.observations c.walk_on.new.watch.touches
+    c.args.conditions.now c.found_in-next.result c.step-n.ensures (c.timeline.ensures ∙ ap (λ (k : Kept). k.timeline) made.kept)
+    (c.machine-2.ensures ∙ there) c.in_ok-walk_on.ensures.observations c.in_ok-walk_on.ensures.touches
+    (c.found_in-next.ensures s before (c.as_slice.ensures.value ∙ c.requires.bytes))

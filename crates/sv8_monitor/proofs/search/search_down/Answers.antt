@@ -3,7 +3,7 @@ use Rattle.sv8_bench.specs.Kept.{Kept}
 use Rattle.sv8_bench.specs.Workbench.{checkpoints}
 use Rattle.sv8_monitor.specs.Search.{found_at, is_wanted, rising, falling, sought_to}
 use Rattle.sv8_monitor.proofs.Falling.{falling_next, sought_next, all_fallen, lowest_sought}
-use Rattle.sv8_monitor.proofs.Sought.{divided, within_interval, interval_down, sought_down, sought_abandoned}
+use Rattle.sv8_monitor.proofs.Sought.{divided, within_interval, interval_sought, sought_down, sought_abandoned}
 use Rattle.sv8_monitor.proofs.search.search_down.Goals as goal
 
 pub loop-end-init : goal.loop-end-init
@@ -33,8 +33,10 @@ loop-end-preserved g c =
     let next = c.in_ok-left.left in
     let size = end - start in
     let from_start = c.interval_start-start.ensures in
-    let searched = c.in_ok-left.ensures.searched in
-    let recorded = searched.recorded in
+    let lower = interval_sought k c.args.from to pos c.args.bench.now c.loop-end.bench c.search_interval.new.bench end start c.loop-end-test.true inv.high from_start inv.down
+    c.in_ok-left.ensures.sought in
+    let more = lower.fewest in
+    let most = lower.most in
     let below = divided k end c.args.from pos inv.high in
     let rest : next ≡ left - length (rising wanted start size size) =
     c.in_ok-left.ensures.left ∙ ap (λ (x : Kept). left - length (rising (is_wanted x cs) start size size)) inv.kept in
@@ -44,11 +46,10 @@ loop-end-preserved g c =
     record {
       low = from_start.low;
       high = omega (arith, from_start.below, inv.high);
-      kept = searched.kept ∙ inv.kept;
-      fewest = omega (arith, inv.fewest, recorded);
-      most = omega (arith, inv.most, recorded, below);
-      down = interval_down k c.args.from to pos (checkpoints c.args.bench.now) c.args.bench.now.worked end (checkpoints c.loop-end.bench) c.loop-end.bench.worked start
-          (checkpoints c.search_interval.new.bench) c.search_interval.new.bench.worked c.loop-end-test.true inv.high from_start inv.down recorded searched.worked;
+      kept = lower.kept ∙ inv.kept;
+      fewest = omega (arith, inv.fewest, more);
+      most = omega (arith, inv.most, most, below);
+      down = lower.down;
       found = falling_next wanted to start end left next from_start.low from_start.below rest (found_at kept) c.loop-end.found.items c.search_interval.new.found.items all found inv.found;
       sought = sought_next wanted to start end left next from_start.low from_start.below rest k pos c.if-left-gt0.true (within_interval k to end start pos from_start) ∙ inv.sought;
     }

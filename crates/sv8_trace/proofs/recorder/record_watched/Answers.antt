@@ -10,9 +10,9 @@ use Rattle.sv8_trace.proofs.recorder.record_watched.Goals as goal
 
 pub returns-clause-kept : goal.returns-clause-kept
 returns-clause-kept g c = λ j cell.
-    let touched = footprint g.row.NW g.row.PAGES c.args.timeline.now c.args.n c.args.machine in
+    let touched = footprint g.row.NW g.row.PAGES c.args.timeline.now c.args.n c.args.machine.now in
     let ts = told touched in
-    let watched : c.watch.new.notes.touches ≡ touched = ap (λ (n : Notes). n.touches) c.in_ok-machine.ensures.noted ∙ ap (λ (n : Notes). n.touches ++ touched) c.clear-2.ensures in
+    let watched : c.watch.new.notes.touches ≡ touched = ap (λ (n : Notes). n.touches) c.in_ok-watch.ensures.noted ∙ ap (λ (n : Notes). n.touches ++ touched) c.clear-2.ensures in
     let handed : c.tell.new.notes ≡ ts = ap (λ (n : Notes). n.touches) c.in_ok-tell.ensures.ok ∙ ap (λ l. l ++ told c.watch.new.notes.touches) c.clear.ensures ∙ ap told watched in
     let seen : c.touches-2.result.now ≡ ts = c.touches-2.ensures ∙ handed in
     ap (kept_in j cell) (c.forget.ensures ∙ ap (λ us. filter (λ k. not (is_touched us (cell_of k.cell))) c.keep_below.new.kept) seen)

@@ -16,7 +16,7 @@ watch_step-requires g c =
     let k = g.row.K in
     let inv = c.self.invariant in
     let n = c.args.step in
-    let d = c.args.draft in
+    let d = c.args.draft.now in
     let kept : Kept = record { windows = g.row.NW; pages = g.row.PAGES; source = c.self.inside.source; timeline = c.self.inside.timeline } in
     let state : d.state ≡ machine_state kept n = c.requires.state ∙ sym (ap (λ (w : Workbench). machine_state w.kept n) c.self.view_is) in
     let room : recorded k c.self.inside.trace + k ≤ 1000000 = subst (λ (w : Workbench). recorded k w.recording + k ≤ 1000000) (sym c.self.view_is) c.requires.room in
@@ -30,7 +30,7 @@ pub invariant_of-self : goal.invariant_of-self
 invariant_of-self g c =
     let inv = c.self.invariant in
     let kept : Kept = record { windows = g.row.NW; pages = g.row.PAGES; source = c.self.inside.source; timeline = c.self.inside.timeline } in
-    let run = run_same g.row.K kept c.self.inside.trace c.watch_step.new.self c.self.inside.work c.watch_step.new.work inv.8 c.in_err-draft.ensures.refused in
+    let run = run_same g.row.K kept c.self.inside.trace c.watch_step.new.self c.self.inside.work c.watch_step.new.work inv.8 c.in_err-watch_step.ensures.refused in
     (inv.0, inv.1, inv.2, inv.3, inv.4, inv.5, inv.6, inv.7, run)
 
 pub invariant_of-self-2 : goal.invariant_of-self-2
@@ -38,41 +38,36 @@ invariant_of-self-2 g c =
     let k = g.row.K in
     let inv = c.self.invariant in
     let kept : Kept = record { windows = g.row.NW; pages = g.row.PAGES; source = c.self.inside.source; timeline = c.self.inside.timeline } in
-    let further = drafted_further g.row.NW g.row.PAGES k c.args.draft.count c.self.inside.timeline c.self.inside.trace c.watch_step.new.self inv.4 c.requires.draft.few c.in_ok-draft.ensures.within
-    c.in_ok-draft.ensures.extended in
+    let further = drafted_further g.row.NW g.row.PAGES k c.args.draft.now.count c.self.inside.timeline c.self.inside.trace c.watch_step.new.self inv.4 c.requires.draft.few c.in_ok-watch_step.ensures.within
+    c.in_ok-watch_step.ensures.extended in
     let run = run_further k inv.4 kept c.self.inside.trace c.watch_step.new.self c.self.inside.work c.watch_step.new.work inv.8 further in
     (inv.0, inv.1, inv.2, inv.3, inv.4, inv.5, inv.6, inv.7, run)
 
-pub returns-clause-walk : goal.returns-clause-walk
-returns-clause-walk g c =
+pub returns-clause-state : goal.returns-clause-state
+returns-clause-state g c =
     let k = g.row.K in
     let n = c.args.step in
-    let d = c.args.draft in
+    let d = c.args.draft.now in
     let kept : Kept = record { windows = g.row.NW; pages = g.row.PAGES; source = c.self.inside.source; timeline = c.self.inside.timeline } in
     let state : d.state ≡ machine_state kept n = c.requires.state ∙ sym (ap (λ (w : Workbench). machine_state w.kept n) c.self.view_is) in
     let step_is : n ≡ recorded k c.self.inside.trace + d.count = subst (λ (w : Workbench). n ≡ recorded k w.recording + d.count) (sym c.self.view_is) c.requires.step in
-    let next = c.in_ok-draft.ensures.state ∙ ap (λ m. step g.row.NW g.row.PAGES c.self.inside.timeline m d.state) (sym step_is) in
-    let later = c.in_ok-draft.ensures.step in
-    record {
-      within = omega (arith, c.requires.within);
-      state = state_next kept n d.state _ state next;
-      placed = (c.in_ok-draft.ensures.draft, omega (arith, later, step_is));
-    }
+    let next = c.in_ok-watch_step.ensures.state ∙ ap (λ m. step g.row.NW g.row.PAGES c.self.inside.timeline m d.state) (sym step_is) in
+    state_next kept n d.state _ state next
 
 pub returns-clause-made : goal.returns-clause-made
 returns-clause-made g c =
     let k = g.row.K in
     let n = c.args.step in
-    let d = c.args.draft in
+    let d = c.args.draft.now in
     let old = length c.self.inside.trace.intervals in
     let now = length c.watch_step.new.self.intervals in
     let kept : Kept = record { windows = g.row.NW; pages = g.row.PAGES; source = c.self.inside.source; timeline = c.self.inside.timeline } in
     let step_is : n ≡ k * old + d.count = subst (λ (w : Workbench). n ≡ recorded k w.recording + d.count) (sym c.self.view_is) c.requires.step in
-    let later = c.in_ok-draft.ensures.step in
+    let later = c.in_ok-watch_step.ensures.step in
     subst
     (λ (w : Workbench). IsMade k n w (with_record kept c.watch_step.new.self c.watch_step.new.work)) c.self.view_is
     (record {
       kept = refl;
-      recorded = one_more k old now d.count _ n c.self.invariant.4 c.requires.draft.few (sym step_is) c.in_ok-draft.ensures.draft.few (omega (arith, later, step_is));
-      worked = c.in_ok-draft.ensures.counted;
+      recorded = one_more k old now d.count _ n c.self.invariant.4 c.requires.draft.few (sym step_is) c.in_ok-watch_step.ensures.draft.few (omega (arith, later, step_is));
+      worked = c.in_ok-watch_step.ensures.counted;
     })

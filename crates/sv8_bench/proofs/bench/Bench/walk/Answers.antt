@@ -15,8 +15,8 @@ returns-in_err-record_below-clause-given_up g c =
       worked = (raised.0, omega (arith, raised.1, few), raised.2);
     }
 
-pub returns-in_err-begun-clause-given_up : goal.returns-in_err-begun-clause-given_up
-returns-in_err-begun-clause-given_up g c =
+pub returns-in_err-walk-clause-given_up : goal.returns-in_err-walk-clause-given_up
+returns-in_err-walk-clause-given_up g c =
     let raised = c.record_below.ensures.raised in
     let few = query_extends g.row.K (checkpoints c.args.self.now) c.args.step in
     record {
@@ -26,19 +26,19 @@ returns-in_err-begun-clause-given_up g c =
       worked = (raised.0, omega (arith, raised.1, few), raised.2);
     }
 
-pub returns-in_err-walk-clause-given_up : goal.returns-in_err-walk-clause-given_up
-returns-in_err-walk-clause-given_up g c =
+pub returns-in_err-walk_to-clause-given_up : goal.returns-in_err-walk_to-clause-given_up
+returns-in_err-walk_to-clause-given_up g c =
     let k = g.row.K in
     let n = c.args.step in
     let old = checkpoints c.args.self.now in
-    let few = n - c.in_ok-begun.begun.step in
+    let few = n - c.in_ok-walk.walk.step in
     let all = query_steps k old (checkpoints c.record_below.new.self) n c.self.invariant.4 c.in_ok-record_below.ensures.recorded in
     record {
       kept = c.walk_to.ensures.kept ∙ c.record_below.ensures.kept;
       fewest = omega (arith, c.walk_to.ensures.recorded, c.record_below.ensures.fewest);
       most = omega (arith, c.walk_to.ensures.recorded, c.record_below.ensures.most);
       worked = raised_more (k * (n / k - old)) few (n - restored k old n) c.args.self.now.worked c.record_below.new.self.worked c.walk_to.new.self.worked c.in_ok-record_below.ensures.counted
-          c.walk_to.ensures.raised (omega (arith, all, c.in_ok-begun.ensures.step));
+          c.walk_to.ensures.raised (omega (arith, all, c.in_ok-walk.ensures.step));
     }
 
 pub returns-clause-answered : goal.returns-clause-answered
@@ -46,13 +46,13 @@ returns-clause-answered g c =
     let k = g.row.K in
     let n = c.args.step in
     let old = checkpoints c.args.self.now in
-    let few = n - c.in_ok-begun.begun.step in
+    let few = n - c.in_ok-walk.walk.step in
     let all = query_steps k old (checkpoints c.record_below.new.self) n c.self.invariant.4 c.in_ok-record_below.ensures.recorded in
     record {
       kept = c.walk_to.ensures.kept ∙ c.record_below.ensures.kept;
       recorded = c.walk_to.ensures.recorded ∙ c.in_ok-record_below.ensures.recorded;
       worked = counted_more few (k * (n / k - old)) (n - restored k old n) c.args.self.now.worked c.record_below.new.self.worked c.walk_to.new.self.worked c.in_ok-record_below.ensures.counted
-          c.in_ok-walk.ensures.counted (omega (arith, all, c.in_ok-begun.ensures.step));
+          c.in_ok-walk_to.ensures.counted (omega (arith, all, c.in_ok-walk.ensures.step));
     }
 
 pub returns-clause-given_up : goal.returns-clause-given_up
@@ -60,12 +60,12 @@ returns-clause-given_up g c =
     let k = g.row.K in
     let n = c.args.step in
     let old = checkpoints c.args.self.now in
-    let few = n - c.in_ok-begun.begun.step in
+    let few = n - c.in_ok-walk.walk.step in
     let all = query_steps k old (checkpoints c.record_below.new.self) n c.self.invariant.4 c.in_ok-record_below.ensures.recorded in
     record {
       kept = c.walk_to.ensures.kept ∙ c.record_below.ensures.kept;
       fewest = omega (arith, c.walk_to.ensures.recorded, c.record_below.ensures.fewest);
       most = omega (arith, c.walk_to.ensures.recorded, c.record_below.ensures.most);
       worked = raised_more (k * (n / k - old)) few (n - restored k old n) c.args.self.now.worked c.record_below.new.self.worked c.walk_to.new.self.worked c.in_ok-record_below.ensures.counted
-          c.walk_to.ensures.raised (omega (arith, all, c.in_ok-begun.ensures.step));
+          c.walk_to.ensures.raised (omega (arith, all, c.in_ok-walk.ensures.step));
     }

@@ -4,26 +4,26 @@ use Rattle.sv8_bench.specs.Workbench.{checkpoints}
 use Rattle.sv8_bench.proofs.Walking.{none_more, step_counted, raised_tried}
 use Rattle.sv8_bench.proofs.bench.Bench.walk_to.Goals as goal
 
-pub returns-in_err-walk-clause-raised : goal.returns-in_err-walk-clause-raised
-returns-in_err-walk-clause-raised g c =
+pub returns-in_err-walk_past-clause-raised : goal.returns-in_err-walk_past-clause-raised
+returns-in_err-walk_past-clause-raised g c =
     let inv = c.loop-self.invariant in
-    raised_tried c.loop-self.walk.step c.args.walk.step c.args.step c.args.self.now.worked c.loop-self.self.worked c.walk_on.new.self.worked inv.begun
-    (omega (arith, c.loop-self-test.true, c.step.ensures)) inv.counted c.in_err-walk.ensures.unmade.worked
+    raised_tried c.loop-self.walk.step c.args.walk.now.step c.args.step c.args.self.now.worked c.loop-self.self.worked c.walk_past.new.self.worked inv.begun
+    (omega (arith, c.loop-self-test.true, c.step.ensures)) inv.counted c.in_err-walk_past.ensures.unmade.worked
 
 pub loop-self-preserved : goal.loop-self-preserved
 loop-self-preserved g c =
     let inv = c.loop-self.invariant in
     let n = c.loop-self.walk.step in
-    let from = c.args.walk.step in
-    let made = c.in_ok-walk.ensures.made in
-    let next = c.in_ok-walk.ensures.step in
+    let from = c.args.walk.now.step in
+    let made = c.in_ok-walk_past.ensures.made in
+    let next = c.in_ok-walk_past.ensures.step in
     let first = c.args.self.now.worked in
     record {
-      walk = c.in_ok-walk.ensures.walk;
+      walk = c.in_ok-walk_past.ensures.walk;
       begun = omega (arith, inv.begun, next);
       below = omega (arith, c.loop-self-test.true, c.step.ensures, next);
       kept = made.kept ∙ inv.kept;
       recorded = made.recorded ∙ ap (λ x. max x ((n + 1) / g.row.K)) inv.recorded
           ∙ none_more g.row.K (checkpoints c.args.self.now) n c.args.step c.self.invariant.4 (omega (arith, c.loop-self-test.true, c.step.ensures)) c.requires.recorded;
-      counted = step_counted n from first c.loop-self.self.worked c.walk_on.new.self.worked inv.begun inv.counted made.worked ∙ ap (λ m. counted_by (m - from) first) (sym next);
+      counted = step_counted n from first c.loop-self.self.worked c.walk_past.new.self.worked inv.begun inv.counted made.worked ∙ ap (λ m. counted_by (m - from) first) (sym next);
     }

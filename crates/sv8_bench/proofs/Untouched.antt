@@ -1,0 +1,97 @@
+-- A range of recorded steps that leaves some bytes of RAM alone.
+use Rattle.std.proofs.Common.{◌≡◌, ℕ, ◌+◌, ◌<◌, ◌≤◌, Bool, true, false, not, MatchBool, Option, Some, None, List, [], ◌∷◌, length, get_or, refl, sym, ◌∙◌, ap, ap₂, arith}
+use Rattle.std.specs.Prelude.{◌&&◌, ◌||◌, is_some}
+use Rattle.std.proofs.lemmas.List.Folds.{list_any-append}
+use Rattle.std.proofs.lemmas.Bool.{true≢false}
+use Rattle.sv8_model.specs.Cells.{ram_byte}
+use Rattle.sv8_history.specs.Machine.{touches_of}
+use Rattle.sv8_time.specs.declared.words.WordPoke.{WordPoke}
+use Rattle.sv8_time.specs.Words.{poked_from, poked_bytes, bytes_of_words}
+use Rattle.sv8_cpu.specs.Recorded.{machine}
+use Rattle.sv8_cpu.specs.Run.{footprint}
+use Rattle.sv8_cpu.specs.Touching.{touches_byte, is_within, pokes_any}
+use Rattle.sv8_cpu.proofs.Common.{footprint_is}
+use Rattle.sv8_trace.specs.Recording.{recorded, trace_of}
+use Rattle.sv8_trace.specs.Touching.{NoneTouches}
+use Rattle.sv8_bench.specs.Shown.{machine_state}
+use Rattle.sv8_bench.specs.Workbench.{Workbench, IsRun}
+use Rattle.sv8_bench.specs.Touching.{NonePokes, IsUntouched}
+
+-- ---- poked bytes
+
+module _ (address count : ℕ) where
+  abbrev is_one : Option ℕ → ℕ → Bool
+  is_one b at = is_some b && is_within address count at
+
+  first_byte : (step at : ℕ) (b : Option ℕ) (bs : List (Option ℕ)) → pokes_any address count (poked_from step at (b ∷ bs)) ≡ (is_one b at || pokes_any address count (poked_from step (at + 1) bs))
+  first_byte step at None bs = refl
+  first_byte step at (Some value) bs = refl
+
+  last_byte : (b : Bool) → (b || false) ≡ b
+  last_byte true = refl
+  last_byte false = refl
+
+  pub of_four : (step at : ℕ) (a b c d : Option ℕ) → pokes_any address count (poked_from step at (a ∷ b ∷ c ∷ d ∷ [])) ≡ (is_one a at || (is_one b (at + 1) || (is_one c (at + 2) || is_one d (at + 3))))
+  of_four step at a b c d =
+      let second : at + 1 + 1 ≡ at + 2 = omega arith in
+      let third : at + 1 + 1 + 1 ≡ at + 3 = omega arith in
+      first_byte step at a (b ∷ c ∷ d ∷ [])
+      ∙ ap (λ x. is_one a at || x) (first_byte step (at + 1) b (c ∷ d ∷ [])
+      ∙ ap (λ x. is_one b (at + 1) || x) (first_byte step (at + 1 + 1) c (d ∷ [])
+      ∙ ap₂ (λ x y. is_one c x || y) second (first_byte step (at + 1 + 1 + 1) d [] ∙ last_byte (is_one d (at + 1 + 1 + 1)) ∙ ap (is_one d) third)))
+
+-- the four bytes of a word
+pub four_bytes : (address count : ℕ) (w : WordPoke) → length w.bytes ≡ 4 → pokes_any address count (poked_bytes w)
+    ≡ (is_some (get_or w.bytes 0 None) && is_within address count w.address || (is_some (get_or w.bytes 1 None) && is_within address count (w.address + 1)
+    || (is_some (get_or w.bytes 2 None) && is_within address count (w.address + 2) || is_some (get_or w.bytes 3 None) && is_within address count (w.address + 3))))
+four_bytes address count w e = go w.bytes e
+  where
+    go : (bytes : List (Option ℕ)) → length bytes ≡ 4 → pokes_any address count (poked_from w.step w.address bytes)
+        ≡ (is_some (get_or bytes 0 None) && is_within address count w.address || (is_some (get_or bytes 1 None) && is_within address count (w.address + 1)
+        || (is_some (get_or bytes 2 None) && is_within address count (w.address + 2) || is_some (get_or bytes 3 None) && is_within address count (w.address + 3))))
+    go (a ∷ b ∷ c ∷ d ∷ []) e = of_four address count w.step w.address a b c d
+    go [] e = absurd (omega (arith, e))
+    go (a ∷ []) e = absurd (omega (arith, e))
+    go (a ∷ b ∷ []) e = absurd (omega (arith, e))
+    go (a ∷ b ∷ c ∷ []) e = absurd (omega (arith, e))
+    go (a ∷ b ∷ c ∷ d ∷ x ∷ xs) e = absurd (omega (arith, e))
+
+pub more_words : (address count : ℕ) (w : WordPoke) (ws : List WordPoke) → pokes_any address count (bytes_of_words (w ∷ ws)) ≡ (pokes_any address count (poked_bytes w) || pokes_any address count (bytes_of_words ws))
+more_words address count w ws = list_any-append (λ p. is_within address count p.address) (poked_bytes w) (bytes_of_words ws)
+
+-- ---- the recorded steps
+
+module _ (k : ℕ) (w : Workbench) (run : IsRun k w) (address count from to : ℕ) where
+  -- the notes of a recorded step are what it touches
+  noted : (n i : ℕ) → n < recorded k w.recording
+      → touches_of (machine w.kept.windows w.kept.pages) (trace_of w.kept.windows w.kept.pages k w.recording).notes (ram_byte i) n
+      ≡ touches_byte (footprint w.kept.windows w.kept.pages w.kept.timeline n (machine_state w.kept n)) i
+  noted n i below =
+      let same = run.trace.notes n below in
+      let it = footprint_is w.kept.windows w.kept.pages w.kept.source w.kept.timeline run.events n in
+      ap₂ (λ x y. x || y) (same.reads (ram_byte i) ∙ ap (λ f. f.reads (ram_byte i)) it) (same.writes (ram_byte i) ∙ ap (λ f. f.writes (ram_byte i)) it)
+
+  pub untouched : to ≤ recorded k w.recording → NoneTouches w.kept.windows w.kept.pages k w.recording address count from to → NonePokes w.kept.timeline address count from to
+      → IsUntouched k w address count from to
+  untouched within none spared = record {
+    recorded = within;
+    spared = λ n a b. record { touched = λ i c d. sym (noted n i (omega (arith, within, b))) ∙ none n i a b c d; poked = spared n a b };
+  }
+
+  pub none_touches : IsUntouched k w address count from to → NoneTouches w.kept.windows w.kept.pages k w.recording address count from to
+  none_touches h n i a b c d = let within = h.recorded in noted n i (omega (arith, within, b)) ∙ (h.spared n a b).touched i c d
+
+  pub none_pokes : IsUntouched k w address count from to → NonePokes w.kept.timeline address count from to
+  none_pokes h n a b = (h.spared n a b).poked
+
+  -- the answer of a search through the notes, and of one through the events
+  pub answer_by_pokes : (poked : Bool) → to ≤ recorded k w.recording → NoneTouches w.kept.windows w.kept.pages k w.recording address count from to
+      → MatchBool poked (NonePokes w.kept.timeline address count from to → ⊥) (NonePokes w.kept.timeline address count from to)
+      → MatchBool (not poked) (IsUntouched k w address count from to) (IsUntouched k w address count from to → ⊥)
+  answer_by_pokes true within none h = λ it. h (none_pokes it)
+  answer_by_pokes false within none h = untouched within none h
+
+  pub answer_by_touches : (spared : Bool) → spared ≡ false → (NoneTouches w.kept.windows w.kept.pages k w.recording address count from to → ⊥)
+      → MatchBool spared (IsUntouched k w address count from to) (IsUntouched k w address count from to → ⊥)
+  answer_by_touches true e h = absurd (true≢false e)
+  answer_by_touches false e h = λ it. h (none_touches it)

@@ -1,0 +1,17 @@
+-- A range of recorded steps that leaves some bytes of RAM alone.
+use Rattle.std.specs.Prelude.{◌≡◌, ℕ, ◌<◌, ◌≤◌, false}
+use Rattle.sv8_time.specs.Schedule.{Schedule, pokes_of_step}
+use Rattle.sv8_cpu.specs.Touching.{SparesBytes, pokes_any}
+use Rattle.sv8_trace.specs.Recording.{recorded}
+use Rattle.sv8_bench.specs.Shown.{machine_state}
+use Rattle.sv8_bench.specs.Workbench.{Workbench}
+
+-- the events of no step from one on and below another poke one of so many bytes from an address on
+abbrev pub NonePokes : Schedule → (address count from to : ℕ) → Type 0
+NonePokes schedule address count from to = (n : ℕ) → from ≤ n → n < to → pokes_any address count (pokes_of_step n schedule.pokes) ≡ false
+
+-- THE STEPS FROM ONE ON AND BELOW ANOTHER ARE RECORDED, AND EACH OF THEM SPARES so many bytes from an address on: it touches none of their words, and its
+-- events poke none of them
+pub record IsUntouched (k : ℕ) (w : Workbench) (address count from to : ℕ) : Type 0 where
+  pub recorded : to ≤ recorded k w.recording
+  pub spared : (n : ℕ) → from ≤ n → n < to → SparesBytes w.kept.windows w.kept.pages w.kept.timeline n (machine_state w.kept n) address count

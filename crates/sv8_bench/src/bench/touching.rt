@@ -1,0 +1,76 @@
+//! Whether recorded steps leave bytes of RAM alone.
+
+ghost use Rattle.std.specs.Prelude.{◌≡◌, ◌+◌, ◌≤◌, MatchBool};
+ghost use Rattle.sv8_time.specs.Words.{poked_bytes, bytes_of_words};
+ghost use Rattle.sv8_cpu.specs.Touching.{is_within, pokes_any};
+ghost use Rattle.sv8_trace.specs.Touching.{NoneTouches};
+ghost use Rattle.sv8_bench.specs.Touching.{NonePokes, IsUntouched};
+
+use crate::bench::Bench;
+use sv8_time::{Timeline, WordPoke};
+
+/// Whether a byte is one of so many from an address on.
+fn is_within(address: u32, count: u32, byte: u64) -> bool
+    ensures { result ≡ is_within address count byte }
+{
+    let first = address as u64;
+    first <= byte && byte < first + count as u64
+}
+
+/// Whether one of the poked bytes of a word is one of so many from an address on.
+#[tactic(auto, using(crate::proofs::Untouched::four_bytes))]
+fn word_pokes(word: &WordPoke, address: u32, count: u32) -> bool
+    ensures { result ≡ pokes_any address count (poked_bytes word.now) }
+{
+    let at = word.address as u64;
+    let [first, second, third, fourth] = word.bytes;
+    (first.is_some() && is_within(address, count, at))
+        || ((second.is_some() && is_within(address, count, at + 1))
+            || ((third.is_some() && is_within(address, count, at + 2))
+                || (fourth.is_some() && is_within(address, count, at + 3))))
+}
+
+/// Whether one of the poked bytes of several words is.
+#[tactic(auto, using(crate::proofs::Untouched::more_words))]
+fn words_poke(words: &[WordPoke], address: u32, count: u32) -> bool
+    ensures { result ≡ pokes_any address count (bytes_of_words words.now) }
+{
+    let mut rest = words;
+    while let [word, after @ ..] = rest {
+        if word_pokes(word, address, count) {
+            return true;
+        }
+        rest = after;
+    }
+    false
+}
+
+/// Whether the events of a step from one on and below another poke one of so many bytes. A step without events is one look at a flag.
+fn pokes_between(timeline: &Timeline, address: u32, count: u32, from: u32, to: u32) -> bool
+    ensures { MatchBool result (NonePokes timeline.now address count from to → ⊥) (NonePokes timeline.now address count from to) }
+{
+    for n in from..to {
+        let events = timeline.events(n);
+        if words_poke(events.pokes, address, count) {
+            return true;
+        }
+    }
+    false
+}
+
+impl<const NW: usize, const PAGES: usize, const K: u32> Bench<NW, PAGES, K> {
+    /// Whether the steps from `from` on and below `to` are recorded, none of them touches the word of one of so many bytes of RAM from
+    /// an address on, and none of their events pokes one of these bytes. It makes no step.
+    ///
+    /// A condition on these bytes is then met by none of these steps (`spared_steps_miss` of `sv8_watch`).
+    pub fn is_untouched(&self, address: u32, count: u32, from: u32, to: u32) -> bool
+        requires within { address + count ≤ 0x1_0000_0000 }
+        ensures { MatchBool result (IsUntouched K self.now address count from to) (IsUntouched K self.now address count from to → ⊥) }
+    {
+        if to > self.trace.recorded() {
+            return false;
+        }
+        self.trace.is_untouched(address, count, from, to)
+            && !pokes_between(&self.timeline, address, count, from, to)
+    }
+}

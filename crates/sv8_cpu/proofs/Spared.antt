@@ -1,0 +1,69 @@
+-- A byte whose word is not touched, and which is not poked, stays.
+use Rattle.std.proofs.Common.{◌≡◌, ℕ, ◌+◌, ◌*◌, ◌<◌, ◌≤◌, ◌==◌, Bool, true, false, List, [], ◌∷◌, get_or, set, refl, sym, ◌∙◌, ap, arith}
+use Rattle.std.specs.Prelude.{nat_le, nat_lt, ◌&&◌, ◌||◌}
+use Rattle.std.specs.List.{list_any}
+use Rattle.std.proofs.lemmas.Bool.{true≢false}
+use Rattle.std.proofs.lemmas.Bool.Decides.{nat_tests}
+use Rattle.std.proofs.lemmas.List.{get_or-set_other}
+use Rattle.sv8_model.specs.Outside.{Outside, with_byte, with_word, word_address}
+use Rattle.sv8_model.specs.Action.{Action, done, load_word, store_word, load_byte, store_byte, take_input, count_waiting, emit, ask_levels, clear_levels, expire, observe, after, touches}
+use Rattle.sv8_model.proofs.Common.{word_other}
+use Rattle.sv8_time.specs.Schedule.{BytePoke, pokes_of_step}
+use Rattle.sv8_phys.specs.Contents.{arrived, outside_of}
+use Rattle.sv8_cpu.specs.Events.{poked, with_events}
+use Rattle.sv8_cpu.specs.Run as run
+use Rattle.sv8_cpu.specs.Touching.{is_within, pokes_any, SparedBytesStay}
+use Rattle.sv8_cpu.proofs.Touched.{is_touch_of, touched_is}
+
+-- ---- an action
+
+front_false : (a b : Bool) → (a || b) ≡ false → a ≡ false
+front_false true b h = h
+front_false false b h = refl
+
+rest_false : (a b : Bool) → (a || b) ≡ false → b ≡ false
+rest_false true b h = absurd (true≢false h)
+rest_false false b h = h
+
+word_stays : (ram : List ℕ) (k v i : ℕ) → (4 * k == word_address i) ≡ false → get_or (with_word ram k v) i 0 ≡ get_or ram i 0
+word_stays ram k v i apart = word_other ram k v i (λ e. let same : 4 * k ≡ word_address i = omega (arith, e) in grind (arith, nat_tests, same, apart))
+
+byte_stays : (ram : List ℕ) (j v i : ℕ) → (word_address j == word_address i || false) ≡ false → get_or (with_byte ram j v) i 0 ≡ get_or ram i 0
+unfolding with_byte
+byte_stays ram j v i apart =
+    get_or-set_other ram j i _ 0 (λ e. let same : word_address j ≡ word_address i = ap word_address (sym e) in grind (arith, nat_tests, same, apart))
+
+stays : {R : Type 0} (a : Action R) (o : Outside) (i : ℕ) → list_any (is_touch_of (word_address i)) (touches a o) ≡ false → get_or (after a o).ram i 0 ≡ get_or o.ram i 0
+stays (done x) o i h = refl
+stays (load_word k g) o i h = stays (g _) o i (rest_false _ _ h)
+stays (store_word k v a) o i h = stays a _ i (rest_false _ _ h) ∙ word_stays o.ram k v i (front_false _ _ h)
+stays (load_byte j g) o i h = stays (g _) o i (rest_false _ _ h)
+stays (store_byte j v a) o i h = stays a _ i (rest_false _ _ h) ∙ byte_stays o.ram j v i (front_false _ _ h)
+stays (take_input g) o i h = stays (g _) _ i h
+stays (count_waiting g) o i h = stays (g _) o i h
+stays (emit b a) o i h = stays a _ i h
+stays (ask_levels w g) o i h = stays (g _) o i h
+stays (clear_levels w a) o i h = stays a _ i h
+stays (expire a) o i h = stays a _ i h
+stays (observe s a) o i h = stays a o i h
+
+-- ---- events
+
+unpoked : (address count i : ℕ) → address ≤ i → i < address + count → (ps : List BytePoke) (ram : List ℕ) → pokes_any address count ps ≡ false
+    → get_or (poked ps ram) i 0 ≡ get_or ram i 0
+unpoked address count i low high [] ram h = refl
+unpoked address count i low high (p ∷ ps) ram h =
+    let apart = front_false (is_within address count p.address) (pokes_any address count ps) h in
+    unpoked address count i low high ps (set ram p.address p.value) (rest_false (is_within address count p.address) (pokes_any address count ps) h)
+    ∙ get_or-set_other ram p.address i p.value 0 (λ e. elsewhere p.address e apart)
+  where
+    elsewhere : (a : ℕ) → i ≡ a → (nat_le address a && nat_lt a (address + count)) ≡ false → ⊥
+    elsewhere a e none = grind (arith, nat_tests, e, none, low, high)
+
+pub spared_bytes_stay : SparedBytesStay
+unfolding run.step run.footprint with_events
+spared_bytes_stay windows pages schedule n s address count spared i low high =
+    let t = run.eventful schedule n s in
+    stays (run.step_action windows pages t) (outside_of t.memory (arrived (n + 1) schedule)) i
+    (sym (touched_is (run.touched windows pages (arrived (n + 1) schedule) t) i) ∙ spared.touched i low high)
+    ∙ unpoked address count i low high (pokes_of_step n schedule.pokes) s.memory.ram spared.poked

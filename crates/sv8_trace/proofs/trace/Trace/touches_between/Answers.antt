@@ -1,0 +1,40 @@
+use Rattle.std.proofs.Common.{◌≡◌, ◌≤◌, ◌<◌, ◌+◌, ◌-◌, ◌*◌, ◌/◌, ◌∙◌, arith, ap, sym, refl, length}
+use Rattle.std.proofs.Math.Nat.{div-add-mod, mod-lt}
+use Rattle.sv8_trace.specs.Recording.{Recording}
+use Rattle.sv8_trace.proofs.Searching.{notes_of}
+use Rattle.sv8_trace.proofs.Untouched.{none_so_far, some_there}
+use Rattle.sv8_trace.proofs.trace.Trace.touches_between.Goals as goal
+
+pub returns-then-touches_any : goal.returns-then-touches_any
+returns-then-touches_any g c =
+    let k = g.row.K in
+    let xs = c.self.inside.intervals.items in
+    let inv = c.self.invariant in
+    let pos : 0 < k = inv.3 in
+    let same = ap (λ (r : Recording). r.intervals) c.self.view_is in
+    let all : k * length c.args.self.now.intervals ≡ k * length xs = ap (λ ys. k * length ys) (sym same) in
+    let end_is : c.args.end ≤ k * length xs = omega (arith, c.requires.recorded, all) in
+    let is = c.notes-notes.ensures ∙ notes_of k c.loop-start.start c.args.end xs c.args.self.now c.index.result.now _ pos same c.loop-start-test.true end_is c.index.ensures in
+    let split = div-add-mod c.loop-start.start k in
+    let few : c.min-stop.result ≤ k = omega (arith, c.min-stop.ensures) in
+    let fits : k * (c.loop-start.start / k) + c.min-stop.result ≤ c.args.end = omega (arith, split, c.min-stop.ensures, c.loop-start-test.true) in
+    some_there g.row.NW g.row.PAGES k pos c.args.self.now c.args.address c.args.count (4 * (c.args.address / 4)) (c.args.address + (c.args.count - 1)) refl c.requires.some (omega (arith, c.requires.some))
+    c.loop-start.start c.min-stop.result c.notes-notes.result.now is few c.args.from c.args.end c.loop-start.invariant.behind fits (sym c.touches_any.ensures ∙ c.if-touches_any.true)
+
+pub loop-start-preserved : goal.loop-start-preserved
+loop-start-preserved g c =
+    let k = g.row.K in
+    let xs = c.self.inside.intervals.items in
+    let inv = c.self.invariant in
+    let pos : 0 < k = inv.3 in
+    let same = ap (λ (r : Recording). r.intervals) c.self.view_is in
+    let all : k * length c.args.self.now.intervals ≡ k * length xs = ap (λ ys. k * length ys) (sym same) in
+    let end_is : c.args.end ≤ k * length xs = omega (arith, c.requires.recorded, all) in
+    let is = c.notes-notes.ensures ∙ notes_of k c.loop-start.start c.args.end xs c.args.self.now c.index.result.now _ pos same c.loop-start-test.true end_is c.index.ensures in
+    let split = div-add-mod c.loop-start.start k in
+    let few : c.min-stop.result ≤ k = omega (arith, c.min-stop.ensures) in
+    record {
+      behind = omega (arith, split, mod-lt c.loop-start.start pos, c.min-stop.ensures, c.loop-start.invariant.behind, c.loop-start-test.true);
+      none = none_so_far g.row.NW g.row.PAGES k pos c.args.self.now c.args.address c.args.count (4 * (c.args.address / 4)) (c.args.address + (c.args.count - 1)) refl c.requires.some (omega (arith, c.requires.some))
+          c.loop-start.start c.min-stop.result c.notes-notes.result.now is few c.args.from c.loop-start.invariant.none (sym c.touches_any.ensures ∙ c.if-touches_any.false);
+    }

@@ -1,0 +1,70 @@
+//! Whether recorded steps leave bytes of RAM alone.
+
+ghost use Rattle.std.specs.Prelude.{◌≡◌, ℕ, ◌+◌, ◌/◌, ◌<◌, ◌≤◌, false, MatchBool};
+ghost use Rattle.sv8_trace.specs.Recording.{recorded, trace_of};
+ghost use Rattle.sv8_trace.specs.Sought.{is_met};
+ghost use Rattle.sv8_trace.specs.Touching.{NoneTouches};
+
+use crate::cell::Cell;
+use crate::notes::Sought;
+use crate::trace::Trace;
+
+/// How many bytes a word has.
+const WORD_SIZE: u32 = 4;
+
+impl<const NW: usize, const PAGES: usize, const K: u32> Trace<NW, PAGES, K> {
+    /// A step from which on no recorded step touches the word of one of so many bytes, by the marks of these words.
+    fn end_of_bytes(&self, address: u32, count: u32) -> u32
+        requires some { 1 ≤ count }
+        requires within { address + count ≤ 0x1_0000_0000 }
+        ensures end { result ≤ recorded K self.now }
+        ensures none { NoneTouches NW PAGES K self.now address count result (recorded K self.now) }
+    {
+        let last = address + (count - 1);
+        let mut end = 0;
+        for word in address / WORD_SIZE..last / WORD_SIZE + 1 {
+            let cell = Cell::Byte(WORD_SIZE * word);
+            end = end.max(self.end_of(Sought::Touch(cell)));
+        }
+        end
+    }
+
+    /// Whether a step from one on and below another touches the word of one of so many bytes. It looks at each note once.
+    fn touches_between(&self, address: u32, count: u32, from: u32, end: u32) -> bool
+        requires some { 1 ≤ count }
+        requires within { address + count ≤ 0x1_0000_0000 }
+        requires recorded { end ≤ recorded K self.now }
+        ensures { MatchBool result (NoneTouches NW PAGES K self.now address count from end → ⊥) (NoneTouches NW PAGES K self.now address count from end) }
+    {
+        let low = WORD_SIZE * (address / WORD_SIZE);
+        let last = address + (count - 1);
+        let mut start = from;
+        while start < end {
+            let index = (start / K) as usize;
+            let base = K * index as u32;
+            let stop = K.min(end - base);
+            let notes = self.intervals[index].notes();
+            if notes.touches_any(low, last, start % K, stop) {
+                return true;
+            }
+            start = base + stop;
+        }
+        false
+    }
+
+    /// Whether no step from `from` on and below `to` touches the word of one of so many bytes of RAM from an address on. These
+    /// steps have to be recorded.
+    ///
+    /// Where the words were last touched in an interval below `from`, it looks at their marks alone.
+    pub fn is_untouched(&self, address: u32, count: u32, from: u32, to: u32) -> bool
+        requires within { address + count ≤ 0x1_0000_0000 }
+        requires recorded { to ≤ recorded K self.now }
+        ensures { MatchBool result (NoneTouches NW PAGES K self.now address count from to) (NoneTouches NW PAGES K self.now address count from to → ⊥) }
+    {
+        if count == 0 {
+            return true;
+        }
+        let end = to.min(self.end_of_bytes(address, count));
+        !self.touches_between(address, count, from, end)
+    }
+}

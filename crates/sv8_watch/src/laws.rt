@@ -1,0 +1,17 @@
+//! Laws of the conditions, each a function that does nothing and whose contract is the law.
+
+ghost use Rattle.sv8_watch.specs.Touching.{SparedStepsMiss, SparedPcsMiss};
+
+/// A step that touches no word of the bytes of a condition, and whose events poke none of them, does not meet it: an access in RAM
+/// touches its words, and a byte that is neither touched nor poked stays.
+///
+/// So a search for `Load`, `Store`, `Touch` or `Change` may pass over each step whose notes and events name none of these bytes.
+pub fn spared_steps_miss()
+    ensures { SparedStepsMiss }
+{}
+
+/// A step that touches no byte of the word at an address does not reach an instruction there, where no address is translated in the
+/// state before it.
+pub fn spared_pcs_miss()
+    ensures { SparedPcsMiss }
+{}

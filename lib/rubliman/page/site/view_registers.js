@@ -1,0 +1,100 @@
+// Registers, flags, and the windows as a ring.
+import { byId, classes, element, fill, span } from "./dom.js";
+import { FLAG_NAMES, psrFields, registerName, trapName, trapType } from "./fields.js";
+import { hex } from "./text.js";
+import { windowRegisters } from "./view.js";
+
+/** The window that is shown, where it is not the current one. */
+let chosen = null;
+
+/** Shows another window, or the current one again. */
+export function choose(bench, window) {
+  const count = bench.view.now.windows.length;
+  const current = psrFields(bench.view.now.machine.psr).CWP;
+  const wanted = (window + count) % count;
+  chosen = wanted === current ? null : wanted;
+  show(bench);
+}
+
+export const chosenWindow = (bench) => chosen ?? psrFields(bench.view.now.machine.psr).CWP;
+
+export function show(bench) {
+  const { now, before, last } = bench.view;
+  if (chosen !== null && chosen >= now.windows.length) chosen = null;
+  const fields = psrFields(now.machine.psr);
+  const window = chosen ?? fields.CWP;
+  const windowBefore = chosen ?? psrFields(before.machine.psr).CWP;
+  showState(now.machine);
+  showRing(bench, fields.CWP, window);
+  const rows = [windowRegisters(now, window), windowRegisters(before, windowBefore), windowRegisters(last, window)];
+  fill(byId("window"), heads(), element("tbody", {}, Array.from({ length: 8 }, (_, at) => row(bench, at, ...rows))));
+  showSpecial(bench, now.machine, before.machine);
+}
+
+function showState(machine) {
+  byId("state").textContent = machine.isError ? "error mode" : machine.annul ? "annulled slot" : "";
+  byId("state").className = machine.isError ? "refused" : "quiet";
+}
+
+const heads = () =>
+  element("thead", {}, element("tr", {}, element("th", { "aria-label": "number" }), ["globals", "outs", "locals", "ins"].map((it) => element("th", { scope: "col" }, it))));
+
+function row(bench, at, now, before, last) {
+  const cells = [0, 8, 16, 24].map((base) => cell(bench, base + at, now[base + at], before[base + at], last[base + at]));
+  return element("tr", {}, element("th", { scope: "row" }, String(at)), cells);
+}
+
+function cell(bench, number, value, old, last) {
+  const differs = value !== old;
+  const isNew = bench.view.n > 0 && value !== last;
+  const symbol = bench.listing.symbol(value);
+  const title = [`${registerName(number)} = ${value} = ${value | 0}`, symbol, isNew && `was ${hex(last)} a step before`, differs && `${hex(old)} in before`];
+  const name = classes(value === 0 && !differs && "zero", differs && "differs", isNew && "fresh");
+  return element("td", { class: name, title: title.filter(Boolean).join("; "), "data-address": String(value - (value % 4)) }, hex(value), differs && [" ", span("was", hex(old))]);
+}
+
+function showRing(bench, current, window) {
+  const { now, before } = bench.view;
+  const count = now.windows.length;
+  const made = Array.from({ length: count }, (_, at) => {
+    const isMarked = (now.machine.wim >>> at) & 1;
+    const differs = before.windows[at] && String(now.windows[at]) !== String(before.windows[at]);
+    const told = [`window ${at}`, at === current && "current", isMarked && "marked in WIM", differs && "differs from before"].filter(Boolean).join(", ");
+    const name = classes("flag", at === current && "on", isMarked && "marked", differs && "differs");
+    return element("button", { type: "button", class: name, "data-window": String(at), "aria-pressed": String(at === window), "aria-label": told, title: told }, String(at));
+  });
+  byId("ring").classList.toggle("many", count > 16);
+  fill(byId("ring"), made);
+}
+
+/** A register with its value, its old one, and a word on it. */
+function register(name, value, old, note = "") {
+  const isSame = value === old;
+  const shown = span("value code", span(classes(!isSame && "now"), hex(value)), !isSame && [" ", span("was", hex(old))]);
+  return element("div", { title: note || null }, span("key", name), " ", shown, " ", note && span("quiet note", note));
+}
+
+const flag = (name, value, old) =>
+  element("span", { class: classes("flag", value && "on", value !== old && "differs"), title: `${FLAG_NAMES[name]}: ${value}${value === old ? "" : `, ${old} in before`}` }, name);
+
+const number = (name, value, old) =>
+  span("number", span("key", name), " ", span(classes("code strong", value !== old && "now"), String(value)), value !== old && [" ", span("code was", String(old))]);
+
+function showSpecial(bench, machine, old) {
+  const fields = psrFields(machine.psr);
+  const before = psrFields(old.psr);
+  const flags = (names) => names.map((it) => flag(it, fields[it], before[it]));
+  const type = trapType(machine.tbr);
+  fill(
+    byId("special"),
+    register("PC", machine.pc, old.pc, bench.listing.symbol(machine.pc) ?? ""),
+    register("nPC", machine.npc, old.npc, bench.listing.symbol(machine.npc) ?? ""),
+    register("PSR", machine.psr, old.psr),
+    element("div", { class: "flags" }, flags(["N", "Z", "V", "C"]), " ", flags(["S", "PS", "ET"])),
+    element("div", {}, number("CWP", fields.CWP, before.CWP), number("PIL", fields.PIL, before.PIL)),
+    register("TBR", machine.tbr, old.tbr),
+    element("div", { class: "quiet note" }, type ? `trap type ${hex(type, 2)}, ${trapName(type)}` : "no trap taken yet"),
+    register("WIM", machine.wim, old.wim),
+    register("Y", machine.y, old.y),
+  );
+}
