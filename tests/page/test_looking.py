@@ -197,7 +197,8 @@ class Looking(InBrowser):
         page.example("timer")
         page.run("window.asked = 0; const own = fetch; window.fetch = (...it) => { asked += 1; return own(...it); };")
         page.run(
-            "for (let n = 0; n < 60; n++) document.activeElement.dispatchEvent(new KeyboardEvent('keydown', { key: 'ArrowRight', bubbles: true }))"
+            "const press = () => new KeyboardEvent('keydown', { key: 'ArrowRight', bubbles: true });"
+            "for (let n = 0; n < 60; n++) document.activeElement.dispatchEvent(press());"
         )
         page.idle()
         self.assertEqual((page.step(), page.find("#step").get_attribute("value")), (60, "60"))

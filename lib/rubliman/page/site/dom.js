@@ -19,7 +19,8 @@ export const span = (classes, ...children) => element("span", classes ? { class:
 /** Replaces what an element holds. */
 export const fill = (it, ...children) => it.replaceChildren(...shown(children));
 
-const shown = (children) => children.flat(3).filter((it) => it !== null && it !== undefined && it !== false && it !== "");
+const isShown = (it) => it !== null && it !== undefined && it !== false && it !== "";
+const shown = (children) => children.flat(3).filter(isShown);
 
 /** Names of classes, those that apply. */
 export const classes = (...names) => names.filter(Boolean).join(" ");

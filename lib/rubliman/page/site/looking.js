@@ -116,7 +116,8 @@ export class Looking {
   async stretch(low, high) {
     this.isFit = false;
     this.asked = { low, high };
-    const given = await this.ask([...runs.questions(low, high, "before "), ...(this.isSame ? [] : runs.questions(low, high))]);
+    const before = runs.questions(low, high, "before ");
+    const given = await this.ask(this.isSame ? before : [...before, ...runs.questions(low, high)]);
     this.runBefore = runs.told(low, high, given);
     this.run = this.isSame ? this.runBefore : runs.told(low, high, given.slice(2));
     await this.complete(this.runBefore, "before ");
@@ -151,9 +152,8 @@ export class Looking {
   /** Goes to the nearest step that meets a condition, and tells where there is none. */
   find(condition, isBack, name) {
     return this.queue.deed(async () => {
-      const from = this.wanted;
-      const question = isBack ? `steps ${from} 0 1 ${condition}` : `steps ${Math.min(LAST_STEP, from + 1)} ${LAST_STEP} 1 ${condition}`;
-      const [{ lines }] = await this.ask([question]);
+      const range = isBack ? `${this.wanted} 0` : `${Math.min(LAST_STEP, this.wanted + 1)} ${LAST_STEP}`;
+      const [{ lines }] = await this.ask([`steps ${range} 1 ${condition}`]);
       if (lines.length > 0) this.go(Number(lines[0].split(" ")[0]));
       else this.onSay(`No ${name} ${isBack ? "in front of" : "behind"} this step.`, true);
     });

@@ -4,8 +4,8 @@ import { isInterrupt } from "./fields.js";
 
 // Up to so many steps are shown one by one.
 export const MOST_STEPS = 4000;
-// So many lines of an answer, and so many samples, are taken of more. Where that is not enough, the samples are asked for
-// by themselves, and what happens by stretches, the first few of each.
+// So many lines of an answer, and so many samples, are taken of more. Where that is not enough, the samples are asked
+// for by themselves, and what happens by stretches, the first few of each.
 const MOST_LINES = 12_000;
 const SAMPLES = 1500;
 const STRETCHES = 600;
@@ -76,7 +76,8 @@ export function questions(low, high, prefix = "") {
 }
 
 /** The run that their answers tell. */
-export const told = (low, high, [steps, output]) => new Run(low, high, answers.steps(steps.lines), answers.output(output.lines));
+export const told = (low, high, [steps, output]) =>
+  new Run(low, high, answers.steps(steps.lines), answers.output(output.lines));
 
 /** Whether the answer of a long stretch broke off. */
 export const isCut = (run) => !run.isWhole && run.steps.length >= MOST_LINES;

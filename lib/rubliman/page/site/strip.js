@@ -17,9 +17,12 @@ function tickDistance(span) {
   return Math.max(1, unit * [1, 2, 5, 10].find((it) => it * unit >= least));
 }
 
+const HAPPENINGS = ["type", "in", "out", "event"];
+const isError = (it) => it.what === "error";
+
 /** Whether the same happens in two steps. */
 const isTwin = (one, other) =>
-  ["type", "in", "out", "event"].every((name) => one[name] === other[name]) && (one.what === "error") === (other.what === "error");
+  HAPPENINGS.every((name) => one[name] === other[name]) && isError(one) === isError(other);
 
 export class Strip {
   /** `onGo` is told the step that is pressed or dragged to, `onHover` the one under the pointer, or null. */
@@ -38,7 +41,8 @@ export class Strip {
 
   /**
    * What is drawn: steps `low` to `high`, the shown `step`, the `first` step that differs or null, the runs `now` and
-   * `before` (null where they are one), `lineNow` and `lineBefore` of a step by the `listing`, and how many `lines` there are.
+   * `before` (null where they are one), `lineNow` and `lineBefore` of a step by the `listing`, and how many `lines`
+   * there are.
    */
   show(model) {
     this.model = model;
@@ -64,8 +68,10 @@ export class Strip {
     if (!lane) return at;
     const { low, high, now, before } = this.model;
     const most = Math.max(1, (NEAR * (high - low)) / (this.canvas.clientWidth - LEFT));
-    const found = [...now.happenings, ...(before?.happenings ?? [])].filter((it) => lane.takes(it) && Math.abs(it.n - at) <= most);
-    return found.reduce((best, it) => (best === null || Math.abs(it.n - at) < Math.abs(best - at) ? it.n : best), null) ?? at;
+    const distance = (it) => Math.abs(it.n - at);
+    const all = [...now.happenings, ...(before?.happenings ?? [])];
+    const found = all.filter((it) => lane.takes(it) && distance(it) <= most);
+    return found.reduce((best, it) => (distance(it) < distance(best) ? it : best), found[0])?.n ?? at;
   }
 
   #x(n) {
@@ -93,7 +99,8 @@ export class Strip {
     this.color = Object.fromEntries(COLORS.map((it) => [it, style.getPropertyValue(`--${it}`).trim()]));
     this.top = LANES.length * LANE + 4;
     this.bottom = this.height - AXIS;
-    this.wide = Math.max(1.5, Math.min(14, ((this.width - LEFT) / Math.max(1, this.model.high - this.model.low)) * 0.8));
+    const { low, high } = this.model;
+    this.wide = Math.max(1.5, Math.min(14, ((this.width - LEFT) / Math.max(1, high - low)) * 0.8));
     this.#drawGround();
     this.#drawLanes();
     this.#drawLines();

@@ -115,7 +115,7 @@ export class Workbench extends Looking {
   /** Tells what went wrong. */
   #failed(problem) {
     if (problem instanceof Ended) this.#ended(this.connection);
-    this.onSay(problem instanceof Ended && problem.isSlow ? `${problem.message}, and was ended.` : problem.message, true);
+    this.onSay(problem.isSlow ? `${problem.message}, and was ended.` : problem.message, true);
     this.onChange();
   }
 
@@ -167,8 +167,8 @@ export class Workbench extends Looking {
   }
 
   /**
-   * Gives values to places, as a what-if of their own, or in those that are on and have them. Gives what that is refused
-   * with, and then all stays as it was.
+   * Gives values to places, as a what-if of their own, or in those that are on and have them. Gives what that is
+   * refused with, and then all stays as it was.
    */
   give(values) {
     return this.queue.deed(async () => {
