@@ -1,5 +1,5 @@
 // The whole source, the examples, the help; a script that is saved.
-import { byId, element, fill, span } from "./dom.js";
+import { byId, element, fill, make, span } from "./dom.js";
 import { file } from "./connection.js";
 import { EXAMPLES, pathOf } from "./examples.js";
 import { GROUPS } from "./keys.js";
@@ -79,7 +79,7 @@ export async function save(bench) {
   if (text === null) return;
   const name = `${stem(bench.name || "what-if").toLowerCase().replace(/[^a-z0-9]+/g, "-")}-w${bench.windows}.txt`;
   const address = URL.createObjectURL(new Blob([text], { type: "text/plain" }));
-  element("a", { href: address, download: name }).click();
+  make(element("a", { href: address, download: name })).click();
   setTimeout(() => URL.revokeObjectURL(address), 10_000);
   bench.onSay(`Saved as ${name}: ./sparc8 --windows ${bench.windows} runs it.`);
 }
@@ -99,8 +99,8 @@ const keyName = (it) => it.split(/\+(?=.)/).map((one) => KEY_NAMES[one] ?? one).
 const ABOUT = [
   "Time runs from the left to the right. The strip shows what happens at which step, and below it which line of the " +
     "source runs; the slider, a click and the arrow keys go to a step.",
-  "Change the past anywhere: a line (Enter, or a click on Edit), a word of memory at the shown step (m), input (i), an " +
-    "interrupt (q). Each change is a what-if, which is switched on and off in the list.",
+  "Change the past anywhere: a line (Enter, or a click on Edit), a word of memory at the shown step (m), input (i), " +
+    "an interrupt (q). Each change is a what-if, which is switched on and off in the list.",
   "Orange is before, blue is now, grey is both. The verdict below the strip tells the first step that differs, both " +
     "lines there, registers and output old and new, and what differs at the shown step.",
   "Where one run has a trap or a line more, the page lays the step of before beside the shown one that does the same.",

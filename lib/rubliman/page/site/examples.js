@@ -6,24 +6,24 @@ export const EXAMPLES = [
     title: "A trap at boot",
     windows: "8",
     text:
-      "A program turns traps on and calls the system; a handler adds 1 to its argument and returns. What if traps had " +
-      "stayed off, or the trap table had been forgotten?",
+      "A program turns traps on and calls the system; a handler adds 1 to its argument and returns. What if traps " +
+      "had stayed off, or the trap table had been forgotten?",
   },
   {
     name: "page-tables",
     title: "Page tables",
     windows: "8",
     text:
-      "Tables of three levels, translation turned on, and a handler that maps the page of a fault. What if it went on " +
-      "behind the instruction, or an entry had stood there before?",
+      "Tables of three levels, translation turned on, and a handler that maps the page of a fault. What if it went " +
+      "on behind the instruction, or an entry had stood there before?",
   },
   {
     name: "console",
     title: "The console",
     windows: "8",
     text:
-      "A program waits for input and puts it out again. What if a byte more came, if they came earlier, or the program " +
-      "did not wait?",
+      "A program waits for input and puts it out again. What if a byte more came, if they came earlier, or the " +
+      "program did not wait?",
   },
   {
     name: "timer",
@@ -45,8 +45,8 @@ export const EXAMPLES = [
     title: "User mode",
     windows: "8",
     text:
-      "The way into user mode by RETT, a call of the system, and what is refused to a user. What if the user might read " +
-      "the supervisor's page?",
+      "The way into user mode by RETT, a call of the system, and what is refused to a user. What if the user might " +
+      "read the supervisor's page?",
   },
 ];
 

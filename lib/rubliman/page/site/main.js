@@ -2,7 +2,7 @@
 import * as actions from "./actions.js";
 import { given } from "./connection.js";
 import * as dialogs from "./dialogs.js";
-import { byId, element } from "./dom.js";
+import { byId, element, fill } from "./dom.js";
 import { named } from "./examples.js";
 import * as keys from "./keys.js";
 import { remember, remembered } from "./saving.js";
@@ -140,7 +140,7 @@ function fields() {
   });
   const irq = byId("add-irq");
   const levels = Array.from({ length: 15 }, (_, at) => String(at + 1));
-  irq.append(element("option", { value: "" }, "–"), ...levels.map((it) => element("option", { value: it }, it)));
+  fill(irq, element("option", { value: "" }, "–"), levels.map((it) => element("option", { value: it }, it)));
   irq.addEventListener("change", () => {
     if (irq.value) actions.giveRequest(bench, Number(irq.value));
     irq.value = "";

@@ -6,9 +6,9 @@ export class Queue {
   #isBusy = false;
   #idle = [];
 
-  /** `onProblem` is told what goes wrong. */
-  constructor(onProblem) {
-    this.onProblem = onProblem;
+  /** `onProblem` is told what goes wrong, `onDone` when one of them is done. */
+  constructor(onProblem, onDone) {
+    Object.assign(this, { onProblem, onDone });
   }
 
   /** Adds a deed. The promise is for what it gives; undefined where it failed. */
@@ -52,6 +52,7 @@ export class Queue {
       } catch (problem) {
         this.onProblem(problem);
       }
+      this.onDone();
       next.resolve?.(given);
     }
     this.#isBusy = false;

@@ -48,10 +48,11 @@ export class Strip {
     this.model = model;
     if (!this.drawn || PARTS.some((it) => this.drawn[it] !== model[it])) this.#drawAll();
     this.drawn = model;
-    [this.canvas.width, this.canvas.height] = [this.ground.width, this.ground.height];
     this.pen = this.canvas.getContext("2d");
+    this.pen.resetTransform();
+    this.pen.clearRect(0, 0, this.canvas.width, this.canvas.height);
     this.pen.drawImage(this.ground, 0, 0);
-    this.pen.setTransform(devicePixelRatio || 1, 0, 0, devicePixelRatio || 1, 0, 0);
+    this.pen.scale(devicePixelRatio || 1, devicePixelRatio || 1);
     this.#drawStep();
   }
 
@@ -90,8 +91,10 @@ export class Strip {
   #drawAll() {
     const ratio = devicePixelRatio || 1;
     [this.width, this.height] = [this.canvas.clientWidth, this.canvas.clientHeight];
-    this.ground.width = Math.max(1, Math.round(this.width * ratio));
-    this.ground.height = Math.max(1, Math.round(this.height * ratio));
+    for (const it of [this.ground, this.canvas]) {
+      it.width = Math.max(1, Math.round(this.width * ratio));
+      it.height = Math.max(1, Math.round(this.height * ratio));
+    }
     this.pen = this.ground.getContext("2d");
     this.pen.setTransform(ratio, 0, 0, ratio, 0, 0);
     this.pen.font = "10.5px system-ui, 'DejaVu Sans', sans-serif";

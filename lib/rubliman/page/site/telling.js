@@ -1,13 +1,12 @@
 // Steps, values and registers as elements that tell them, in the same words and colours everywhere.
-import { classes, element, span } from "./dom.js";
+import { classes, element, plainText, span } from "./dom.js";
 import { isInterrupt, trapName } from "./fields.js";
 import { character, counted, hex } from "./text.js";
 
 /** A button that looks like text, and goes to a step, an address or a line. */
 export function link(data, ...children) {
-  const made = element("button", { type: "button", class: "link" }, ...children);
-  Object.assign(made.dataset, data);
-  return made;
+  const named = Object.entries(data).map(([name, value]) => [`data-${name}`, String(value)]);
+  return element("button", { type: "button", class: "link", ...Object.fromEntries(named) }, ...children);
 }
 
 export const stepLink = (n) => link({ step: n }, counted(n));
@@ -47,7 +46,7 @@ export function access(it) {
 }
 
 /** The same as text, for names and titles. */
-export const textOf = (parts) => parts.map((it) => (typeof it === "string" ? it : it.textContent)).join("");
+export const textOf = (parts) => parts.map(plainText).join("");
 
 /** Old and new, beside each other. */
 export const changed = (old, value) => [span("was", old), span("quiet", " → "), span("now", value)];
