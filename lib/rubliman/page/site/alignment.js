@@ -11,7 +11,7 @@ const FURTHEST = 400;
  */
 export function pairs(before, now) {
   const found = [];
-  const places = placesOf(before, now);
+  let places = null;
   let i = 0;
   let j = 0;
   while (i < before.length && j < now.length) {
@@ -19,6 +19,7 @@ export function pairs(before, now) {
       found.push([i++, j++]);
       continue;
     }
+    places ??= placesOf(before, now);
     const [more, less] = resumption(places, i, j) ?? [1, 1];
     for (let k = 0; k < Math.min(more, less); k++) found.push([i++, j++]);
     for (let k = less; k < more; k++) found.push([i++, null]);

@@ -9,7 +9,8 @@ const SHOWN = new WeakMap();
 
 /**
  * A description of an element. Attributes that are null or false are left out; those that begin with `on` are
- * listeners, which stay those of the first time.
+ * listeners, which stay those of the first time. `key` is no attribute: rows that move up or down keep their elements
+ * by it.
  */
 export function element(tag, attributes = {}, ...children) {
   return { tag, attributes, children: shown(children) };
@@ -19,8 +20,10 @@ export const span = (classes, ...children) => element("span", classes ? { class:
 
 /** Has an element hold what is described, by changing what differs from what it holds. */
 export function fill(it, ...children) {
+  const all = shown(children);
+  moveRows(it, all);
   let node = it.firstChild;
-  for (const wanted of shown(children)) {
+  for (const wanted of all) {
     const next = node?.nextSibling ?? null;
     if (node && isAlike(node, wanted)) update(node, wanted);
     else if (node) node.replaceWith(make(wanted));
@@ -32,6 +35,17 @@ export function fill(it, ...children) {
     node.remove();
     node = next;
   }
+}
+
+/** Where rows move up or down, takes away or puts in what is in front of those that stay. */
+function moveRows(it, all) {
+  const keyOf = (node) => SHOWN.get(node)?.attributes.key;
+  const key = all[0]?.attributes?.key;
+  if (key === undefined || !it.firstChild) return;
+  const gone = [...it.childNodes].findIndex((node) => keyOf(node) === key);
+  for (let count = gone; count > 0; count--) it.firstChild.remove();
+  const added = gone < 0 ? all.findIndex(({ attributes }) => attributes.key === keyOf(it.firstChild)) : 0;
+  it.prepend(...all.slice(0, Math.max(0, added)).map(make));
 }
 
 /** The element of a description. */
@@ -71,7 +85,7 @@ function update(node, wanted) {
 function set(node, name, old, value) {
   const isState = (name === "checked" || name === "value") && node.localName === "input";
   if (isState && node[name] !== value) node[name] = value;
-  if (isState || old === value || name.startsWith("on")) return;
+  if (isState || old === value || name === "key" || name.startsWith("on")) return;
   if (value === null || value === undefined || value === false) node.removeAttribute(name);
   else node.setAttribute(name, value === true ? "" : value);
 }

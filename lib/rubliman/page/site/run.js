@@ -75,11 +75,6 @@ export class Run {
     }
     return last;
   }
-
-  /** The same up to a lower step. */
-  upTo(high) {
-    return new Run(this.low, high, this.steps.filter((it) => it.n < high), this.output);
-  }
 }
 
 /** The questions that show a stretch of a run: what happens, samples that are asked for one by one, and the output. */

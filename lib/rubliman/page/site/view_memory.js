@@ -66,7 +66,7 @@ function row(bench, address, now, before) {
   const text = now.flatMap((value) => [24, 16, 8, 0].map((bits) => character((value >>> bits) & 255))).join("");
   const head = element("span", { role: "rowheader", class: "address" }, hex(address, 5));
   const characters = element("span", { role: "gridcell", class: "characters" }, text);
-  return element("div", { role: "row", class: "words" }, head, cells, characters);
+  return element("div", { key: address, role: "row", class: "words" }, head, cells, characters);
 }
 
 function cell(bench, address, value, old) {

@@ -134,6 +134,7 @@ function row(bench, line) {
   const isNext = line === marks.next && !isHere;
   const address = listing.address(line);
   const attributes = {
+    key: line,
     class: classes(
       "line",
       isHere && "here",

@@ -47,8 +47,13 @@ function row(bench, { now, before }) {
     cells.push(element("td", { class: "number was" }, before ? counted(before.n) : ""));
     cells.push(element("td", { class: "was" }, before ? told(before, bench.before) : ""));
   }
-  const current = isShown ? "step" : null;
-  return element("tr", { class: name, "data-step": String(Math.max(0, step.n)), "aria-current": current }, cells);
+  const attributes = {
+    key: `${now?.n} ${before?.n}`,
+    class: name,
+    "data-step": String(Math.max(0, step.n)),
+    "aria-current": isShown ? "step" : null,
+  };
+  return element("tr", attributes, cells);
 }
 
 /** Whether a step of now is another one than that beside it: its line, its text, or what happened. */
