@@ -158,7 +158,7 @@ function row(bench, line) {
     span("number", String(line)),
     span("address", address === null ? "" : hex(address, 5)),
     word(address === null ? [] : listing.groups(line)),
-    span("text", ...text(listing.text(line), before)),
+    element("span", { class: "text", title: listing.text(line).trim() }, ...text(listing.text(line), before)),
   );
 }
 
