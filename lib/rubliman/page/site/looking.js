@@ -47,8 +47,9 @@ export class Looking {
   }
 
   #showChange() {
-    if (this.isChanged) this.onChange();
+    const { isChanged } = this;
     this.isChanged = false;
+    if (isChanged) this.onChange();
   }
 
   // ---- two runs beside each other

@@ -46,17 +46,20 @@ export class Queue {
     if (this.#isBusy) return;
     this.#isBusy = true;
     for (let next = this.#next(); next; next = this.#next()) {
-      let given;
-      try {
-        given = await next.run();
-      } catch (problem) {
-        this.onProblem(problem);
-      }
-      this.onDone();
+      const given = await this.#tried(next.run);
+      await this.#tried(this.onDone);
       next.resolve?.(given);
     }
     this.#isBusy = false;
     this.#idle.splice(0).forEach((it) => it());
+  }
+
+  async #tried(does) {
+    try {
+      return await does();
+    } catch (problem) {
+      return this.onProblem(problem);
+    }
   }
 
   #next() {
