@@ -77,22 +77,26 @@ export class Run {
   }
 }
 
+/** How many lines are asked for of a long stretch: of what happens, and samples where these are told with it. */
+const mostLines = (low, high) => (sampling(low, high) < KEPT ? MOST_LINES + SAMPLES : MOST_LINES);
+
 /** The questions that show a stretch of a run: what happens, samples that are asked for one by one, and the output. */
 export function questions(low, high, prefix = "") {
   const steps = `${prefix}steps ${low} ${high}`;
   const output = `${prefix}out ${high}`;
   if (high - low <= MOST_STEPS) return [`${steps} ${high - low}`, output];
   const every = sampling(low, high);
-  if (every < KEPT) return [`${steps} ${MOST_LINES} ${HAPPENING} every ${every}`, output];
+  const happenings = `${steps} ${mostLines(low, high)} ${HAPPENING}`;
+  if (every < KEPT) return [`${happenings} every ${every}`, output];
   const samples = [];
   for (let n = Math.ceil(low / every) * every; n < high; n += every) samples.push(`${prefix}steps ${n} ${n + 1} 1`);
-  return [`${steps} ${MOST_LINES} ${HAPPENING}`, ...samples, output];
+  return [happenings, ...samples, output];
 }
 
 /** The run that their answers tell. */
 export function told(low, high, given) {
   const [first, ...rest] = given.slice(0, -1).map(({ lines }) => answers.steps(lines));
-  const isCut = high - low > MOST_STEPS && first.length >= MOST_LINES;
+  const isCut = high - low > MOST_STEPS && first.length >= mostLines(low, high);
   return new Run(low, high, [first, ...rest].flat(), answers.output(given.at(-1).lines), isCut ? first.at(-1).n : null);
 }
 
