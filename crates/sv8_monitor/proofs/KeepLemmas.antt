@@ -6,7 +6,7 @@ use Rattle.sv8_bench.specs.Kept.{Kept}
 use Rattle.sv8_shell.specs.declared.command.Command.{Command}
 use Rattle.sv8_shell.specs.declared.command.Command.TheVariants.{Listing, Regs, Mem, Out}
 use Rattle.sv8_shell.specs.Commands.{outcome_of}
-use Rattle.sv8_shell.specs.Outcome.{Outcome, told, refused, unless_refused, Answers, due, lacking}
+use Rattle.sv8_shell.specs.Outcome.{told, unless_refused, Answers, due, lacking}
 use Rattle.sv8_shell.specs.Put.{Replies}
 use Rattle.sv8_monitor.specs.declared.question.Query.{Query}
 use Rattle.sv8_monitor.specs.declared.question.Query.TheVariants.{Steps, Windows, Where, Lines, Names, Events}

@@ -1,11 +1,11 @@
 -- Which questions lines ask: of the workbench's own commands those alone that ask.
-use Rattle.std.proofs.Common.{◌≡◌, ℕ, Bool, true, false, cond, List, [], ◌∷◌, Option, Some, None, IfSome, option_and_then, option_map, codes, bytes_eq, refl, sym, subst}
+use Rattle.std.proofs.Common.{◌≡◌, ℕ, Bool, true, false, cond, List, [], ◌∷◌, Option, Some, None, IfSome, option_and_then, option_map, codes, bytes_eq, refl, subst}
 use Rattle.sv8_shell.specs.declared.command.Command.{Command}
 use Rattle.sv8_shell.specs.Commands.{command_of}
 use Rattle.sv8_shell.specs.Words.{first_number}
 use Rattle.sv8_monitor.specs.declared.question.Query.{Query}
 use Rattle.sv8_monitor.specs.declared.question.Question.{Question}
-use Rattle.sv8_monitor.specs.declared.question.Question.TheVariants.{Now, Before, BeforeCommand, Keep, Part, Differ}
+use Rattle.sv8_monitor.specs.declared.question.Question.TheVariants.{Now, BeforeCommand, Keep, Part, Differ}
 use Rattle.sv8_monitor.specs.Questions.{alone, asks, is_answerable, if_asks, or_command, query_of, before_of, part_of, differ_of, named_of, is_own_name, question_of}
 
 -- what a line may ask, if anything

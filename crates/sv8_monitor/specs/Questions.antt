@@ -63,7 +63,7 @@ asks (Mem step address count) = true
 asks (Out step) = true
 asks Quit = false
 
--- the workbench itself is asked such a command alone
+-- a question that a line can ask: of the workbench's own commands those alone that ask
 abbrev pub is_answerable : Question → Bool
 is_answerable (Now query) = true
 is_answerable (Before query) = true

@@ -17,8 +17,8 @@ use sv8_bench::{Bench, BenchFault, LAST_STEP, Walk};
 use sv8_cpu::Machine;
 use sv8_phys::Watch;
 
-/// The first step from one on up to another, which is looked at too, at which the processors of two workbenches differ. It makes no
-/// step up to `common`, where they are known to be the same.
+/// The first step from one on up to another, which is looked at too, at which the processors of two workbenches differ. Up to `common`,
+/// that step included, they are known to be the same, so it begins no lower.
 ///
 /// # Errors
 ///
