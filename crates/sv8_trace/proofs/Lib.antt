@@ -19,3 +19,4 @@ pub mod Committing
 pub mod Editing
 pub mod Common
 pub mod Untouched
+pub mod Translated

@@ -20,7 +20,7 @@ returns-in_err-machine-clause-raised g c =
 pub loop-offset-preserved : goal.loop-offset-preserved
 loop-offset-preserved g c =
     let inv = c.loop-offset.invariant in
-    let both = one_more g.row.NW g.row.PAGES c.args.timeline.now c.args.n c.args.machine c.loop-offset.machine c.in_ok-machine.machine c.loop-offset.offset c.loop-offset.draft c.record_step.new.interval inv.state c.in_ok-machine.ensures.state inv.recorded c.in_ok-machine.ensures.gained c.in_ok-machine.ensures.kept in
+    let both = one_more g.row.NW g.row.PAGES c.args.timeline.now c.args.n c.args.machine c.loop-offset.machine c.in_ok-machine.machine c.loop-offset.offset c.loop-offset.draft c.record_step.new.interval inv.state c.in_ok-machine.ensures.state inv.recorded c.in_ok-machine.ensures.gained c.in_ok-machine.ensures.kept c.in_ok-machine.ensures.translated in
     record {
       state = both.0;
       delivered = subst (λ x. c.in_ok-machine.machine.memory.taken ≤ bytes_below x c.args.timeline.now.inputs) (omega arith) c.in_ok-machine.ensures.delivered;
