@@ -1,5 +1,5 @@
 -- What an edit makes of a workbench, once its changes are made of the trace.
-use Rattle.std.proofs.Common.{◌≡◌, ℕ, ◌*◌, ◌<◌, ◌≤◌, List, length, Some, refl, sym, subst, arith}
+use Rattle.std.proofs.Common.{◌≡◌, ℕ, ◌*◌, ◌<◌, ◌≤◌, List, length, Some, refl, sym, subst, arith, mul-le-mul_left}
 use Rattle.sv8_history.specs.Trace.{Trace, IsTraceOf, Agrees}
 use Rattle.sv8_history.specs.Changes.{Change}
 use Rattle.sv8_history.specs.Reads.{IsFirstRead}
@@ -21,8 +21,16 @@ use Rattle.sv8_trace.specs.Patch.{changes_of}
 use Rattle.sv8_trace.specs.Recording.{Recording, recorded, trace_of}
 use Rattle.sv8_trace.specs.Prepared.{prepared_trace, Near, Preparation}
 use Rattle.sv8_trace.proofs.Common.{near_agrees, agrees_along}
-use Rattle.sv8_bench.specs.Kept.{with_timeline}
+use Rattle.sv8_bench.specs.Kept.{Kept, with_timeline}
+use Rattle.sv8_bench.specs.Alike.{StaysAlike}
 use Rattle.sv8_bench.specs.Workbench.{Workbench, IsRun, IsEdited, IsRefed}
+use Rattle.sv8_bench.proofs.Alike.{unread_alike, untaken_alike, kept_alike}
+
+-- what an edit comes to: the recorded run is that of what is now kept, what is said of the edit holds, and the processors are alike
+pub record AfterEdit (k : ℕ) (old new : Workbench) (IsDone : Type 0) : Type 0 where
+  pub run : IsRun k new
+  pub done : IsDone
+  pub alike : StaysAlike k old new
 
 module _ (windows pages k : ℕ) (pos : 0 < k) where
   -- a run does not depend on how its events are seen to be valid
@@ -43,58 +51,89 @@ module _ (windows pages k : ℕ) (pos : 0 < k) where
       module _ (steps : recorded k r ≤ 1000000) (source' : Text) (s' : Schedule) (cs : List (Change (machine windows pages))) (edits : Edits windows pages cs source s source' s' can)
           (ps : List Patch) (is : changes_of windows pages ps ≡ cs) (staged : Preparation) (r' : Recording)
           (near : Near (machine windows pages) k (prepared_trace windows pages k r staged) (history.edited (machine windows pages) k (trace_of windows pages k r) (changes_of windows pages ps)))
-          (agrees : Agrees (machine windows pages) k (prepared_trace windows pages k r staged) (trace_of windows pages k r')) where
-        agreed : Agrees (machine windows pages) k (history.edited (machine windows pages) k (trace_of windows pages k r) cs) (trace_of windows pages k r')
-        agreed =
+          (agrees : Agrees (machine windows pages) k (prepared_trace windows pages k r staged) (trace_of windows pages k r'))
+          (next : Kept) (kept : record { windows = windows; pages = pages; source = source'; timeline = s' } ≡ next) where
+        abbrev pub new : Workbench
+        new = record { kept = record { windows = windows; pages = pages; source = source'; timeline = s' }; recording = r'; worked = worked }
+
+        same : Agrees (machine windows pages) k (history.edited (machine windows pages) k (trace_of windows pages k r) cs) (trace_of windows pages k r')
+        same =
             subst (λ x. Agrees (machine windows pages) k (history.edited (machine windows pages) k (trace_of windows pages k r) x) (trace_of windows pages k r')) is
             (agrees_along (machine windows pages) k (history.edited (machine windows pages) k (trace_of windows pages k r) (changes_of windows pages ps)) (prepared_trace windows pages k r staged) (trace_of windows pages k r')
             (near_agrees (machine windows pages) k (prepared_trace windows pages k r staged) (history.edited (machine windows pages) k (trace_of windows pages k r) (changes_of windows pages ps)) near) agrees)
 
-        pub edited_run : IsRun k (record { kept = record { windows = windows; pages = pages; source = source'; timeline = s' }; recording = r'; worked = worked })
+        edited_run : IsRun k new
         edited_run = record {
           events = edits.events;
           sound = edits.sound;
-          trace = agrees_keeps (machine windows pages) k (run_of windows pages source' s' edits.events) (history.edited (machine windows pages) k (trace_of windows pages k r) cs) (trace_of windows pages k r') agreed
+          trace = agrees_keeps (machine windows pages) k (run_of windows pages source' s' edits.events) (history.edited (machine windows pages) k (trace_of windows pages k r) cs) (trace_of windows pages k r') same
               (edit_keeps (machine windows pages) (framed windows pages) k pos (run_of windows pages source s run.events) (run_of windows pages source' s' edits.events) (trace_of windows pages k r) cs run.trace
               (edits.planned (k * length r.intervals) steps) edits.edited);
         }
 
-        pub edited_is : IsEdited k (record { windows = windows; pages = pages; source = source'; timeline = s' }) old
-            (record { kept = record { windows = windows; pages = pages; source = source'; timeline = s' }; recording = r'; worked = worked }) cs
+        edited_is : IsEdited k next old new cs
         edited_is = record {
-          kept = refl;
+          kept = kept;
           worked = refl;
           recorded = λ valid.
-              subst (λ n. IsRightCount k (length r.intervals) n (IsFirstRead (machine windows pages) (run_of windows pages source s valid) cs)) (sym agreed.count)
+              subst (λ n. IsRightCount k (length r.intervals) n (IsFirstRead (machine windows pages) (run_of windows pages source s valid) cs)) (sym same.count)
               (edit_counts (machine windows pages) k pos (run_of windows pages source s valid) (trace_of windows pages k r) cs (of_any source s run.events valid (trace_of windows pages k r) run.trace));
         }
+
+        edited_alike : StaysAlike k old new
+        edited_alike =
+            let right = edited_is.recorded run.events in
+            let fewer = mul-le-mul_left k right.fewer in
+            record {
+              processors = λ n l.
+                  kept_alike windows pages source source' s s' run.events edits.events n
+                  (unread_alike windows pages k (length r.intervals) (length r'.intervals) (run_of windows pages source s run.events) (run_of windows pages source' s' edits.events) cs right
+                  (edits.planned (k * length r'.intervals) (omega (arith, fewer, steps))) edits.edited n l);
+            }
+
+        pub after_edit : AfterEdit k old new (IsEdited k next old new cs)
+        after_edit = record { run = edited_run; done = edited_is; alike = edited_alike }
 
       -- the input from a step on is edited
       module _ (step : ℕ) (s' : Schedule) (refeeds : Refeeds windows pages step source s s' can) (staged : Preparation) (r' : Recording)
           (near : Near (machine windows pages) k (prepared_trace windows pages k r staged) (history_input.edited_input (machine windows pages) k (trace_of windows pages k r) step))
-          (agrees : Agrees (machine windows pages) k (prepared_trace windows pages k r staged) (trace_of windows pages k r')) where
-        fed_agreed : Agrees (machine windows pages) k (history_input.edited_input (machine windows pages) k (trace_of windows pages k r) step) (trace_of windows pages k r')
-        fed_agreed =
+          (agrees : Agrees (machine windows pages) k (prepared_trace windows pages k r staged) (trace_of windows pages k r'))
+          (next : Kept) (kept : record { windows = windows; pages = pages; source = source; timeline = s' } ≡ next) where
+        abbrev pub refed : Workbench
+        refed = record { kept = record { windows = windows; pages = pages; source = source; timeline = s' }; recording = r'; worked = worked }
+
+        fed_same : Agrees (machine windows pages) k (history_input.edited_input (machine windows pages) k (trace_of windows pages k r) step) (trace_of windows pages k r')
+        fed_same =
             agrees_along (machine windows pages) k (history_input.edited_input (machine windows pages) k (trace_of windows pages k r) step) (prepared_trace windows pages k r staged) (trace_of windows pages k r')
             (near_agrees (machine windows pages) k (prepared_trace windows pages k r staged) (history_input.edited_input (machine windows pages) k (trace_of windows pages k r) step) near) agrees
 
-        pub refed_run : IsRun k (record { kept = record { windows = windows; pages = pages; source = source; timeline = s' }; recording = r'; worked = worked })
+        refed_run : IsRun k refed
         refed_run = record {
           events = refeeds.events;
           sound = run.sound;
-          trace = agrees_keeps (machine windows pages) k (run_of windows pages source s' refeeds.events) (history_input.edited_input (machine windows pages) k (trace_of windows pages k r) step) (trace_of windows pages k r') fed_agreed
+          trace = agrees_keeps (machine windows pages) k (run_of windows pages source s' refeeds.events) (history_input.edited_input (machine windows pages) k (trace_of windows pages k r) step) (trace_of windows pages k r') fed_same
               (input_edit_keeps (machine windows pages) (framed windows pages) k pos (run_of windows pages source s run.events) (run_of windows pages source s' refeeds.events) (trace_of windows pages k r) step run.trace refeeds.refed);
         }
 
-        pub refed_is : IsRefed k (Some step) (record { windows = windows; pages = pages; source = source; timeline = s' }) old
-            (record { kept = record { windows = windows; pages = pages; source = source; timeline = s' }; recording = r'; worked = worked })
+        refed_is : IsRefed k (Some step) next old refed
         refed_is = record {
-          kept = refl;
+          kept = kept;
           worked = refl;
           recorded = λ valid.
-              subst (λ n. IsRightCount k (length r.intervals) n (IsFirstTake (machine windows pages) (run_of windows pages source s valid) step)) (sym fed_agreed.count)
+              subst (λ n. IsRightCount k (length r.intervals) n (IsFirstTake (machine windows pages) (run_of windows pages source s valid) step)) (sym fed_same.count)
               (input_edit_counts (machine windows pages) k pos (run_of windows pages source s valid) (trace_of windows pages k r) step (of_any source s run.events valid (trace_of windows pages k r) run.trace));
         }
+
+        refed_alike : StaysAlike k old refed
+        refed_alike = record {
+          processors = λ n l.
+              kept_alike windows pages source source s s' run.events refeeds.events n
+              (untaken_alike windows pages k (length r.intervals) (length r'.intervals) (run_of windows pages source s run.events) (run_of windows pages source s' refeeds.events) step
+              (refed_is.recorded run.events) refeeds.refed n l);
+        }
+
+        pub after_input : AfterEdit k old refed (IsRefed k (Some step) next old refed)
+        after_input = record { run = refed_run; done = refed_is; alike = refed_alike }
 
 -- ---- the input of a step
 
