@@ -18,7 +18,7 @@ use Rattle.sv8_trace.specs.declared.interval.Interval.{Interval}
 use Rattle.sv8_trace.specs.Kept.{kept_in}
 use Rattle.sv8_trace.specs.Touched.{is_touched}
 use Rattle.sv8_trace.specs.Steps.{Gains, no_steps, footprint_in, reads_in, writes_in, is_among}
-use Rattle.sv8_trace.specs.Recorder.{steps_on, footprint_on, touches_on, counted_by, IsRecorded, RaisedUpTo}
+use Rattle.sv8_trace.specs.Recorder.{steps_on, footprint_on, touches_on, translates_among, counted_by, IsRecorded, RaisedUpTo}
 use Rattle.sv8_trace.proofs.Touching.{touched_told, told_read, told_written}
 
 -- no steps are recorded
@@ -140,7 +140,8 @@ module _ (windows pages : ℕ) (schedule : Schedule) (n : ℕ) (s : State) where
         footprints = λ j b. go j b (cases_lt j count);
         nothing_later = λ j b. then (footprint_in new.notes j) (footprint_in old.notes j) (footprint_in no_steps j) (not_here j (λ e. omega arith)) (h.nothing_later j (omega arith));
         kept = λ j c. kept_more j c (cases_order j count);
-        translated = flag ∙ ap (λ b. b || translates (steps_on windows pages schedule n s count).mmu) h.translated;
+        translated = flag ∙ ap (λ b. b || translates (steps_on windows pages schedule n s count).mmu) h.translated
+            ∙ ap (λ b. translates_among (λ j. steps_on windows pages schedule n s j) count || (b && translates (steps_on windows pages schedule n s count).mmu)) (sym (le-leb 0 count (omega arith)));
       }
         where
           go : (j : ℕ) → j < suc count → (j < count) ⊎ (count ≤ j) → SameFootprint (footprint_in new.notes j) (footprint_on windows pages schedule n s j)
