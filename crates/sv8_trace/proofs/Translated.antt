@@ -1,9 +1,14 @@
--- Steps of intervals without a flag.
+-- Steps of intervals without a flag, and states in which no address is translated.
 use Rattle.std.proofs.Common.{◌≡◌, ◌⊎◌, inl, inr, ℕ, ◌+◌, ◌*◌, ◌/◌, ◌≤◌, ◌<◌, Bool, false, List, length, get_or, ◌∙◌, ap, arith, mul_comm, div-mul-le_self, div-lt_iff_lt-mul}
 use Rattle.std.proofs.Math.Nat.{div-eq_of_lt-le}
 use Rattle.std.proofs.lemmas.Bool.{cases_lt}
 use Rattle.std.proofs.lemmas.List.{get_or_default}
+use Rattle.sv8_history.proofs.Common.{none_at, some_from-like}
+use Rattle.sv8_mmu.specs.Registers.{translates}
+use Rattle.sv8_cpu.specs.State.{State}
+use Rattle.sv8_cpu.specs.Touching.{IsUntranslated}
 use Rattle.sv8_trace.specs.declared.interval.Interval.{Interval}
+use Rattle.sv8_trace.specs.Recorder.{translates_among}
 use Rattle.sv8_trace.specs.Recording.{Recording, is_translated, no_interval}
 use Rattle.sv8_trace.specs.Translating.{NoneTranslates}
 
@@ -26,3 +31,13 @@ none_so_far k start stop from r few before here n a b = go (cases_lt n start)
         let low = div-mul-le_self start k in
         let e : n / k ≡ start / k = div-eq_of_lt-le k (omega (arith, low, l)) (omega (arith, b, few)) in
         ap (is_translated r) e ∙ here
+
+-- ---- states
+
+-- addresses are translated alike in states with the same registers of the memory management unit
+pub translates_alike : (f g : ℕ → State) (count : ℕ) → ((j : ℕ) → j < count → (f j).mmu ≡ (g j).mmu) → translates_among f count ≡ translates_among g count
+translates_alike f g count same = some_from-like 0 count (λ j. translates (f j).mmu) (λ j. translates (g j).mmu) (λ j l. ap translates (same j l))
+
+-- where they are in none of some states, they are not in each
+pub each_untranslated : (f : ℕ → State) (count : ℕ) → translates_among f count ≡ false → (j : ℕ) → j < count → IsUntranslated (f j)
+each_untranslated f count none j l = none_at 0 count (λ j. translates (f j).mmu) none j (omega arith) l
