@@ -10,7 +10,7 @@ TOP = Path(__file__).resolve().parents[2]
 DOCUMENTS = [TOP / "README.md", TOP / "CHANGELOG.md", *sorted((TOP / "docs").glob("*.md"))]
 LINK = re.compile(r"\]\(([^)\s]+)\)")
 PLACE = re.compile(r"`((?:docs|crates|lib|tests|tools|bench|examples|\.ci)/[\w./-]+)`")
-PLACEHOLDER = re.compile(r"(?:^|/)[A-Z]+(?=/|$)")
+PLACEHOLDER = re.compile(r"(?:^|/)(?:[A-Z]+|NAME[-.][\w.-]*)(?=/|$)")
 HEAD = re.compile(r"^#+ (.*)$", re.MULTILINE)
 
 

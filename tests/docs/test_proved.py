@@ -30,7 +30,8 @@ class Proved(unittest.TestCase):
         for head, section in sections:
             names, words = carriers(section), set().union(*(words_of(crate) for crate in head.split(", ")))
             with self.subTest(crates=head):
-                self.assertEqual(sorted(name for name in names if name not in words and not name.startswith("sv8_")), [])
+                strange = (name for name in names - words if not name.startswith("sv8_"))
+                self.assertEqual(sorted(strange), [])
 
     def test_each_crate_has_a_place(self) -> None:
         text = (TOP / "docs/PROVED.md").read_text()
