@@ -16,7 +16,7 @@ pub record IsUntouched (k : ℕ) (w : Workbench) (address count from to : ℕ) :
   pub recorded : to ≤ recorded k w.recording
   pub spared : (n : ℕ) → from ≤ n → n < to → SparesBytes w.kept.windows w.kept.pages w.kept.timeline n (machine_state w.kept n) address count
 
--- .. AND NO ADDRESS IS TRANSLATED in the state before it: it then reaches no instruction at the first of four bytes
+-- THEY SPARE THE WORD AT AN ADDRESS, AND NO ADDRESS IS TRANSLATED in the state before each: none of them reaches an instruction there
 pub record IsUnreached (k : ℕ) (w : Workbench) (address from to : ℕ) : Type 0 where
   pub untouched : IsUntouched k w address 4 from to
   pub untranslated : (n : ℕ) → from ≤ n → n < to → IsUntranslated (machine_state w.kept n)

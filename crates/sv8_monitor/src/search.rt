@@ -298,7 +298,8 @@ fn add_falling(found: &mut Vec<Found>, seen: &[Found], most: u32) -> Result<u32,
     Ok(left)
 }
 
-/// Whether the record shows that no step of a range reaches an instruction at an address. It never does of one outside RAM.
+/// Whether the record shows that no step of a range reaches an instruction at an address. It shows nothing of an address
+/// whose word does not lie in RAM.
 fn reaches_none<const NW: usize, const PAGES: usize, const K: u32>(
     bench: &Bench<NW, PAGES, K>,
     address: u32,
@@ -313,8 +314,8 @@ fn reaches_none<const NW: usize, const PAGES: usize, const K: u32>(
     u64::from(address) + 4 <= 4_096 * PAGES as u64 && bench.is_unreached(address, from, to)
 }
 
-/// Whether the notes of the recorded run show that no step of a range touches the bytes of a condition. They show nothing of a
-/// condition that has none.
+/// Whether the notes of the recorded run show that no step of a range meets a condition on bytes of RAM. They show nothing
+/// of another condition.
 fn touches_none<const NW: usize, const PAGES: usize, const K: u32>(
     bench: &Bench<NW, PAGES, K>,
     condition: Condition,

@@ -7,8 +7,8 @@ use crate::kept::KeptList;
 use crate::notes::Notes;
 use std::alloc::{AllocError, Global};
 
-/// What is kept of the steps from a checkpoint to the next one: what each touches, what stood
-/// in cells before events set them, and whether one of the steps begins in a state in which addresses are translated.
+/// What is kept of the steps from a checkpoint to the next one: what each touches, what stood in cells before events set
+/// them, and whether one of the steps begins in a state in which addresses are translated.
 #[derive(Drop)]
 pub(crate) struct Interval {
     pub notes: Notes,

@@ -78,10 +78,10 @@ impl<const NW: usize, const PAGES: usize, const K: u32> Bench<NW, PAGES, K> {
             && !pokes_between(&self.timeline, address, count, from, to)
     }
 
-    /// Whether `is_untouched` says of the word at an address that no step from `from` on and below `to` touches it, and addresses are
-    /// translated in no state before a step of the intervals in which these steps lie. It makes no step.
+    /// Whether `is_untouched` holds of the word at an address and the steps from `from` on and below `to`, and addresses
+    /// are translated in no state before a step of the intervals in which these steps lie. It makes no step.
     ///
-    /// An instruction at the address is then reached in none of these steps, where its word lies in RAM (`spared_pcs_miss` of
+    /// None of these steps then reaches an instruction at the address, where its word lies in RAM (`spared_pcs_miss` of
     /// `sv8_watch`).
     pub fn is_unreached(&self, address: u32, from: u32, to: u32) -> bool
         requires within { address + 4 ≤ 0x1_0000_0000 }
