@@ -1,8 +1,9 @@
 #!/usr/bin/env python3
 """bench/image.py PROGRAM [--windows N] <SCRIPT: what a script leaves, for the plain interpreter.
 
-Gives the script's edits and events to PROGRAM, asks it for the listing, and writes a line `at ADDRESS BYTES` for each group of bytes that a line places,
-and a line `poke`, `input` or `irq` for each event that stands. Queries of the script are left out.
+Gives the script's edits and events to PROGRAM, asks it for the listing, and writes a line `at ADDRESS BYTES` for each
+group of bytes that a line places, and a line `poke`, `input` or `irq` for each event that stands. Queries of the script
+are left out.
 """
 import subprocess
 import sys

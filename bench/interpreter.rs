@@ -1,8 +1,10 @@
-//! The same machine in plain Rust, to compare times with: the integer unit with its windows, traps and interrupts, RAM of 256 pages, the devices,
-//! and the events of a timeline. It decodes each word each time that it is carried out, as the proved program does. It proves nothing.
+//! The same machine in plain Rust, to compare times with: the integer unit with its windows, traps and interrupts, RAM
+//! of 256 pages, the devices, and the events of a timeline. It decodes each word each time that it is carried out, as
+//! the proved program does. It proves nothing.
 //!
-//! `interpreter WINDOWS IMAGE STEP..` answers each STEP as the command `regs STEP` is answered, and tells on standard error the time of a step. WINDOWS is
-//! 2, 4, 8, 16 or 32. IMAGE is a file as `bench/image.py` writes it, of lines `at ADDRESS BYTES`, `poke STEP ADDRESS BYTES`, `input STEP BYTES` and `irq STEP LEVEL`.
+//! `interpreter WINDOWS IMAGE STEP..` answers each STEP as the command `regs STEP` is answered, and tells on standard
+//! error the time of a step. WINDOWS is 2, 4, 8, 16 or 32. IMAGE is a file as `bench/image.py` writes it, of lines
+//! `at ADDRESS BYTES`, `poke STEP ADDRESS BYTES`, `input STEP BYTES` and `irq STEP LEVEL`.
 use std::collections::{BTreeMap, VecDeque};
 use std::process::ExitCode;
 use std::time::Instant;
@@ -192,7 +194,8 @@ impl<const NW: usize> Machine<NW> {
     }
 
     fn psr(&self) -> u32 {
-        self.codes << 20 | self.pil << 8 | u32::from(self.s) << 7 | u32::from(self.ps) << 6 | u32::from(self.et) << 5 | self.cwp
+        let modes = u32::from(self.s) << 7 | u32::from(self.ps) << 6 | u32::from(self.et) << 5;
+        self.codes << 20 | self.pil << 8 | modes | self.cwp
     }
 
     fn set_psr(&mut self, word: u32) {

@@ -47,7 +47,8 @@ class Pair:
 
     def answers(self, steps):
         """What each answers to `regs` of these steps."""
-        ours = subprocess.run(self.words, input=self.script(steps), capture_output=True, check=True).stdout.decode().splitlines()
+        told = subprocess.run(self.words, input=self.script(steps), capture_output=True, check=True)
+        ours = told.stdout.decode().splitlines()
         words = self.interpreted + [str(step) for step in steps]
         theirs = subprocess.run(words, capture_output=True, text=True, check=True).stdout.splitlines()
         return ours[len(ours) - len(theirs) :], theirs

@@ -116,7 +116,9 @@ def show(text, name, rows):
 
 
 def main():
-    print("//! Results at the edges. `tools/alu_table.py` makes this file, and says how. An icc field is one number, its")
+    print(
+        "//! Results at the edges. `tools/alu_table.py` makes this file, and says how. An icc field is one number, its"
+    )
     print("//! bits N, Z, V and C from left to right.")
     show(
         "r[rs1], operand, C; ADDX and its icc; SUBX and its icc.",

@@ -3,12 +3,13 @@
 
 Usage: tools/gate_times.py COMMAND.., as tools/gate_times.py rt ci
 
-It runs the command and looks every second at the processes that descend from it. A process counts with the processor time
-that it had when it was last seen, so short ones count a little low.
+It runs the command and looks every second at the processes that descend from it. A process counts with the processor
+time that it had when it was last seen, so short ones count a little low.
 """
 import os, re, subprocess, sys, time
 
 TICK = os.sysconf("SC_CLK_TCK")
+
 
 def stat(pid):
     """The parent and the processor seconds of a process."""
@@ -16,8 +17,10 @@ def stat(pid):
     fields = text[text.rindex(")") + 2 :].split()
     return int(fields[1]), (int(fields[11]) + int(fields[12])) / TICK
 
+
 def words(pid):
     return open(f"/proc/{pid}/cmdline", "rb").read().decode(errors="replace").split("\0")
+
 
 def kind_of(pid):
     """The crate and the kind of work of a process."""
@@ -30,6 +33,7 @@ def kind_of(pid):
     if "rt-edit" in place or "rt-edit" in " ".join(args):
         return crate, "must-fail"
     return crate, "tests" if "--test" in args else "proof"
+
 
 def look(root, seen):
     """Notes the time of each process below the command's."""
@@ -54,6 +58,7 @@ def look(root, seen):
             if pid in seen:
                 seen[pid] = (seen[pid][0], seconds)
 
+
 def table(seen):
     """The minutes of each crate and kind."""
     kinds = ["proof", "tests", "must-fail", "rest"]
@@ -67,6 +72,7 @@ def table(seen):
     total = {k: sum(row[k] for row in sums.values()) for k in kinds}
     print("| all | " + " | ".join(f"{total[k]:.1f}" for k in kinds) + f" | {sum(total.values()):.1f} |")
 
+
 def main():
     started = time.time()
     child = subprocess.Popen(sys.argv[1:])
@@ -77,5 +83,6 @@ def main():
     table(seen)
     print(f"\n{(time.time() - started) / 60:.1f} minutes")
     sys.exit(child.returncode)
+
 
 main()

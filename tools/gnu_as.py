@@ -1,11 +1,12 @@
 #!/usr/bin/env python3
 """Compares the assembler with GNU as.
 
-    tools/gnu_as.py words [FILE]     makes FILE: statements of every mnemonic and form, each with the bytes that GNU as gives
+    tools/gnu_as.py words [FILE]     makes FILE: statements of every mnemonic and form, each with the bytes of GNU as
     tools/gnu_as.py compare [FILE]   has the program list the statements of FILE, unproved, and compares the bytes
 
-FILE is tools/gnu_as.txt where it is left out. Each of its lines is the bytes in hexadecimal, a tab and the line of text. The lines are
-one source: labels stand in it, and branches go to them. `words` needs Debian's binutils-sparc64-linux-gnu; `compare` does not.
+FILE is tools/gnu_as.txt where it is left out. Each of its lines is the bytes in hexadecimal, a tab and the line of
+text. The lines are one source: labels stand in it, and branches go to them. `words` needs Debian's
+binutils-sparc64-linux-gnu; `compare` does not.
 """
 import os
 import subprocess
@@ -15,8 +16,11 @@ import tempfile
 TOP = os.path.dirname(os.path.dirname(os.path.abspath(__file__)))
 AS = "sparc64-linux-gnu-"
 
-ARITHMETIC = [name + suffix for name in
-              "add sub addx subx and andn or orn xor xnor umul smul udiv sdiv".split() for suffix in ("", "cc")]
+ARITHMETIC = [
+    name + suffix
+    for name in "add sub addx subx and andn or orn xor xnor umul smul udiv sdiv".split()
+    for suffix in ("", "cc")
+]
 THREE = ARITHMETIC + "taddcc taddcctv tsubcc tsubcctv mulscc save restore".split()
 LOADS = "ldsb ldsh ldub lduh ld ldd ldstub swap".split()
 STORES = "stb sth st std".split()
@@ -33,7 +37,12 @@ ON_PURPOSE = {
 
 def statements():
     for name in THREE:
-        yield from (f"{name} %g1, %o2, %l3", f"{name} %i4, 4095, %sp", f"{name} %r9, -4096, %g0", f"{name} %fp, %lo(0x12345678), %r31")
+        yield from (
+            f"{name} %g1, %o2, %l3",
+            f"{name} %i4, 4095, %sp",
+            f"{name} %r9, -4096, %g0",
+            f"{name} %fp, %lo(0x12345678), %r31",
+        )
     for name in "sll srl sra".split():
         yield from (f"{name} %g1, %o2, %l3", f"{name} %i4, 0, %o5", f"{name} %l1, 31, %g7")
     for name in LOADS:
@@ -46,8 +55,14 @@ def statements():
         yield from (f"{name}a %o4, [%g1]0x20", f"{name}a %i2, [%g1+%l2]0")
     yield from ("sethi 0x3fffff, %g1", "sethi %hi(0x12345678), %o3", "sethi %hi(0xfffffc00), %g0", "sethi 0, %l7")
     for special in SPECIAL:
-        yield from (f"rd {special}, %l1", f"wr %g1, %o2, {special}", f"wr %l1, -1, {special}", f"mov {special}, %i3", f"mov %i3, {special}",
-                    f"mov 5, {special}")
+        yield from (
+            f"rd {special}, %l1",
+            f"wr %g1, %o2, {special}",
+            f"wr %l1, -1, {special}",
+            f"mov {special}, %i3",
+            f"mov %i3, {special}",
+            f"mov 5, {special}",
+        )
     for condition in CONDITIONS:
         yield from (f"b{condition} first", f"b{condition},a last")
         yield from (f"t{condition} %g1", f"t{condition} %g1+%o2", f"t{condition} %l1+5", f"t{condition} 127")
@@ -62,9 +77,26 @@ def statements():
     for name in "btst bset bclr btog".split():
         yield from (f"{name} 5, %g1", f"{name} %o2, %g1")
     yield from ("clr %g1", "clr [%g1+4]", "clrb [%o2]", "clrh [%sp-2]", "mov %g1, %o2", "mov -5, %l3")
-    yield from ("set 5, %g1", "set -4096, %g1", "set 4095, %g1", "set 0x12345678, %o2", "set 0x40000000, %l3", "set 4096, %l3", "set -1, %i1")
-    yield from (".word 1, 0xffffffff, -1, -2147483648", ".half 1, -1, 0x8000, 65535", ".byte 1, 255, -128, 0x7f", '.ascii "ab\\n\\t\\\\\\"cd"',
-                ".align 8", ".word 7", ".skip 12", ".align 16", ".word 8")
+    yield from (
+        "set 5, %g1",
+        "set -4096, %g1",
+        "set 4095, %g1",
+        "set 0x12345678, %o2",
+        "set 0x40000000, %l3",
+        "set 4096, %l3",
+        "set -1, %i1",
+    )
+    yield from (
+        ".word 1, 0xffffffff, -1, -2147483648",
+        ".half 1, -1, 0x8000, 65535",
+        ".byte 1, 255, -128, 0x7f",
+        '.ascii "ab\\n\\t\\\\\\"cd"',
+        ".align 8",
+        ".word 7",
+        ".skip 12",
+        ".align 16",
+        ".word 8",
+    )
 
 
 def lines():
@@ -103,7 +135,7 @@ def words(path):
             placed = file.read()
     with open(path, "w") as out:
         for number, line in enumerate(source):
-            out.write(placed[places[number]:places[number + 1]].hex() + "\t" + line + "\n")
+            out.write(placed[places[number] : places[number + 1]].hex() + "\t" + line + "\n")
     print(f"{len(source)} lines")
 
 

@@ -1,12 +1,15 @@
 #!/usr/bin/env python3
 """Refuses each growth of memory of a script's run in turn, and looks at what the program answers.
 
-Usage: tools/refused_growths.py PROGRAM SCRIPT, as tools/refused_growths.py crates/sparc8/out/sparc8 crates/sv8_cases/data/examples-first-w8.txt
+Usage: tools/refused_growths.py PROGRAM SCRIPT, as
+tools/refused_growths.py crates/sparc8/out/sparc8 crates/sv8_cases/data/examples-first-w8.txt
 
 A run may end with status 3 and the line `PROGRAM: out of memory`, before any command. Else one command is answered
-`refused 1 OutOfMemory`, and all other answers are those of the script without that command (an edit goes with its lines).
+`refused 1 OutOfMemory`, and all other answers are those of the script without that command (an edit goes with its
+lines).
 """
 import os, subprocess, sys, tempfile
+
 
 def commands(script):
     """The script's commands, each as its lines."""
@@ -18,12 +21,14 @@ def commands(script):
         i += 1 + taken
     return found
 
+
 def run(program, script, shim=None, refuse=None, told=None):
     env = dict(os.environ)
     if shim:
         env.update(LD_PRELOAD=shim, REFUSE=str(refuse), TOLD=told)
     done = subprocess.run([program], input=script, env=env, capture_output=True, timeout=120)
     return done.returncode, done.stdout, done.stderr
+
 
 def answers_without(program, script):
     """For each command: what is to be written where it is refused for want of memory."""
@@ -36,13 +41,15 @@ def answers_without(program, script):
         texts.append(before + b"refused 1 OutOfMemory\n" + rest[len(before) :])
     return texts
 
+
 def main():
     program, path = os.path.abspath(sys.argv[1]), sys.argv[2]
     script = open(path, "rb").read()
     here = os.path.dirname(os.path.abspath(__file__))
     with tempfile.TemporaryDirectory() as folder:
         shim = os.path.join(folder, "refuse_growth.so")
-        subprocess.run(["cc", "-O1", "-shared", "-fPIC", "-o", shim, os.path.join(here, "../tests/growths/refuse_growth.c"), "-ldl"], check=True)
+        source = os.path.join(here, "../tests/growths/refuse_growth.c")
+        subprocess.run(["cc", "-O1", "-shared", "-fPIC", "-o", shim, source, "-ldl"], check=True)
         whole = run(program, script)
         refusals = answers_without(program, script)
         counts = {"before any command": 0, "a command": 0, "no answer changed": 0}
@@ -66,5 +73,6 @@ def main():
         print(", ".join(f"{what}: {count}" for what, count in counts.items()))
         print(f"{n - failed} passed, {failed} failed")
         sys.exit(failed > 0)
+
 
 main()

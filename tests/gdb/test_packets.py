@@ -563,7 +563,7 @@ class Ends(unittest.TestCase):
                 gdb.write(b"+\x03")
                 begun = time.monotonic()
                 found = gdb.reply()
-                # The proved program may have come to the end of time before, which a text tells of in front of the stop.
+                # The proved program may have come to the end of time before. A text in front of the stop tells of it.
                 if found == END_OF_TIME:
                     found = gdb.reply()
                 self.assertRegex(found, rb"^T02thread:1;$|^T05(replaylog:begin;)?thread:1;$")

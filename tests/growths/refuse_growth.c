@@ -1,5 +1,5 @@
-/* Preloaded, it refuses the Nth growth of memory that the program asks for, N being the environment variable REFUSE, and makes
-   a file of the name in the environment variable TOLD once it has done so. */
+/* Preloaded, it refuses the Nth growth of memory that the program asks for, N being the environment variable REFUSE,
+   and makes a file of the name in the environment variable TOLD once it has done so. */
 #define _GNU_SOURCE
 #include <dlfcn.h>
 #include <errno.h>

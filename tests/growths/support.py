@@ -18,7 +18,8 @@ def built(name: str) -> Path:
     """A program of the gate: the one that stands in its folder, or else one that is proved and built now."""
     program = TOP / "crates" / name / "out" / name
     if not program.exists():
-        subprocess.run(["rt", "run"], cwd=TOP / "crates" / name, stdin=subprocess.DEVNULL, stdout=subprocess.DEVNULL, check=False)
+        nothing = subprocess.DEVNULL
+        subprocess.run(["rt", "run"], cwd=TOP / "crates" / name, stdin=nothing, stdout=nothing, check=False)
     return program
 
 

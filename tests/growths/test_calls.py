@@ -1,4 +1,7 @@
-"""Each growth of the calls that take memory is refused in turn: a refused call leaves all as it was, and made once more it does its work."""
+"""Each growth of the calls that take memory is refused in turn.
+
+A refused call leaves all as it was, and made once more it does its work.
+"""
 from __future__ import annotations
 
 import unittest

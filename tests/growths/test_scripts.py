@@ -1,5 +1,8 @@
-"""Each growth of whole scripts is refused in turn. One command is then answered `refused 1 OutOfMemory`, or none where the growth was of the
-lookaside buffer; the other answers are those of the script without that command, and the counts are as they are due."""
+"""Each growth of whole scripts is refused in turn.
+
+One command is then answered `refused 1 OutOfMemory`, or none where the growth was of the lookaside buffer; the other
+answers are those of the script without that command, and the counts are as they are due.
+"""
 from __future__ import annotations
 
 import os
@@ -61,7 +64,9 @@ class Scripts(unittest.TestCase):
             growth += 1
         self.assertGreater(refusals, 0)
 
-    def check_refusal(self, parts: list[bytes], whole: list[Answer], without: list[list[Answer]], found: list[Answer], about: str) -> None:
+    def check_refusal(
+        self, parts: list[bytes], whole: list[Answer], without: list[list[Answer]], found: list[Answer], about: str
+    ) -> None:
         self.assertEqual(len(found), len(whole), about)
         at = next(it for it, (one, other) in enumerate(zip(found, whole)) if one != other)
         self.assertEqual(found[at].text, REFUSED, about)
@@ -73,7 +78,8 @@ class Scripts(unittest.TestCase):
         else:
             last = step - step % STEPS_BETWEEN_CHECKPOINTS
             self.assertIn(found[at].recorded, range(before.recorded, max(before.recorded, last) + 1), about)
-            self.assertIn(found[at].worked, range(before.worked, before.worked + step - min(before.recorded, last) + 1), about)
+            most = before.worked + step - min(before.recorded, last)
+            self.assertIn(found[at].worked, range(before.worked, most + 1), about)
             self.assertEqual([it.text for it in found[at + 1 :]], [it.text for it in without[at][at:]], about)
 
     def test_page_tables(self) -> None:

@@ -54,19 +54,25 @@ class InFolder(unittest.TestCase):
         subprocess.run(["gcc", "-w", "-O1", "-o", built, source], check=True)
         return subprocess.run([built], check=True, stdout=subprocess.PIPE).stdout
 
-    def built(self, sources: Sequence[Path], flags: Sequence[str] = ("-O2", "-g"), keeps_relocations: bool = True) -> Imported:
+    def built(
+        self, sources: Sequence[Path], flags: Sequence[str] = ("-O2", "-g"), keeps_relocations: bool = True
+    ) -> Imported:
         """Sources built and imported."""
         return import_file(sources, Settings(builder=Builder(self.tools, tuple(flags), keeps_relocations)))
 
     def cross(self, tool: str, *words: str | Path) -> str:
         """What a cross tool prints."""
-        return subprocess.run([self.tools.prefix + tool, *words], check=True, stdout=subprocess.PIPE, stderr=subprocess.DEVNULL, text=True).stdout
+        return subprocess.run(
+            [self.tools.prefix + tool, *words], check=True, stdout=subprocess.PIPE, stderr=subprocess.DEVNULL, text=True
+        ).stdout
 
     def linked(self, source: Path, *words: str, keeps_relocations: bool = True) -> Path:
         """An ELF file of a source by plain commands: what a user has who did not ask the importer."""
         made, linked = source.with_suffix(".o"), source.with_suffix(".elf")
         self.cross("gcc", "-m32", "-mcpu=v8", "-mno-fpu", "-fno-pic", "-ffreestanding", "-g", "-c", source, "-o", made)
-        self.cross("ld", "-m", "elf32_sparc", "-static", *(["-q"] if keeps_relocations else []), *words, "-o", linked, made)
+        self.cross(
+            "ld", "-m", "elf32_sparc", "-static", *(["-q"] if keeps_relocations else []), *words, "-o", linked, made
+        )
         return linked
 
     def check(self, imported: Imported, windows: int | None = None) -> str:
@@ -77,5 +83,11 @@ class InFolder(unittest.TestCase):
 
     def command(self, *words: str | Path, **more: str) -> subprocess.CompletedProcess[str]:
         """The importer's command line."""
-        return subprocess.run([sys.executable, "-B", "-m", "rubliman.importer", *words], capture_output=True, text=True, check=False,
-                              cwd=self.folder, env={**os.environ, "PYTHONPATH": str(TOP / "lib"), **more})
+        return subprocess.run(
+            [sys.executable, "-B", "-m", "rubliman.importer", *words],
+            capture_output=True,
+            text=True,
+            check=False,
+            cwd=self.folder,
+            env={**os.environ, "PYTHONPATH": str(TOP / "lib"), **more},
+        )

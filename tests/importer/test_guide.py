@@ -24,7 +24,11 @@ class Example:
 
     def pattern(self) -> re.Pattern[str]:
         """What the output has to match: `..` is any text of a line, and alone any lines."""
-        return re.compile("".join(r"(?:.*\n)*" if it == ".." else ".*".join(map(re.escape, it.split(".."))) + r"\n" for it in self.prints))
+        return re.compile(
+            "".join(
+                r"(?:.*\n)*" if it == ".." else ".*".join(map(re.escape, it.split(".."))) + r"\n" for it in self.prints
+            )
+        )
 
 
 def examples() -> Iterator[Example]:
@@ -52,14 +56,23 @@ class Guide(InFolder):
     def test_examples(self) -> None:
         shutil.copytree(EXAMPLES, self.folder / "examples")
         program = self.folder / "sparc8"
-        program.write_text(f'#!/bin/sh\nfor word; do [ "$word" != --import ] || exec {TOP}/sparc8 "$@"; done\nexec "$SPARC8" "$@"\n',
-                           encoding="utf-8")
+        program.write_text(
+            f'#!/bin/sh\nfor word; do [ "$word" != --import ] || exec {TOP}/sparc8 "$@"; done\nexec "$SPARC8" "$@"\n',
+            encoding="utf-8",
+        )
         program.chmod(0o755)
         script, found = ["exec 2>&1"], list(examples())
         for number, it in enumerate(found):
             script += [f"echo '== {number}'", it.command]
         environment = {name: value for name, value in os.environ.items() if name not in ("CROSS", "CFLAGS")}
-        done = subprocess.run(["bash", "-c", "\n".join(script)], stdout=subprocess.PIPE, text=True, cwd=self.folder, env=environment, check=False)
+        done = subprocess.run(
+            ["bash", "-c", "\n".join(script)],
+            stdout=subprocess.PIPE,
+            text=True,
+            cwd=self.folder,
+            env=environment,
+            check=False,
+        )
         printed = re.split(r"^== \d+\n", done.stdout, flags=re.MULTILINE)[1:]
         self.assertEqual(len(printed), len(found))
         for it, output in zip(found, printed):

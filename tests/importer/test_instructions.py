@@ -46,7 +46,9 @@ class RandomWords(InFolder):
             listing = opened.listing()
         placed = {line.address: line.data for line in listing if line.data}
         self.assertEqual([placed[4 * it] for it in range(WORDS)], [it.to_bytes(4, "big") for it in words])
-        instructions = sum(line.address is not None and not line.text.lstrip().startswith(".word") for line in imported.text.lines)
+        instructions = sum(
+            line.address is not None and not line.text.lstrip().startswith(".word") for line in imported.text.lines
+        )
         self.assertGreater(instructions, least_instructions)
 
     def test_uniform_words_come_back(self) -> None:
@@ -60,11 +62,29 @@ class Statements(unittest.TestCase):
     """Texts of single words, as GNU as assembles them or as the manual has them."""
 
     def test_plain_forms(self) -> None:
-        expected = {0x01000000: "nop", 0x81C7E008: "ret", 0x81C3E008: "retl", 0x81E80000: "restore", 0x9DE3BFA0: "save %sp, -0x60, %sp",
-                    0x82102005: "mov 5, %g1", 0x84006001: "add %g1, 1, %g2", 0x80A06003: "cmp %g1, 3", 0x80900001: "tst %g1",
-                    0x03000004: "sethi %hi(0x1000), %g1", 0xC2006010: "ld [%g1+0x10], %g1", 0xC227BFFC: "st %g1, [%fp-4]",
-                    0xC0A08060: "sta %g0, [%g2]3", 0x91D02005: "ta 5", 0x9FC04000: "call %g1", 0x81C04000: "jmp %g1",
-                    0x8143C000: "stbar", 0x83480000: "rd %psr, %g1", 0x81882020: "mov 0x20, %psr", 0x82100000: "clr %g1", 0x00000008: "unimp 8"}
+        expected = {
+            0x01000000: "nop",
+            0x81C7E008: "ret",
+            0x81C3E008: "retl",
+            0x81E80000: "restore",
+            0x9DE3BFA0: "save %sp, -0x60, %sp",
+            0x82102005: "mov 5, %g1",
+            0x84006001: "add %g1, 1, %g2",
+            0x80A06003: "cmp %g1, 3",
+            0x80900001: "tst %g1",
+            0x03000004: "sethi %hi(0x1000), %g1",
+            0xC2006010: "ld [%g1+0x10], %g1",
+            0xC227BFFC: "st %g1, [%fp-4]",
+            0xC0A08060: "sta %g0, [%g2]3",
+            0x91D02005: "ta 5",
+            0x9FC04000: "call %g1",
+            0x81C04000: "jmp %g1",
+            0x8143C000: "stbar",
+            0x83480000: "rd %psr, %g1",
+            0x81882020: "mov 0x20, %psr",
+            0x82100000: "clr %g1",
+            0x00000008: "unimp 8",
+        }
         self.assertEqual({it: fixed_statement(it) for it in expected}, expected)
 
     def test_words_without_a_form(self) -> None:

@@ -32,14 +32,17 @@ class Remarks(InFolder):
             with self.subTest(version=version):
                 texts = self.built([source], ("-O1", f"-gdwarf-{version}")).text.texts()
                 place = texts.index("twice:")
-                self.assertEqual(texts[place + 1:place + 3], ["! it.c:4 {", "! it.c:5 return it * 2;"])
+                self.assertEqual(texts[place + 1 : place + 3], ["! it.c:4 {", "! it.c:5 return it * 2;"])
 
     def test_none_without_debug_information(self) -> None:
         texts = self.built([self.write("it.c", SOURCE)], ("-O1",)).text.texts()
         self.assertFalse([it for it in texts if it.startswith("! it.c")])
 
     def test_they_agree_with_another_reader(self) -> None:
-        source = "int f(int it)\n{\n    if (it)\n        return 3;\n    return it + 7;\n}\nint _start(void)\n{\n    return f(4);\n}\n"
+        source = (
+            "int f(int it)\n{\n    if (it)\n        return 3;\n    return it + 7;\n}\n"
+            "int _start(void)\n{\n    return f(4);\n}\n"
+        )
         linked = self.linked(self.write("it.c", source), "-Ttext=0")
         origins = import_file([linked]).origins
         addresses = range(0, import_file([linked]).program.sections[0].end, 4)
@@ -51,11 +54,17 @@ class Remarks(InFolder):
         (self.folder / "moved").mkdir()
         (self.folder / "it.c").rename(self.folder / "moved" / "it.c")
         self.assertIn("! it.c:3", import_file([linked]).text.texts())
-        self.assertIn("! it.c:3 return 5;", import_file([linked], Settings(sources=(self.folder / "moved",))).text.texts())
+        self.assertIn(
+            "! it.c:3 return 5;", import_file([linked], Settings(sources=(self.folder / "moved",))).text.texts()
+        )
 
     def test_strange_characters(self) -> None:
-        source = self.write("it.c", 'const char *text = "\u00e9\u4e2d";\nint _start(void)\n{\n\treturn  text[0];   /* \u00fc */ }\n')
-        remarks = [it for it in import_file([self.linked(source, "-Ttext=0")]).text.texts() if it.startswith("! it.c:4")]
+        source = self.write(
+            "it.c", 'const char *text = "\u00e9\u4e2d";\nint _start(void)\n{\n\treturn  text[0];   /* \u00fc */ }\n'
+        )
+        remarks = [
+            it for it in import_file([self.linked(source, "-Ttext=0")]).text.texts() if it.startswith("! it.c:4")
+        ]
         self.assertTrue(remarks)
         for it in remarks:
             self.assertRegex(it, r"^! it\.c:4 return text\[0\]; /\* \?+ \*/ }$")
@@ -76,7 +85,9 @@ class WayBack(InFolder):
             imported.enter(opened)
             step = next(it for it in range(200) if opened.state(it).pc == inside)
         told = self.command("--import", source.name, "--addr2line", str(step), f"0x{address:x}", CFLAGS="-O0 -g")
-        self.assertEqual(told.stdout, f"step {step}: {imported.place(inside)}\n{imported.place(address)}\n", told.stderr)
+        self.assertEqual(
+            told.stdout, f"step {step}: {imported.place(inside)}\n{imported.place(address)}\n", told.stderr
+        )
 
     def test_without_a_symbol(self) -> None:
         image = Path(self.folder, "it.bin")

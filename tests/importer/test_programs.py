@@ -1,4 +1,7 @@
-"""Each example and each program of the tests, built in every way: its image is that of the file, and its output that of the host."""
+"""Each example and each program of the tests, built in every way.
+
+Its image is that of the file, and its output that of the host.
+"""
 from __future__ import annotations
 
 import unittest
@@ -37,7 +40,9 @@ class Built(InFolder):
                     imported.enter(opened)
                     self.assertIn("the workbench's image is that of the file", imported.check(opened))
                     self.assertEqual(opened.output(), expected)
-            self.assertEqual(any("stand as numbers" in it for it in imported.notes), not keeps_relocations, imported.notes)
+            self.assertEqual(
+                any("stand as numbers" in it for it in imported.notes), not keeps_relocations, imported.notes
+            )
 
     def lines_put_in(self, source: Path, level: str) -> None:
         """Three lines put into `main` move all behind it, and the output stays."""
@@ -49,7 +54,9 @@ class Built(InFolder):
             before = opened.listing()
             opened.edit(place, place - 1, INSERTED)
             after = opened.listing()
-            moved = [(old.address, new.address) for old, new in zip(before[place - 1:], after[place + 2:]) if old.data]
+            moved = [
+                (old.address, new.address) for old, new in zip(before[place - 1 :], after[place + 2 :]) if old.data
+            ]
             self.assertTrue(moved and all(old < new for old, new in moved))
             self.assertEqual(opened.output(), expected)
 
@@ -84,14 +91,18 @@ class Runtime(InFolder):
     def test_headers_are_found(self) -> None:
         names = ("limits", "sparc8", "stdarg", "stdbool", "stddef", "stdint", "stdio", "stdlib", "string")
         text = "\n".join(f"#include <{it}.h>" for it in names)
-        text += "\nint main(void) { printf(\"%x %d %x\\n\", (unsigned)(UINT64_MAX >> 40), INT_MIN, UCHAR_MAX); return 0; }"
+        text += (
+            '\nint main(void) { printf("%x %d %x\\n", (unsigned)(UINT64_MAX >> 40), INT_MIN, UCHAR_MAX); return 0; }'
+        )
         self.assertEqual(self.printed(text), "ffffff -2147483648 ff\n")
 
     def test_two_windows_are_too_few(self) -> None:
         self.assertEqual(self.printed("int main(void) { return 0; }", 2), "this program needs 4 register windows\n")
 
     def test_input_is_read(self) -> None:
-        text = "#include <stdio.h>\nint main(void) { int it; while ((it = getchar()) != EOF) putchar(it + 1); return 0; }"
+        text = (
+            "#include <stdio.h>\nint main(void) { int it; while ((it = getchar()) != EOF) putchar(it + 1); return 0; }"
+        )
         self.assertEqual(self.printed(text, before="input 0 484148"), "IBI")
 
     def test_registers_and_windows_outlast_traps_at_every_depth(self) -> None:
@@ -107,7 +118,12 @@ class Runtime(InFolder):
             }
             static unsigned wide(unsigned n) { return n < 2 ? n : wide(n - 1) + wide(n - 2); }
             static void on_call(struct trap *trap) { count += wide(6) / 8; sparc8_pass_over(trap); }
-            int main(void) { trap_handlers[0x81] = on_call; unsigned sum = deep(20); printf("%u %u\\n", sum, count); return 0; }"""
+            int main(void) {
+                trap_handlers[0x81] = on_call;
+                unsigned sum = deep(20);
+                printf("%u %u\\n", sum, count);
+                return 0;
+            }"""
         for windows in (4, 8, 16, 32):
             with self.subTest(windows=windows):
                 self.assertEqual(self.printed(text, windows), "630 21\n")

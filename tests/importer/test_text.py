@@ -22,7 +22,11 @@ class Texts(InFolder):
 
     def lines(self, imported: Imported) -> list[str]:
         """The lines, without remarks, and with single spaces."""
-        return [" ".join(it.partition("!")[0].split()) if '"' not in it else it.strip() for it in imported.text.texts() if not it.startswith("!")]
+        return [
+            " ".join(it.partition("!")[0].split()) if '"' not in it else it.strip()
+            for it in imported.text.texts()
+            if not it.startswith("!")
+        ]
 
     def has(self, lines: Sequence[str], *wanted: str) -> None:
         """These lines stand in the text, one behind the other."""
@@ -30,8 +34,26 @@ class Texts(InFolder):
         self.assertIn("\n".join(wanted) + "\n", joined)
 
     def test_names_of_code(self) -> None:
-        lines = self.text(".global _start\n_start: cmp %g1, 5\nbe,a over\n nop\ncall far\n nop\nover: ba _start\n nop\nfar: retl\n nop\n", "-Ttext=0")
-        self.has(lines, "_start:", "cmp %g1, 5", "be,a over", "nop", "call far", "nop", "over:", "ba _start", "nop", "far:", "retl", "nop")
+        lines = self.text(
+            ".global _start\n_start: cmp %g1, 5\nbe,a over\n nop\ncall far\n nop\n"
+            "over: ba _start\n nop\nfar: retl\n nop\n",
+            "-Ttext=0",
+        )
+        self.has(
+            lines,
+            "_start:",
+            "cmp %g1, 5",
+            "be,a over",
+            "nop",
+            "call far",
+            "nop",
+            "over:",
+            "ba _start",
+            "nop",
+            "far:",
+            "retl",
+            "nop",
+        )
 
     def test_targets_without_names(self) -> None:
         lines = self.text(".global _start\n_start: ba 1f\n nop\n1: ba 1b\n nop\n", "-Ttext=0")
@@ -58,27 +80,65 @@ class Texts(InFolder):
             table: .word 1, table, 3
             """
         lines = self.text(source, "-Ttext=0", "-Tdata=0x2000")
-        self.has(lines, "_start:", "sethi %hi(table), %g1", "ld [%g1+%lo(table)], %g2", "L8:", "sethi %hi(table+8), %g3", "or %g3, %lo(table+8), %g3",
-                 "sethi %hi(table-4), %g4", "or %g4, %lo(table-4), %g4", "mov low, %g5", "sethi %hi(0x48c00), %g6",
-                 ".word _start", ".word L8", ".word table+4", "low:", "nop")
+        self.has(
+            lines,
+            "_start:",
+            "sethi %hi(table), %g1",
+            "ld [%g1+%lo(table)], %g2",
+            "L8:",
+            "sethi %hi(table+8), %g3",
+            "or %g3, %lo(table+8), %g3",
+            "sethi %hi(table-4), %g4",
+            "or %g4, %lo(table-4), %g4",
+            "mov low, %g5",
+            "sethi %hi(0x48c00), %g6",
+            ".word _start",
+            ".word L8",
+            ".word table+4",
+            "low:",
+            "nop",
+        )
         self.has(lines, "table:", ".word 0x00000001", ".word table", ".word 0x00000003")
 
     def test_without_relocations_addresses_are_numbers(self) -> None:
         source = ".global _start\n_start: set table, %g3\nba _start\n nop\n.data\ntable: .word table\n"
         lines = self.text(source, "-Ttext=0", "-Tdata=0x2004", keeps_relocations=False)
-        self.has(lines, "_start:", "sethi %hi(0x2000), %g3", "or %g3, 4, %g3", "ba _start", "nop", ".org 0x2004", "table:", ".word 0x00002004")
+        self.has(
+            lines,
+            "_start:",
+            "sethi %hi(0x2000), %g3",
+            "or %g3, 4, %g3",
+            "ba _start",
+            "nop",
+            ".org 0x2004",
+            "table:",
+            ".word 0x00002004",
+        )
 
     def test_sections_follow_by_alignment(self) -> None:
-        source = (".global _start\n_start: set it, %g1\n.section .rodata\n.align 16\n.byte 7\n"
-                  ".data\n.align 64\nit: .word 5\n.section .bss\n.align 8\nroom: .skip 100\n")
-        script = self.write("script.ld", "SECTIONS { .text 0 : { *(.text) } .rodata : { *(.rodata) } .data : { *(.data) } .bss : { *(.bss) } }")
+        source = (
+            ".global _start\n_start: set it, %g1\n.section .rodata\n.align 16\n.byte 7\n"
+            ".data\n.align 64\nit: .word 5\n.section .bss\n.align 8\nroom: .skip 100\n"
+        )
+        script = self.write(
+            "script.ld",
+            "SECTIONS { .text 0 : { *(.text) } .rodata : { *(.rodata) } .data : { *(.data) } .bss : { *(.bss) } }",
+        )
         lines = self.text(source, "-T", str(script))
-        self.has(lines, ".align 16", ".byte 0x07", ".align 64", "it:", ".word 0x00000005", ".align 8", "room:", ".skip 0x64")
+        self.has(
+            lines, ".align 16", ".byte 0x07", ".align 64", "it:", ".word 0x00000005", ".align 8", "room:", ".skip 0x64"
+        )
 
     def test_static_names_that_stand_twice(self) -> None:
-        first = self.write("one.c", "static __attribute__((noinline)) int f(int it) { return it + 1; }\n"
-                                    "int g(int);\nint main(void) { return f(g(3)); }")
-        second = self.write("two.c", "static __attribute__((noinline)) int f(int it) { return it * 3; }\nint g(int it) { return f(it); }")
+        first = self.write(
+            "one.c",
+            "static __attribute__((noinline)) int f(int it) { return it + 1; }\n"
+            "int g(int);\nint main(void) { return f(g(3)); }",
+        )
+        second = self.write(
+            "two.c",
+            "static __attribute__((noinline)) int f(int it) { return it * 3; }\nint g(int it) { return f(it); }",
+        )
         imported = self.built([first, second], ("-O1",))
         self.check(imported)
         names = [it for it in self.lines(imported) if it.startswith("f") and it.endswith(":")]
@@ -103,18 +163,27 @@ class Texts(InFolder):
         self.assertGreaterEqual(sum(it.startswith(".word L") for it in self.lines(imported)), 6)
 
     def test_labels_within_words_of_code(self) -> None:
-        lines = self.text(".global _start\n_start: nop\n.byte 1\nodd: .byte 2\n.half 3\nnop\n.data\n.word odd\n", "-Ttext=0", "-Tdata=0x100")
+        lines = self.text(
+            ".global _start\n_start: nop\n.byte 1\nodd: .byte 2\n.half 3\nnop\n.data\n.word odd\n",
+            "-Ttext=0",
+            "-Tdata=0x100",
+        )
         self.has(lines, "_start:", "nop", ".byte 0x01", "odd:", ".byte 0x02, 0x00, 0x03", "nop")
 
     def test_a_stripped_file(self) -> None:
-        linked = self.linked(self.write("it.c", "int f(int it) { return it ? it * 3 : 5; } int _start(void) { return f(9); }"), "-Ttext=0")
+        linked = self.linked(
+            self.write("it.c", "int f(int it) { return it ? it * 3 : 5; } int _start(void) { return f(9); }"),
+            "-Ttext=0",
+        )
         self.cross("strip", linked)
         imported = import_file([linked])
         self.check(imported)
         self.assertTrue(any(it.startswith("call L") for it in self.lines(imported)))
 
     def test_a_file_without_sections(self) -> None:
-        linked = self.linked(self.write("it.c", "int table[3] = {1, 2, 3}; int _start(void) { return table[1]; }"), "-N", "-Ttext=0")
+        linked = self.linked(
+            self.write("it.c", "int table[3] = {1, 2, 3}; int _start(void) { return table[1]; }"), "-N", "-Ttext=0"
+        )
         data = bytearray(linked.read_bytes())
         data[32:36], data[46:52] = bytes(4), bytes(6)
         bare = self.folder / "bare"
@@ -124,12 +193,17 @@ class Texts(InFolder):
         self.assertEqual(imported.program.image(), import_file([linked]).program.image())
 
     def test_a_raw_image(self) -> None:
-        linked = self.linked(self.write("it.s", ".global _start\n_start: mov 7, %g1\nba _start\n nop\n.byte 1, 2\n"), "-Ttext=0x4000")
+        linked = self.linked(
+            self.write("it.s", ".global _start\n_start: mov 7, %g1\nba _start\n nop\n.byte 1, 2\n"), "-Ttext=0x4000"
+        )
         image = self.folder / "it.bin"
         self.cross("objcopy", "-O", "binary", "-j", ".text", linked, image)
         imported = import_file([image], Settings(base=0x4000))
         self.check(imported)
-        self.assertEqual(self.lines(imported), ["ba L4000", "nop", ".org 0x4000", "L4000:", "mov 7, %g1", "ba L4000", "nop", ".byte 0x01, 0x02"])
+        self.assertEqual(
+            self.lines(imported),
+            ["ba L4000", "nop", ".org 0x4000", "L4000:", "mov 7, %g1", "ba L4000", "nop", ".byte 0x01, 0x02"],
+        )
 
     def test_the_machine_comes_to_an_entry_that_is_not_0(self) -> None:
         source = ".global _start\n_start: sethi %hi(0x80000000), %g1\nmov 65, %g2\nst %g2, [%g1 + 8]\n1: ba 1b\n nop\n"
@@ -190,7 +264,9 @@ class Data(unittest.TestCase):
         return [text for _, text in found]
 
     def test_words_and_bytes(self) -> None:
-        self.assertEqual(self.statements(bytes(range(1, 10)), 2), [".byte 0x01, 0x02", ".word 0x03040506", ".byte 0x07, 0x08, 0x09"])
+        self.assertEqual(
+            self.statements(bytes(range(1, 10)), 2), [".byte 0x01, 0x02", ".word 0x03040506", ".byte 0x07, 0x08, 0x09"]
+        )
         self.assertEqual(self.statements(b"\1", 1), [".byte 0x01"])
         self.assertEqual(len(self.statements(bytes(range(1, 129)))), 4)
 

@@ -85,9 +85,8 @@ class Proving(InRepository):
         needed = ["high", "low", "side", *PROGRAMS]
         wanted = ["./HANDLES", *[f"./crates/{it}/src/lib.rt" for it in needed], "./crates/sparc8/stdin", "./crates.txt"]
         self.assertEqual(sorted((self.room / "copied").read_text(encoding="utf-8").split()), sorted(wanted))
-        self.assertEqual(
-            (self.room / "listed").read_text(encoding="utf-8"), "low: \nhigh: low\nside: \nsparc8: high side\nsparc8_monitor: high\n"
-        )
+        listed = "low: \nhigh: low\nside: \nsparc8: high side\nsparc8_monitor: high\n"
+        self.assertEqual((self.room / "listed").read_text(encoding="utf-8"), listed)
 
     def test_a_failure_is_told(self) -> None:
         self.fake(
@@ -250,7 +249,8 @@ class Proving(InRepository):
     def test_what_the_gate_proved_goes_before_kept_work(self) -> None:
         self.impatient()
         self.keep_checks(self.top)
-        tells = 'for it in low side high sparc8 sparc8_monitor; do echo "rt: $it is kept: by an earlier run"; done; sleep 3\n'
+        kept = 'echo "rt: $it is kept: by an earlier run"'
+        tells = f"for it in low side high sparc8 sparc8_monitor; do {kept}; done; sleep 3\n"
         self.fake(f"{tells}{PROVES}")
         self.assertEqual((self.sparc8("--program").returncode, self.calls()), (0, ["ci"]))
 

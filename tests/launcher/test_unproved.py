@@ -82,7 +82,8 @@ class Unproved(InRepository):
     def test_the_code_alone_is_compiled_for_the_number_of_windows_that_is_asked_for(self) -> None:
         (self.top / "crates/low/proofs").mkdir()
         (self.top / "crates/low/proofs/Lib.antt").touch()
-        (self.top / "crates/sparc8/src/workbench.rt").write_text("serve_with!(windows, [2 4 16 32])\n", encoding="utf-8")
+        workbench = self.top / "crates/sparc8/src/workbench.rt"
+        workbench.write_text("serve_with!(windows, [2 4 16 32])\n", encoding="utf-8")
         self.fake("cat src/workbench.rt; (cd ../..; find . -type f | sort)\n" + TRIES.format(status=0))
         code = "".join(
             f"./crates/{it}\n"

@@ -10,5 +10,6 @@ TOP = Path(__file__).resolve().parents[2]
 
 def answers(script: bytes, windows: int = 8) -> bytes:
     """What the monitor that SPARC8_MONITOR names answers to a script."""
-    done = subprocess.run([os.environ["SPARC8_MONITOR"], "--windows", str(windows)], input=script, capture_output=True, timeout=120, check=True)
+    words = [os.environ["SPARC8_MONITOR"], "--windows", str(windows)]
+    done = subprocess.run(words, input=script, capture_output=True, timeout=120, check=True)
     return done.stdout

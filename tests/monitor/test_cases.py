@@ -1,4 +1,4 @@
-"""The monitor answers scripts of each kind as it should: those of its own, and each script of the workbench as the workbench does."""
+"""The monitor answers scripts of its own as it should, and each script of the workbench as the workbench does."""
 from __future__ import annotations
 
 import re

@@ -50,6 +50,10 @@ class Told:
     def is_interrupt(self) -> bool:
         return self.tt is not None and 0x10 < self.tt < 0x20
 
+    def address(self, name: str) -> int | None:
+        """The physical address of an access of that name, if the step has one."""
+        return int(self.items[name][1], 16) if name in self.items else None
+
 
 class Questions(unittest.TestCase):
     """Programs of random instructions, with random events."""
@@ -119,7 +123,9 @@ class Questions(unittest.TestCase):
         at = 1 + len(conditions)
         self.assertEqual(found[at], falling, chosen)
         self.assertEqual(found[at + 1], falling[:2], chosen)
-        bytes_of = ["".join(line.split()[1] for line in lines)[2 * (address - DATA) :][: 2 * count] for lines in found[at + 3 :]]
+        dumps = ["".join(line.split()[1] for line in lines) for lines in found[at + 3 :]]
+        begin = 2 * (address - DATA)
+        bytes_of = [it[begin : begin + 2 * count] for it in dumps]
         due = [it.line for it, now, then in zip(told, bytes_of, bytes_of[1:]) if now != then]
         self.assertEqual(found[at + 2], due, changed)
 
@@ -129,11 +135,13 @@ class Questions(unittest.TestCase):
     def check_accesses(self, choose: random.Random, windows: int) -> None:
         script = self.script(choose)
         address, count = DATA + choose.randrange(64), choose.randint(1, 16)
-        questions = [f"steps 0 {STEPS} {STEPS}"] + [f"steps 0 {STEPS} {STEPS} {it} {address:x} {count}" for it in ("load", "store")]
+        conditions = [f"{it} {address:x} {count}" for it in ("load", "store")]
+        questions = [f"steps 0 {STEPS} {STEPS}", *[f"steps 0 {STEPS} {STEPS} {it}" for it in conditions]]
         found = asked([*script, *questions], windows)[-3:]
         told = [Told(it) for it in found[0]]
         for kind, lines in zip(("load", "store"), found[1:]):
-            sure = [it.line for it in told if any(int(it.items[name][1], 16) in range(address, address + count) for name in (kind, "swap") if name in it.items)]
+            wanted = range(address, address + count)
+            sure = [it.line for it in told if any(it.address(name) in wanted for name in (kind, "swap"))]
             self.assertLessEqual(set(sure), set(lines), kind)
             for line in lines:
                 it = Told(line)
@@ -151,7 +159,8 @@ class Questions(unittest.TestCase):
         rings = [f"windows {n}" for n in range(first, last + 1)]
         one, other = choose.choices(range(STEPS), k=2)
         memory = [f"mem {one} 0 {WORDS * 2}", f"before mem {other} 0 {WORDS * 2}"]
-        questions = [f"part {first} {last}", *steps, *rings, *[f"before {it}" for it in steps + rings], f"differ {one} {other} 9999", *memory]
+        both = [*steps, *rings, *[f"before {it}" for it in steps + rings]]
+        questions = [f"part {first} {last}", *both, f"differ {one} {other} 9999", *memory]
         found = asked([*script, "keep", *changes, *questions], windows)[-len(questions) :]
         count = last - first + 1
         now, before = found[1 : 1 + 2 * count], found[1 + 2 * count : 1 + 4 * count]

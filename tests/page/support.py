@@ -255,8 +255,8 @@ class Page:
 
     def memory(self, count: int) -> list[str]:
         """The first words of memory that are shown."""
-        script = "return [...document.querySelectorAll('.cell')].slice(0, arguments[0]).map((it) => it.firstChild.textContent)"
-        return list(self.run(script, count))  # type: ignore[call-overload]
+        script = "return [...document.querySelectorAll('.cell')].map((it) => it.firstChild.textContent)"
+        return list(self.run(script))[:count]  # type: ignore[call-overload]
 
     def look_up(self, address: str) -> None:
         """Shows an address of memory, by the keyboard."""
@@ -266,7 +266,8 @@ class Page:
 
     def what_ifs(self) -> list[bool]:
         """Which what-ifs are on."""
-        return list(self.run("return [...document.querySelectorAll('#list [data-toggle]')].map((it) => it.checked)"))  # type: ignore[call-overload]
+        script = "return [...document.querySelectorAll('#list [data-toggle]')].map((it) => it.checked)"
+        return list(self.run(script))  # type: ignore[call-overload]
 
     def registers(self) -> list[str]:
         """The 32 registers that are shown, in the order of their numbers."""

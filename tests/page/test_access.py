@@ -10,15 +10,22 @@ LEAST_CONTRAST = 4.5
 # The contrast of each text in sight with what lies under it, those that are too low (WCAG 2, relative luminance).
 CONTRAST = """
 const number = (it) => it.match(/[\\d.]+/g).map(Number);
-const parse = (it) => { const [r, g, b, a = 1] = number(it); return it.startsWith("color(") ? [r * 255, g * 255, b * 255, a] : [r, g, b, a]; };
+const parse = (it) => {
+  const [r, g, b, a = 1] = number(it);
+  return it.startsWith("color(") ? [r * 255, g * 255, b * 255, a] : [r, g, b, a];
+};
 const over = ([r, g, b, a], under) => [r, g, b].map((it, at) => it * a + under[at] * (1 - a));
-const light = (color) => color.slice(0, 3).map((it) => it / 255).map((it) => (it <= 0.04045 ? it / 12.92 : ((it + 0.055) / 1.055) ** 2.4))
-  .reduce((sum, it, at) => sum + it * [0.2126, 0.7152, 0.0722][at], 0);
-const ratio = (one, other) => { const [low, high] = [light(one), light(other)].sort((a, b) => a - b); return (high + 0.05) / (low + 0.05); };
+const linear = (it) => (it <= 0.04045 ? it / 12.92 : ((it + 0.055) / 1.055) ** 2.4);
+const light = ([r, g, b]) => 0.2126 * linear(r / 255) + 0.7152 * linear(g / 255) + 0.0722 * linear(b / 255);
+const ratio = (one, other) => {
+  const [low, high] = [light(one), light(other)].sort((a, b) => a - b);
+  return (high + 0.05) / (low + 0.05);
+};
 const grounds = (it) => {
   if (!it) return [[255, 255, 255]];
   const style = getComputedStyle(it);
-  const own = [parse(style.backgroundColor), ...(style.backgroundImage.match(/(rgba?|color)\\([^)]*\\)/g) ?? []).map(parse)];
+  const images = style.backgroundImage.match(/(rgba?|color)\\([^)]*\\)/g) ?? [];
+  const own = [style.backgroundColor, ...images].map(parse);
   const solid = own.filter((color) => color[3] === 1);
   if (own[0][3] === 1 && solid.length === own.length) return solid;
   return grounds(it.parentElement).flatMap((under) => own.map((color) => over(color, under)));
@@ -36,7 +43,8 @@ for (let text = walker.nextNode(); text; text = walker.nextNode()) {
   for (const ground of grounds(it)) {
     const color = parse(ink.color);
     const seen = over([...color.slice(0, 3), color[3] * opacity], ground);
-    if (ratio(seen, ground) < arguments[0]) found.push([text.data.trim().slice(0, 30), it.className, ratio(seen, ground).toFixed(2)]);
+    const is = ratio(seen, ground);
+    if (is < arguments[0]) found.push([text.data.trim().slice(0, 30), it.className, is.toFixed(2)]);
   }
 }
 return [count, found];
@@ -46,22 +54,36 @@ LAYOUT = """
 const parts = [...document.querySelectorAll("header, #time, #verdict, #source, #registers, #trace, #what-ifs, #tabs")];
 const boxes = parts.map((it) => [it.id || it.tagName, it.getBoundingClientRect()]);
 const problems = [];
+const reachesOut = (it, box) =>
+  it.left < box.left - 0.5 || it.top < box.top - 0.5 || it.right > box.right + 0.5 || it.bottom > box.bottom + 0.5;
+const liesOver = (it, that) =>
+  it.left < that.right - 0.5 && that.left < it.right - 0.5 && it.top < that.bottom - 0.5 && that.top < it.bottom - 0.5;
+const shown = { left: 0, top: 0, right: innerWidth, bottom: innerHeight };
 for (const [name, it] of boxes) {
-  if (it.left < 0 || it.top < 0 || it.right > innerWidth + 0.5 || it.bottom > innerHeight + 0.5) problems.push(`${name} reaches out`);
+  if (reachesOut(it, shown)) problems.push(`${name} reaches out`);
   if (it.width < 200 || it.height < 20) problems.push(`${name} is small`);
   for (const [other, that] of boxes) {
-    if (name < other && it.left < that.right - 0.5 && that.left < it.right - 0.5 && it.top < that.bottom - 0.5 && that.top < it.bottom - 0.5) problems.push(`${name} lies over ${other}`);
+    if (name < other && liesOver(it, that)) problems.push(`${name} lies over ${other}`);
   }
 }
-const controls = [...document.querySelectorAll("header button, header select, .bar button, .bar input, h2 button, .tablist button, #add input, #add select")];
-for (const it of controls.filter((one) => one.checkVisibility())) {
-  const { left, right, top, bottom } = it.getBoundingClientRect();
+const CONTROLS = ":is(header, .bar, h2, .tablist) button, header select, .bar input, #add input, #add select";
+for (const it of [...document.querySelectorAll(CONTROLS)].filter((one) => one.checkVisibility())) {
   const panel = (it.closest(".panel") ?? it.closest("header")).getBoundingClientRect();
-  if (left < panel.left - 0.5 || right > panel.right + 0.5 || top < panel.top - 0.5 || bottom > panel.bottom + 0.5) problems.push(`${it.id || it.textContent} reaches out of its part`);
+  const name = it.id || it.textContent;
+  if (reachesOut(it.getBoundingClientRect(), panel)) problems.push(`${name} reaches out of its part`);
 }
 const root = document.documentElement;
 if (root.scrollHeight > innerHeight || root.scrollWidth > innerWidth) problems.push("the page scrolls");
 return problems;
+"""
+# What has the focus, whether it shows that by an outline, and whether it is the source with a marked line.
+FOCUS = """
+const it = document.activeElement;
+const style = getComputedStyle(it);
+const name = it.id || it.dataset.do || it.getAttribute("aria-label") || it.tagName;
+const isOutlined = style.outlineStyle !== "none" && parseFloat(style.outlineWidth) >= 2;
+const marked = document.querySelector(".line.marked") ?? it;
+return [name, isOutlined, it.id === "lines" && getComputedStyle(marked).boxShadow.includes("2px")];
 """
 
 
@@ -97,8 +119,10 @@ class Access(InBrowser):
         for theme in ("light", "dark"):
             script = """
                 const style = getComputedStyle(document.documentElement);
-                return ["quiet", "ink", "now", "was", "bad"].flatMap((ink) => ["panel", "soft"].map((ground) => [ink, ground,
-                  style.getPropertyValue(`--${ink}`).trim(), style.getPropertyValue(`--${ground}`).trim()]));"""
+                const color = (name) => style.getPropertyValue(`--${name}`).trim();
+                const inks = ["quiet", "ink", "now", "was", "bad"];
+                const pairs = inks.flatMap((ink) => ["panel", "soft"].map((ground) => [ink, ground]));
+                return pairs.map(([ink, ground]) => [ink, ground, color(ink), color(ground)]);"""
             for ink, ground, one, other in self.page.run(script):  # type: ignore[attr-defined]
                 self.assertGreaterEqual(ratio(one, other), LEAST_CONTRAST, (theme, ink, ground))
             self.page.keys("y")
@@ -114,15 +138,10 @@ class Access(InBrowser):
                     page.keys("v")
                     self.assertEqual(page.run(LAYOUT), [], (size, name))
         heights = set()
+        parts = "['#verdict', '#registers', '#trace'].map((it) => document.querySelector(it))"
         for step in (0, 12, 36, 40):
             page.go(step)
-            heights.add(
-                str(
-                    page.run(
-                        "return ['#verdict', '#registers', '#trace'].map((it) => document.querySelector(it).getBoundingClientRect().top)"
-                    )
-                )
-            )
+            heights.add(str(page.run(f"return {parts}.map((it) => it.getBoundingClientRect().top)")))
         self.assertEqual(len(heights), 1, "nothing moves from step to step")
 
     def test_narrow(self) -> None:
@@ -175,11 +194,7 @@ class Access(InBrowser):
         seen, unseen = set(), []
         for _ in range(90):
             driver.switch_to.active_element.send_keys(Keys.TAB)
-            it = page.run(
-                "const it = document.activeElement; const style = getComputedStyle(it);"
-                "return [it.id || it.dataset.do || it.getAttribute('aria-label') || it.tagName, style.outlineStyle !== 'none' && parseFloat(style.outlineWidth) >= 2,"
-                " it.id === 'lines' && getComputedStyle(document.querySelector('.line.marked') ?? it).boxShadow.includes('2px')]"
-            )
+            it = page.run(FOCUS)
             seen.add(it[0])  # type: ignore[index]
             if not (it[1] or it[2]) and it[0] != "BODY":  # type: ignore[index]
                 unseen.append(it[0])  # type: ignore[index]
@@ -216,11 +231,14 @@ class Access(InBrowser):
     def test_every_key_of_the_help_does_something(self) -> None:
         found = self.page.asked(
             'const { GROUPS } = await import("/keys.js"); const { ACTIONS } = await import("/actions.js");'
-            "return GROUPS.flatMap(([, rows]) => rows.flatMap(([keys, names]) => names)).filter((it) => !(it in ACTIONS));"
+            "const names = GROUPS.flatMap(([, rows]) => rows.flatMap(([, its]) => its));"
+            "return names.filter((it) => !(it in ACTIONS));"
         )
         self.assertEqual(found, [])
         buttons = self.page.asked(
-            'const { ACTIONS } = await import("/actions.js"); return [...document.querySelectorAll("[data-do]")].map((it) => it.dataset.do).filter((it) => !(it in ACTIONS));'
+            'const { ACTIONS } = await import("/actions.js");'
+            'const names = [...document.querySelectorAll("[data-do]")].map((it) => it.dataset.do);'
+            "return names.filter((it) => !(it in ACTIONS));"
         )
         self.assertEqual(buttons, [])
         self.page.keys("?")

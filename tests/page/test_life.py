@@ -1,4 +1,4 @@
-"""One run of the monitor for each page: two pages, a page that is closed, a run that ends, a reload, a foreign address."""
+"""One run of the monitor for each page: two pages, one that is closed, a run that ends, a reload, a foreign address."""
 from __future__ import annotations
 
 import signal
@@ -108,10 +108,10 @@ class Life(InBrowser):
         page.console()
         self.assertTrue(until(lambda: self.server.runs() == []), "the page is gone, and nothing was begun")
         page.console()
-        page.run(
-            "document.documentElement.append(document.createElement('iframe')); document.querySelector('iframe').src = arguments[0]",
-            self.server.address,
+        script = (
+            "const it = document.createElement('iframe'); document.documentElement.append(it); it.src = arguments[0]"
         )
+        page.run(script, self.server.address)
         page.asked("await new Promise((it) => setTimeout(it, 300));")
         page.console()
         self.assertEqual(self.server.runs(), [], "and nothing frames it")
@@ -123,7 +123,8 @@ class WithFile(InBrowser):
     """A page that is given a file."""
 
     def setUp(self) -> None:
-        text = "edit 1 0 3\r\nstart: inc %g1 ! one\r\nba start\r\n nop\r\nregs 0\r\nedit 1 1 1\r\nstart: inc 2, %g1\r\npoke 3 102 1\r\n"
+        before = "edit 1 0 3\r\nstart: inc %g1 ! one\r\nba start\r\n nop\r\nregs 0\r\n"
+        text = f"{before}edit 1 1 1\r\nstart: inc 2, %g1\r\npoke 3 102 1\r\n"
         self.file = self.enterContext(temporary(text, "own.txt"))
         self.windows = "4"
         super().setUp()

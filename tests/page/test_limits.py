@@ -23,7 +23,7 @@ class Limits(InBrowser):
         )
         self.assertIsNone(page.open_text(source))
         self.assertEqual(page.text("#source-count"), "65,536 lines")
-        self.assertLess(int(page.run("return document.querySelectorAll('.line').length")), 100)  # type: ignore[call-overload]
+        self.assertLess(len(page.all(".line")), 100)
         page.run("document.getElementById('lines').scrollTop = 1e9")
         page.idle()
         self.assertEqual(page.texts(".line .number")[-1], "65536")
@@ -44,10 +44,11 @@ class Limits(InBrowser):
     def test_10000_events(self) -> None:
         page = self.page
         events = "\n".join(f"poke {it} {0x10000 + 4 * it:x} {it:x}" for it in range(10_000))
-        script = f"edit 1 0 3\nstart: inc %g1\n ba start\n nop\n{events}\nregs 0\npoke 9999 10000 ffff\nregs 0\nunpoke 5000 14e20\n"
-        self.assertIsNone(page.open_text(script))
+        before = f"edit 1 0 3\nstart: inc %g1\n ba start\n nop\n{events}\n"
+        self.assertIsNone(page.open_text(f"{before}regs 0\npoke 9999 10000 ffff\nregs 0\nunpoke 5000 14e20\n"))
         self.assertEqual(page.what_ifs(), [True, True], "one of a question, one of the end")
-        self.assertGreater(int(page.run("return rubliman.bench.run.happenings.length")), 1900)  # type: ignore[call-overload]
+        count = page.run("return rubliman.bench.run.happenings.length")
+        self.assertGreater(int(count), 1900)  # type: ignore[call-overload]
         page.go(9_999)
         page.look_up("10000")
         self.assertIn("→ 0000FFFF", page.text("#words .marked"))
@@ -110,10 +111,8 @@ class Limits(InBrowser):
             page.type(text)
             page.keys("Enter")
             page.asked("return await rubliman.bench.open({ text: given[0], name: given[0], windows: '8' });", text)
-        made = page.run(
-            "return document.querySelectorAll('main img, main script, main b:not(.code), header img, header b, #list i').length"
-        )
-        self.assertEqual((made, page.run("return window.bad ?? 0")), (0, 0))
+        made = page.all("main img, main script, main b:not(.code), header img, header b, #list i")
+        self.assertEqual((made, page.run("return window.bad ?? 0")), ([], 0))
         self.assertEqual(page.text("#source-count"), "5 lines", "a refused source leaves what was shown")
         # Markup cannot be made of text at all.
         stopped = page.asked("try { document.body.innerHTML = 'x'; return 'made'; } catch (it) { return it.name; }")

@@ -197,7 +197,8 @@ class Looking(InBrowser):
         page.example("timer")
         page.run("window.asked = 0; const own = fetch; window.fetch = (...it) => { asked += 1; return own(...it); };")
         page.run(
-            "for (let n = 0; n < 60; n++) document.activeElement.dispatchEvent(new KeyboardEvent('keydown', { key: 'ArrowRight', bubbles: true }))"
+            "const press = () => new KeyboardEvent('keydown', { key: 'ArrowRight', bubbles: true });"
+            "for (let n = 0; n < 60; n++) document.activeElement.dispatchEvent(press());"
         )
         page.idle()
         self.assertEqual((page.step(), page.find("#step").get_attribute("value")), (60, "60"))
@@ -206,3 +207,36 @@ class Looking(InBrowser):
         page.idle()
         self.assertEqual(page.step(), 120)
         self.assertEqual(page.text("#steps tr.here td"), "120", "and all that is shown is of that step")
+
+    def test_the_strip_of_many_steps_has_what_the_monitor_tells(self) -> None:
+        script = """
+            const { bench } = rubliman;
+            await bench.range(0, given[0]);
+            const happens = "trap in out event";
+            const questions = [`every ${given[1]}`, happens].map((it) => `steps 0 ${given[0]} 200000 ${it}`);
+            const told = await bench.converse((ask) => ask(questions));
+            const steps = told.map(({ lines }) => lines.map((it) => Number(it.split(" ")[0])));
+            const { samples, happenings } = bench.run;
+            const rising = happenings.every((it, at) => at === 0 || happenings[at - 1].n < it.n);
+            return [String(samples.map((it) => it.n)) === String(steps[0]), rising,
+              happenings.filter((it) => !steps[1].includes(it.n)).length, happenings.length, steps[1].length];"""
+        for example, least in (("boot", 1), ("timer", 6_000)):
+            self.page.example(example)
+            for high, every in ((1_000_000, 768), (100_000, 67)):
+                with self.subTest(example=example, high=high):
+                    same, rising, wrong, shown, all_of_them = self.page.asked(script, high, every)  # type: ignore[misc]
+                    self.assertEqual((same, rising, wrong), (True, True, 0))
+                    self.assertGreaterEqual(shown, min(least, all_of_them))
+
+    def test_what_stays_is_not_made_anew(self) -> None:
+        page = self.page
+        page.example("timer")
+        parts = ".line, #window td, #words > *, #list > *, #steps tr"
+        page.run("document.querySelectorAll(arguments[0]).forEach((it) => (it.isOld = true))", parts)
+        page.keys("ArrowRight")
+        page.go(30)
+        page.keys("1")
+        script = (
+            "return [...document.querySelectorAll(arguments[0])].filter((it) => !it.isOld).map((it) => it.localName)"
+        )
+        self.assertEqual(page.run(script, parts), [])

@@ -125,7 +125,10 @@ class Requests(unittest.TestCase):
 
     def test_answers_are_the_programs(self) -> None:
         name = self.server.open("4")
-        text = "edit 1 0 2\nstart: ba start\n nop\n\n \t\nregs 1\nbogus\nedit 1 0\nsteps 0 2 2\r\nedit 1 1 1\r\n.word 5\nlist\n"
+        text = (
+            "edit 1 0 2\nstart: ba start\n nop\n\n \t\nregs 1\nbogus\nedit 1 0\n"
+            "steps 0 2 2\r\nedit 1 1 1\r\n.word 5\nlist\n"
+        )
         status, told = self.server.ask(name, text)
         self.assertEqual(status, 200)
         ends = [it for it in told.splitlines() if it == "ok" or it.startswith("refused")]

@@ -259,8 +259,10 @@ class Models(InBrowser):
     def test_texts(self) -> None:
         script = """
             const text = await import("/text.js");
-            return [given.map((it) => text.statement(it)), given.map((it) => text.remark(it)), text.bytesTyped("a\\\\n\\\\x41\\\\\\\\é"), text.typed([0x41, 10, 0, 0x5c])];"""
-        statements, remarks, typed, shown = self.page.asked(script, 'a: .ascii "x!y" ! z', "mov '!', %g1 ! it", "! all", " nop\t  ")  # type: ignore[misc]
+            const bytes = text.bytesTyped("a\\\\n\\\\x41\\\\\\\\é");
+            return [given.map(text.statement), given.map(text.remark), bytes, text.typed([0x41, 10, 0, 0x5c])];"""
+        lines = ('a: .ascii "x!y" ! z', "mov '!', %g1 ! it", "! all", " nop\t  ")
+        statements, remarks, typed, shown = self.page.asked(script, *lines)  # type: ignore[misc]
         self.assertEqual(statements, ['a: .ascii "x!y"', "mov '!', %g1", "", "nop"])
         self.assertEqual(remarks, ["z", "it", "all", ""])
         self.assertEqual((typed, shown), ([97, 10, 65, 92, 195, 169], "A\\n\\x00\\\\"))

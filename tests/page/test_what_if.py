@@ -12,7 +12,8 @@ class WhatIf(InBrowser):
         page = self.page
         page.keys("2")
         self.assertEqual(page.what_ifs(), [False, True, False, False])
-        # `docs/MONITOR.md` asks the same of the same program: step 6 leads to error mode, and step 5 is the first state that differs.
+        # `docs/MONITOR.md` asks the same of the same program: step 6 leads to error mode, and step 5 is the first state
+        # that differs.
         self.assert_verdict(
             "step 4", "before line 4 mov 0xfa0, %psr", "now line 4 mov 0xf80, %psr", "PSR 00000FA0 → 00000F80"
         )
@@ -235,7 +236,8 @@ class WhatIf(InBrowser):
     def test_a_what_if_that_is_refused(self) -> None:
         page = self.page
         self.page.open_text(
-            "edit 1 0 3\nstart: nop\nba start\nnop\nregs 0\nedit 2 2 2\nba far\nfar: nop\nregs 0\nedit 2 3 1\nba start\n"
+            "edit 1 0 3\nstart: nop\nba start\nnop\nregs 0\n"
+            "edit 2 2 2\nba far\nfar: nop\nregs 0\nedit 2 3 1\nba start\n"
         )
         page.keys("1")
         self.assertEqual((page.what_ifs(), page.text("#source-count")), ([True], "4 lines"))
@@ -266,9 +268,8 @@ class WhatIf(InBrowser):
 
     def test_addresses_out_of_memory_are_refused(self) -> None:
         page = self.page
-        found = page.asked(
-            "return await rubliman.bench.give(new Map([['poke 3 00100000', '11223344'], ['poke 3 00000100', '00000001']]));"
-        )
+        pokes = [["poke 3 00100000", "11223344"], ["poke 3 00000100", "00000001"]]
+        found = page.asked("return await rubliman.bench.give(new Map(given[0]));", pokes)
         self.assertEqual((found, page.run("return rubliman.bench.set.size")), ("14 BadAddress", 0))
         self.assertEqual(
             page.asked("return (await rubliman.bench.converse((ask) => ask(['events 0 9'])))[0].lines;"),

@@ -76,13 +76,12 @@ fn serve<const NW: usize, R: Read, W: Write>(alloc: Global, reader: &mut R, writ
     ensures serves { Serves (new_pair NW 256) result (R.remaining reader.old) (R.remaining reader.new)
         (W.contents writer.old) (W.contents writer.new) }
 {
-    let Ok(current) = Bench::<NW, PAGES, CHECKPOINT_STEPS>::new(alloc) else {
+    let Ok(bench) = Bench::<NW, PAGES, CHECKPOINT_STEPS>::new(alloc) else {
         return End::Memory;
     };
-    let Ok(before) = Bench::<NW, PAGES, CHECKPOINT_STEPS>::new(alloc) else {
+    let Ok(mut monitor) = Monitor::new(bench) else {
         return End::Memory;
     };
-    let mut monitor = Monitor { current, before };
     run_on(alloc, &mut monitor, reader, writer)
 }
 

@@ -1,9 +1,9 @@
 -- Queries: how the record grows, the steps behind its last checkpoint, and how many of both are made.
-use Rattle.std.proofs.Common.{◌≡◌, ◌∙◌, [], ◌∷◌, le-ltb, ℕ, zero, suc, ◌+◌, ◌-◌, ◌*◌, ◌/◌, ◌%◌, ◌<◌, ◌≤◌, min, max, length, get_or, refl, sym, ap, arith, subst}
+use Rattle.std.proofs.Common.{◌≡◌, ◌∙◌, [], ◌∷◌, le-ltb, ℕ, zero, suc, ◌+◌, ◌-◌, ◌*◌, ◌/◌, ◌%◌, ◌<◌, ◌≤◌, ◌⊎◌, inl, inr, min, max, length, get_or, refl, sym, ap, arith, subst}
+use Rattle.std.proofs.lemmas.Bool.{cases_lt}
 use Rattle.std.proofs.Math.Nat.{div-lt_iff_lt-mul, le-div_iff_mul-le, mul_comm, mul-le-mul_left, add-zero, add-suc, mul-div_cancel_left, div-add-mod}
 use Rattle.sv8_time.specs.Schedule.{Schedule, bytes_below}
 use Rattle.sv8_history.specs.Machine.{Run, state_at}
-use Rattle.sv8_history.specs.Trace.{IsTraceOf}
 use Rattle.sv8_history.specs.Growing.{extended, restored, steps_from}
 use Rattle.sv8_history.proofs.Common.{agrees_keeps, extend_keeps, restore_gives, query_work}
 use Rattle.sv8_source.specs.Text.{Text}
@@ -14,11 +14,12 @@ use Rattle.sv8_cpu.specs.Work.{counted}
 use Rattle.sv8_cpu.specs.Recorded.{machine, event_at, run_of, AreEvents}
 use Rattle.sv8_cpu.proofs.Common.{state_is}
 use Rattle.sv8_edits.proofs.Common.{fed}
-use Rattle.sv8_trace.specs.Recorder.{steps_on, counted_by, RaisedUpTo}
-use Rattle.sv8_trace.specs.Recording.{Recording, fresh, blank, last_point, recorded, trace_of, IsExtended}
+use Rattle.sv8_trace.specs.Recorder.{steps_on, counted_by, translates_among, RaisedUpTo}
+use Rattle.sv8_trace.specs.Recording.{Recording, fresh, blank, is_translated, last_point, recorded, trace_of, IsExtended}
+use Rattle.sv8_trace.proofs.Common.{translates_alike}
 use Rattle.sv8_bench.specs.Kept.{Kept}
 use Rattle.sv8_bench.specs.Shown.{machine_state}
-use Rattle.sv8_bench.specs.Workbench.{Workbench, run_of_kept, IsRun, IsGivenUp}
+use Rattle.sv8_bench.specs.Workbench.{Workbench, run_of_kept, IsRecordOf, IsRun, IsGivenUp}
 
 -- ---- counts
 
@@ -84,26 +85,58 @@ interval_few k old now step pos least h =
     let grown = mul-le-mul_left k more in
     omega (arith, grown)
 
--- the trace that is extended is that of the run
+-- the states that steps lead to from one of a run on are those of the run
+steps_at : (windows pages : ℕ) (schedule : Schedule) (start : State) (valid : AreEvents pages schedule) (n : ℕ) (s : State)
+    → s ≡ state_at (machine windows pages) (record { start = start; events = event_at schedule; valid = valid }) n → (j : ℕ)
+    → steps_on windows pages schedule n s j ≡ state_at (machine windows pages) (record { start = start; events = event_at schedule; valid = valid }) (n + j)
+unfolding step with_events
+steps_at windows pages schedule start valid n s is zero =
+    let here : n ≡ n + 0 = omega arith in
+    is ∙ ap (state_at (machine windows pages) (record { start = start; events = event_at schedule; valid = valid })) here
+steps_at windows pages schedule start valid n s is (suc j) =
+    let next : suc (n + j) ≡ n + suc j = omega arith in
+    ap (step windows pages schedule (n + j)) (steps_at windows pages schedule start valid n s is j)
+    ∙ ap (state_at (machine windows pages) (record { start = start; events = event_at schedule; valid = valid })) next
+
+-- the record that is extended is that of the run
 pub extended_keeps : (windows pages k : ℕ) (schedule : Schedule) (old new : Recording) → 0 < k → IsExtended windows pages k schedule old new → (start : State) (valid : AreEvents pages schedule)
-    → IsTraceOf (machine windows pages) k (record { start = start; events = event_at schedule; valid = valid }) (trace_of windows pages k old)
-    → IsTraceOf (machine windows pages) k (record { start = start; events = event_at schedule; valid = valid }) (trace_of windows pages k new)
+    → IsRecordOf windows pages k (record { start = start; events = event_at schedule; valid = valid }) old
+    → IsRecordOf windows pages k (record { start = start; events = event_at schedule; valid = valid }) new
 extended_keeps windows pages k schedule old new pos longer start valid h =
     let run : Run (machine windows pages) = record { start = start; events = event_at schedule; valid = valid } in
-    agrees_keeps (machine windows pages) k run (extended (machine windows pages) k run (trace_of windows pages k old)) (trace_of windows pages k new) (longer start valid)
-    (extend_keeps (machine windows pages) k pos run (trace_of windows pages k old) h)
+    record {
+      trace = agrees_keeps (machine windows pages) k run (extended (machine windows pages) k run (trace_of windows pages k old)) (trace_of windows pages k new) (longer.agrees start valid)
+          (extend_keeps (machine windows pages) k pos run (trace_of windows pages k old) h.trace);
+      flags = λ i l. flagged run i (let more = (longer.agrees start valid).count in omega (arith, l, more)) (cases_lt i (length old.intervals));
+    }
+  where
+    flagged : (run : Run (machine windows pages)) (i : ℕ) → i ≤ length old.intervals → (i < length old.intervals) ⊎ (length old.intervals ≤ i)
+        → is_translated new i ≡ translates_among (λ j. state_at (machine windows pages) (record { start = start; events = event_at schedule; valid = valid }) (k * i + j)) k
+    flagged run i most (inl below) = longer.flags i below ∙ h.flags i below
+    flagged run i most (inr last) =
+        let count = length old.intervals in
+        let here : i ≡ count = omega (arith, most, last) in
+        let point = ap (λ x. get_or old.points x blank) (sym (mul-div_cancel_left count pos)) ∙ h.trace.points count (omega arith) in
+        ap (is_translated new) here ∙ longer.flag
+        ∙ translates_alike (λ j. steps_on windows pages schedule (k * count) (last_point old) j)
+        (λ j. state_at (machine windows pages) (record { start = start; events = event_at schedule; valid = valid }) (k * count + j)) k
+        (λ j below. ap (λ (s : State). s.mmu) (steps_at windows pages schedule start valid (k * count) (last_point old) point j))
+        ∙ ap (λ x. translates_among (λ j. state_at (machine windows pages) (record { start = start; events = event_at schedule; valid = valid }) (k * x + j)) k) (sym here)
 
 -- ---- a new record
 
 -- the first checkpoint alone is a record of every run that begins there
 pub fresh_is : (windows pages k : ℕ) → 0 < k → (run : Run (machine windows pages)) (r : Recording) → r ≡ fresh run.start
-    → IsTraceOf (machine windows pages) k run (trace_of windows pages k r)
+    → IsRecordOf windows pages k run r
 fresh_is windows pages k pos run r e = rw e (record {
-  points = λ i l.
-      let none : i ≡ 0 = omega (arith, l) in
-      ap (λ x. get_or (run.start ∷ []) x blank) (mul-div_cancel_left i pos ∙ none) ∙ ap (state_at (machine windows pages) run) (start i none);
-  notes = λ n l. absurd (omega (arith, l));
-  kept = λ n a. let above = le-ltb n (k * 0) (omega arith) in rw above refl;
+  trace = record {
+    points = λ i l.
+        let none : i ≡ 0 = omega (arith, l) in
+        ap (λ x. get_or (run.start ∷ []) x blank) (mul-div_cancel_left i pos ∙ none) ∙ ap (state_at (machine windows pages) run) (start i none);
+    notes = λ n l. absurd (omega (arith, l));
+    kept = λ n a. let above = le-ltb n (k * 0) (omega arith) in rw above refl;
+  };
+  flags = λ i l. absurd (omega (arith, l));
 })
   where
     start : (i : ℕ) → i ≡ 0 → 0 ≡ k * i
@@ -115,19 +148,19 @@ module _ (k : ℕ) (pos : 0 < k) (kept : Kept) where
   -- a run that is recorded further
   pub run_further : (old new : Recording) (before after : ℕ) → IsRun k (record { kept = kept; recording = old; worked = before })
       → ((start : State) (valid : AreEvents kept.pages kept.timeline)
-      → IsTraceOf (machine kept.windows kept.pages) k (record { start = start; events = event_at kept.timeline; valid = valid }) (trace_of kept.windows kept.pages k old)
-      → IsTraceOf (machine kept.windows kept.pages) k (record { start = start; events = event_at kept.timeline; valid = valid }) (trace_of kept.windows kept.pages k new))
+      → IsRecordOf kept.windows kept.pages k (record { start = start; events = event_at kept.timeline; valid = valid }) old
+      → IsRecordOf kept.windows kept.pages k (record { start = start; events = event_at kept.timeline; valid = valid }) new)
       → IsRun k (record { kept = kept; recording = new; worked = after })
   run_further old new before after run further = record {
     events = run.events;
     sound = run.sound;
-    trace = further (reset_state kept.windows kept.pages kept.source) run.events run.trace;
+    record_is = further (reset_state kept.windows kept.pages kept.source) run.events run.record_is;
   }
 
   module _ (recording : Recording) (worked : ℕ) (run : IsRun k (record { kept = kept; recording = recording; worked = worked })) where
     -- a checkpoint is the state of its step
     pub point_is : (i : ℕ) → i ≤ length recording.intervals → (trace_of kept.windows kept.pages k recording).point (k * i) ≡ machine_state kept (k * i)
-    point_is i h = run.trace.points i h ∙ state_is kept.windows kept.pages kept.source kept.timeline run.events (k * i)
+    point_is i h = run.record_is.trace.points i h ∙ state_is kept.windows kept.pages kept.source kept.timeline run.events (k * i)
 
     -- so is the last one
     pub last_is : last_point recording ≡ machine_state kept (recorded k recording)
@@ -156,7 +189,7 @@ module _ (k : ℕ) (pos : 0 < k) (kept : Kept) where
         let m = restored k (length recording.intervals) n in
         f ∙ ap (λ x. steps_on kept.windows kept.pages kept.timeline x s (n - x)) at ∙ ap (λ x. steps_on kept.windows kept.pages kept.timeline m x (n - m)) e
         ∙ sym (steps_same kept.windows kept.pages kept.source kept.timeline run.events m _ (n - m))
-        ∙ restore_gives (machine kept.windows kept.pages) k pos (run_of_kept kept run.events) (trace_of kept.windows kept.pages k recording) n run.trace
+        ∙ restore_gives (machine kept.windows kept.pages) k pos (run_of_kept kept run.events) (trace_of kept.windows kept.pages k recording) n run.record_is.trace
         ∙ state_is kept.windows kept.pages kept.source kept.timeline run.events n
 
 -- ---- how many steps a query makes

@@ -1,21 +1,25 @@
 -- A range of recorded steps that leaves some bytes of RAM alone.
-use Rattle.std.proofs.Common.{◌≡◌, ℕ, ◌+◌, ◌<◌, ◌≤◌, Bool, true, false, not, MatchBool, Option, Some, None, List, [], ◌∷◌, length, get_or, refl, sym, ◌∙◌, ap, ap₂, arith}
+use Rattle.std.proofs.Common.{◌≡◌, ℕ, ◌+◌, ◌*◌, ◌/◌, ◌%◌, ◌<◌, ◌≤◌, Bool, true, false, not, MatchBool, Option, Some, None, List, [], ◌∷◌, length, get_or, refl, sym, ◌∙◌, ap, ap₂, arith, subst}
 use Rattle.std.specs.Prelude.{◌&&◌, ◌||◌, is_some}
 use Rattle.std.proofs.lemmas.List.Folds.{list_any-append}
 use Rattle.std.proofs.lemmas.Bool.{true≢false}
+use Rattle.std.proofs.Math.Nat.{div-add-mod, div-lt_iff_lt-mul, mod-lt, mul_comm}
 use Rattle.sv8_model.specs.Cells.{ram_byte}
-use Rattle.sv8_history.specs.Machine.{touches_of}
+use Rattle.sv8_history.specs.Machine.{state_at, touches_of}
 use Rattle.sv8_time.specs.declared.words.WordPoke.{WordPoke}
 use Rattle.sv8_time.specs.Words.{poked_from, poked_bytes, bytes_of_words}
+use Rattle.sv8_cpu.specs.State.{State}
 use Rattle.sv8_cpu.specs.Recorded.{machine}
 use Rattle.sv8_cpu.specs.Run.{footprint}
-use Rattle.sv8_cpu.specs.Touching.{touches_byte, is_within, pokes_any}
-use Rattle.sv8_cpu.proofs.Common.{footprint_is}
+use Rattle.sv8_cpu.specs.Touching.{IsUntranslated, touches_byte, is_within, pokes_any}
+use Rattle.sv8_cpu.proofs.Common.{footprint_is, state_is}
 use Rattle.sv8_trace.specs.Recording.{recorded, trace_of}
 use Rattle.sv8_trace.specs.Touching.{NoneTouches}
+use Rattle.sv8_trace.specs.Translating.{NoneTranslates}
+use Rattle.sv8_trace.proofs.Common.{each_untranslated}
 use Rattle.sv8_bench.specs.Shown.{machine_state}
-use Rattle.sv8_bench.specs.Workbench.{Workbench, IsRun}
-use Rattle.sv8_bench.specs.Touching.{NonePokes, IsUntouched}
+use Rattle.sv8_bench.specs.Workbench.{Workbench, run_of_kept, IsRun}
+use Rattle.sv8_bench.specs.Touching.{NonePokes, IsUntouched, IsUnreached}
 
 -- ---- poked bytes
 
@@ -67,7 +71,7 @@ module _ (k : ℕ) (w : Workbench) (run : IsRun k w) (address count from to : �
       → touches_of (machine w.kept.windows w.kept.pages) (trace_of w.kept.windows w.kept.pages k w.recording).notes (ram_byte i) n
       ≡ touches_byte (footprint w.kept.windows w.kept.pages w.kept.timeline n (machine_state w.kept n)) i
   noted n i below =
-      let same = run.trace.notes n below in
+      let same = run.record_is.trace.notes n below in
       let it = footprint_is w.kept.windows w.kept.pages w.kept.source w.kept.timeline run.events n in
       ap₂ (λ x y. x || y) (same.reads (ram_byte i) ∙ ap (λ f. f.reads (ram_byte i)) it) (same.writes (ram_byte i) ∙ ap (λ f. f.writes (ram_byte i)) it)
 
@@ -95,3 +99,27 @@ module _ (k : ℕ) (w : Workbench) (run : IsRun k w) (address count from to : �
       → MatchBool spared (IsUntouched k w address count from to) (IsUntouched k w address count from to → ⊥)
   answer_by_touches true e h = absurd (true≢false e)
   answer_by_touches false e h = λ it. h (none_touches it)
+
+-- ---- the recorded steps in which no address is translated
+
+-- those of intervals without a flag
+pub untranslated : (k : ℕ) (w : Workbench) → 0 < k → IsRun k w → (from to : ℕ) → to ≤ recorded k w.recording → NoneTranslates k w.recording from to → (n : ℕ) → from ≤ n → n < to
+    → IsUntranslated (machine_state w.kept n)
+untranslated k w pos run from to within none n low below =
+    let i = n / k in
+    let j = n % k in
+    let split = div-add-mod n k in
+    let here : i < length w.recording.intervals =
+    (div-lt_iff_lt-mul pos).1 (omega (arith, below, within, mul_comm (length w.recording.intervals) k)) in
+    let flag = sym (run.record_is.flags i here) ∙ none n low below in
+    let states : ℕ → State = λ x. state_at (machine w.kept.windows w.kept.pages) (run_of_kept w.kept run.events) (k * i + x) in
+    let at : k * i + j ≡ n = omega (arith, split) in
+    let is = ap (state_at (machine w.kept.windows w.kept.pages) (run_of_kept w.kept run.events)) at ∙ state_is w.kept.windows w.kept.pages w.kept.source w.kept.timeline run.events n in
+    subst IsUntranslated is (each_untranslated states k flag j (mod-lt n pos))
+
+-- the answer by the flags
+pub answer_by_flags : (k : ℕ) (w : Workbench) (address from to : ℕ) → 0 < k → IsRun k w → (plain : Bool) → IsUntouched k w address 4 from to
+    → MatchBool plain (NoneTranslates k w.recording from to) (NoneTranslates k w.recording from to → ⊥)
+    → MatchBool plain (IsUnreached k w address from to) (IsUntouched k w address 4 from to → NoneTranslates k w.recording from to → ⊥)
+answer_by_flags k w address from to pos run true spared h = record { untouched = spared; untranslated = untranslated k w pos run from to spared.recorded h }
+answer_by_flags k w address from to pos run false spared h = λ it none. h none

@@ -1,23 +1,22 @@
 -- Walks: each step leads on from the state of the one before, and what is recorded of it.
-use Rattle.std.proofs.Common.{◌≡◌, ◌∙◌, ℕ, zero, suc, ◌+◌, ◌-◌, ◌*◌, ◌/◌, ◌%◌, ◌<◌, ◌≤◌, ◌⊎◌, inl, inr, Bool, true, false, nat_lt, min, max, length, get_or, refl, sym, ap, arith, subst}
-use Rattle.std.proofs.Math.Nat.{div-lt_iff_lt-mul, le-div_iff_mul-le, mul_comm, mul-le-mul_left, mul-div_cancel_left, div-add-mod}
+use Rattle.std.proofs.Common.{◌≡◌, ◌∙◌, ℕ, suc, ◌+◌, ◌-◌, ◌*◌, ◌/◌, ◌<◌, ◌≤◌, ◌⊎◌, inl, inr, Bool, true, false, nat_lt, max, refl, sym, ap, arith, subst}
+use Rattle.std.proofs.Math.Nat.{div-lt_iff_lt-mul, le-div_iff_mul-le, mul_comm}
 use Rattle.std.proofs.lemmas.Bool.{ltb-true, ltb-false}
-use Rattle.sv8_history.specs.Trace.{IsTraceOf}
-use Rattle.sv8_cpu.specs.Recorded.{machine, event_at, AreEvents}
+use Rattle.sv8_cpu.specs.Recorded.{event_at, AreEvents}
 use Rattle.sv8_time.specs.Schedule.{Schedule, bytes_below}
-use Rattle.sv8_cpu.specs.State.{State, reset_state}
-use Rattle.sv8_cpu.specs.Run.{step, steps, footprint, observed}
+use Rattle.sv8_cpu.specs.State.{State}
+use Rattle.sv8_cpu.specs.Run.{step, steps}
 use Rattle.sv8_cpu.specs.Work.{counted}
 use Rattle.sv8_edits.proofs.Common.{fed}
-use Rattle.sv8_trace.specs.Recorder.{steps_on, counted_by, RaisedUpTo}
-use Rattle.sv8_trace.specs.Recording.{Recording, recorded, trace_of, IsExtended}
+use Rattle.sv8_trace.specs.Recorder.{counted_by, RaisedUpTo}
+use Rattle.sv8_trace.specs.Recording.{Recording, recorded, IsExtended}
 use Rattle.sv8_bench.specs.Kept.{Kept}
 use Rattle.sv8_bench.specs.Shown.{machine_state}
 use Rattle.sv8_bench.specs.Walks.{IsPlaced}
 use Rattle.sv8_bench.specs.declared.walk.Place.{Place}
 use Rattle.sv8_bench.specs.declared.walk.Place.TheVariants.{Restored}
-use Rattle.sv8_bench.specs.Workbench.{Workbench, checkpoints, run_of_kept, IsRun}
-use Rattle.sv8_bench.proofs.Queried.{full, run_further, extended_keeps}
+use Rattle.sv8_bench.specs.Workbench.{Workbench, run_of_kept, IsRecordOf, IsRun}
+use Rattle.sv8_bench.proofs.Queried.{full, extended_keeps}
 
 -- ---- states
 
@@ -65,14 +64,14 @@ placed_next k count n (inr last) = inr last
 -- a step of a draft leaves the recording, or makes it longer
 pub drafted_further : (windows pages k count : ℕ) (schedule : Schedule) (old new : Recording) → 0 < k → count < k → (count + 1 < k → new ≡ old)
     → (count + 1 ≡ k → IsExtended windows pages k schedule old new) → (start : State) (valid : AreEvents pages schedule)
-    → IsTraceOf (machine windows pages) k (record { start = start; events = event_at schedule; valid = valid }) (trace_of windows pages k old)
-    → IsTraceOf (machine windows pages) k (record { start = start; events = event_at schedule; valid = valid }) (trace_of windows pages k new)
+    → IsRecordOf windows pages k (record { start = start; events = event_at schedule; valid = valid }) old
+    → IsRecordOf windows pages k (record { start = start; events = event_at schedule; valid = valid }) new
 drafted_further windows pages k count schedule old new pos few same longer start valid h = go (nat_lt (count + 1) k) refl where
   go : (b : Bool) → nat_lt (count + 1) k ≡ b
-      → IsTraceOf (machine windows pages) k (record { start = start; events = event_at schedule; valid = valid }) (trace_of windows pages k new)
+      → IsRecordOf windows pages k (record { start = start; events = event_at schedule; valid = valid }) new
   go true t =
       subst
-      (λ (r : Recording). IsTraceOf (machine windows pages) k (record { start = start; events = event_at schedule; valid = valid }) (trace_of windows pages k r))
+      (λ (r : Recording). IsRecordOf windows pages k (record { start = start; events = event_at schedule; valid = valid }) r)
       (sym (same (ltb-true (count + 1) k t))) h
   go false t =
       let whole : count + 1 ≡ k = let most : k ≤ count + 1 = ltb-false (count + 1) k t in omega (arith, most, few) in
@@ -84,7 +83,7 @@ pub run_same : (k : ℕ) (kept : Kept) (old new : Recording) (before after : ℕ
 run_same k kept old new before after run e = record {
   events = run.events;
   sound = run.sound;
-  trace = subst (λ (r : Recording). IsTraceOf (machine kept.windows kept.pages) k (run_of_kept kept run.events) (trace_of kept.windows kept.pages k r)) (sym e) run.trace;
+  record_is = subst (λ (r : Recording). IsRecordOf kept.windows kept.pages k (run_of_kept kept run.events) r) (sym e) run.record_is;
 }
 
 -- ---- several steps

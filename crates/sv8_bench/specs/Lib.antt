@@ -2,5 +2,6 @@ pub mod Faults
 pub mod Kept
 pub mod Shown
 pub mod Workbench
+pub mod Alike
 pub mod Walks
 pub mod Touching

@@ -1,7 +1,7 @@
--- A range of recorded steps that leaves some bytes of RAM alone.
+-- Ranges of recorded steps that leave some bytes of RAM alone, or reach no instruction there.
 use Rattle.std.specs.Prelude.{◌≡◌, ℕ, ◌<◌, ◌≤◌, false}
 use Rattle.sv8_time.specs.Schedule.{Schedule, pokes_of_step}
-use Rattle.sv8_cpu.specs.Touching.{SparesBytes, pokes_any}
+use Rattle.sv8_cpu.specs.Touching.{IsUntranslated, SparesBytes, pokes_any}
 use Rattle.sv8_trace.specs.Recording.{recorded}
 use Rattle.sv8_bench.specs.Shown.{machine_state}
 use Rattle.sv8_bench.specs.Workbench.{Workbench}
@@ -15,3 +15,8 @@ NonePokes schedule address count from to = (n : ℕ) → from ≤ n → n < to �
 pub record IsUntouched (k : ℕ) (w : Workbench) (address count from to : ℕ) : Type 0 where
   pub recorded : to ≤ recorded k w.recording
   pub spared : (n : ℕ) → from ≤ n → n < to → SparesBytes w.kept.windows w.kept.pages w.kept.timeline n (machine_state w.kept n) address count
+
+-- .. AND NO ADDRESS IS TRANSLATED in the state before it: it then reaches no instruction at the first of four bytes
+pub record IsUnreached (k : ℕ) (w : Workbench) (address from to : ℕ) : Type 0 where
+  pub untouched : IsUntouched k w address 4 from to
+  pub untranslated : (n : ℕ) → from ≤ n → n < to → IsUntranslated (machine_state w.kept n)

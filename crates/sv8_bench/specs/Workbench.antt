@@ -1,6 +1,6 @@
 -- A workbench as its contracts see it: what it keeps, the recorded run, and the count of the steps that were made. What edits and queries make of it.
-use Rattle.std.specs.Prelude.{◌≡◌, ℕ, ◌-◌, ◌/◌, ◌≤◌, List, Option, Some, None, length, max}
-use Rattle.sv8_history.specs.Machine.{Run}
+use Rattle.std.specs.Prelude.{◌≡◌, ℕ, ◌+◌, ◌-◌, ◌*◌, ◌/◌, ◌<◌, ◌≤◌, List, Option, Some, None, length, max}
+use Rattle.sv8_history.specs.Machine.{Run, state_at}
 use Rattle.sv8_history.specs.Changes.{Change}
 use Rattle.sv8_history.specs.Reads.{IsFirstRead}
 use Rattle.sv8_history.specs.Input.{IsFirstTake}
@@ -9,8 +9,8 @@ use Rattle.sv8_history.specs.Laws.{IsRightCount}
 use Rattle.sv8_history.specs.Growing.{restored}
 use Rattle.sv8_cpu.specs.State.{reset_state}
 use Rattle.sv8_cpu.specs.Recorded.{machine, run_of, AreEvents, IsSound}
-use Rattle.sv8_trace.specs.Recorder.{counted_by, RaisedUpTo}
-use Rattle.sv8_trace.specs.Recording.{Recording, trace_of}
+use Rattle.sv8_trace.specs.Recorder.{counted_by, translates_among, RaisedUpTo}
+use Rattle.sv8_trace.specs.Recording.{Recording, is_translated, trace_of}
 use Rattle.sv8_bench.specs.Kept.{Kept, empty}
 
 pub record Workbench : Type 0 where
@@ -38,12 +38,17 @@ pub record IsSized (nw ram_pages k : ℕ) (w : Workbench) : Type 0 where
   pub some_steps : 1 ≤ k
   pub few_steps : k ≤ 1000000
 
--- THE RECORDED RUN IS THAT OF THE SOURCE AND THE TIMELINE as they are now: each checkpoint is the state of its step, and each step has the notes of what
--- it touches.
+-- THE RECORD OF A RUN: each checkpoint is the state of its step, each step has the notes of what it touches, and the flag of each interval tells whether
+-- addresses are translated in a state before one of its steps.
+pub record IsRecordOf (windows pages k : ℕ) (run : Run (machine windows pages)) (r : Recording) : Type 0 where
+  pub trace : IsTraceOf (machine windows pages) k run (trace_of windows pages k r)
+  pub flags : (i : ℕ) → i < length r.intervals → is_translated r i ≡ translates_among (λ j. state_at (machine windows pages) run (k * i + j)) k
+
+-- THE RECORDED RUN IS THAT OF THE SOURCE AND THE TIMELINE as they are now.
 pub record IsRun (k : ℕ) (w : Workbench) : Type 0 where
   pub events : AreEvents w.kept.pages w.kept.timeline
   pub sound : IsSound w.kept.pages (reset_state w.kept.windows w.kept.pages w.kept.source)
-  pub trace : IsTraceOf (machine w.kept.windows w.kept.pages) k (run_of_kept w.kept events) (trace_of w.kept.windows w.kept.pages k w.recording)
+  pub record_is : IsRecordOf w.kept.windows w.kept.pages k (run_of_kept w.kept events) w.recording
 
 -- a new workbench: nothing is recorded, and no step was made
 pub record IsNew (windows pages : ℕ) (w : Workbench) : Type 0 where

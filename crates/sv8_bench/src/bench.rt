@@ -7,6 +7,7 @@ ghost use Rattle.sv8_source.specs.Names.{names};
 ghost use Rattle.sv8_source.specs.View.{named_of, shown_of};
 ghost use Rattle.sv8_edits.specs.Changes.{image_changes};
 ghost use Rattle.sv8_trace.specs.Recording.{recorded};
+ghost use Rattle.sv8_bench.specs.Alike.{StaysAlike};
 ghost use Rattle.sv8_bench.specs.Faults.{edit_refusal};
 ghost use Rattle.sv8_bench.specs.Kept.{edited};
 ghost use Rattle.sv8_bench.specs.Workbench.{IsRun, IsNew, IsEdited, IsSized};
@@ -102,6 +103,7 @@ impl<const NW: usize, const PAGES: usize, const K: u32> Bench<NW, PAGES, K> {
             (image_changes self.old.kept.windows self.old.kept.pages self.old.kept.source (replaced first last (texts lines.now) self.old.kept.source) self.old.kept.timeline)) }
         ensures refused { IfErr result (λ e. (e ≡ BenchFault.OutOfMemory) ⊎ (edit_refusal first last (texts lines.now) self.old.kept ≡ Some e)) }
         ensures unchanged { OnErr result (self.new ≡ self.old) }
+        ensures alike { StaysAlike K self.old self.new }
     {
         let plan = self.source.plan(self.alloc, first, last, lines)?;
         let _limit = self.timeline.limit();

@@ -5,10 +5,10 @@ use std::test::Fail;
 use sv8_bench::{Bench, BenchFault};
 
 /// A machine with one page of RAM, and a checkpoint every four steps.
-type Small = Bench<8, 1, 4>;
+pub(crate) type Small = Bench<8, 1, 4>;
 
 /// A program that stores a word at 100 (hexadecimal) in step 3, and then stays in a loop.
-const STORES: &[&[u8]] = &[
+pub(crate) const STORES: &[&[u8]] = &[
     b"sethi 0x200000, %g1",
     b"mov 0x48, %g2",
     b"st %g2, [%g1+8]",
@@ -18,7 +18,7 @@ const STORES: &[&[u8]] = &[
 ];
 
 /// A program that turns translation on in step 4, with one entry for all addresses, at 400 (hexadecimal).
-const TRANSLATES: &[&[u8]] = &[
+pub(crate) const TRANSLATES: &[&[u8]] = &[
     b"mov 0x40, %g1",
     b"mov 0x100, %g2",
     b"sta %g1, [%g2]4",
@@ -74,7 +74,7 @@ const WALKED: [Range; 5] = [
 ];
 
 /// A workbench over a source of these lines.
-fn workbench(alloc: Global, texts: &[&[u8]]) -> Result<Small, Fail> {
+pub(crate) fn workbench(alloc: Global, texts: &[&[u8]]) -> Result<Small, Fail> {
     let mut lines = Vec::new(alloc);
     for text in texts {
         lines.push(text.to_vec(alloc)?)?;

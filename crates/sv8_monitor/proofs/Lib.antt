@@ -8,6 +8,8 @@ pub mod Differing
 pub mod Parting
 pub mod QueryLemmas
 pub mod MonitorLemmas
+pub mod QuestionLemmas
+pub mod KeepLemmas
 pub mod WorkbenchLemmas
 pub mod Faults
 pub mod ConditionLemmas

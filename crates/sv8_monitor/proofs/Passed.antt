@@ -9,10 +9,10 @@ use Rattle.sv8_watch.specs.declared.condition.Condition.TheVariants.{Pc, Load, S
 use Rattle.sv8_watch.specs.declared.span.Span.{Span}
 use Rattle.sv8_watch.specs.Conditions.{meets}
 use Rattle.sv8_watch.specs.Touching.{some_bytes, word_span, span_of}
-use Rattle.sv8_watch.proofs.Sparing.{spared_steps_miss}
+use Rattle.sv8_watch.proofs.Sparing.{spared_steps_miss, spared_pcs_miss}
 use Rattle.sv8_bench.specs.Kept.{Kept}
 use Rattle.sv8_bench.specs.Shown.{machine_state}
-use Rattle.sv8_bench.specs.Touching.{IsUntouched}
+use Rattle.sv8_bench.specs.Touching.{IsUntouched, IsUnreached}
 use Rattle.sv8_bench.specs.Workbench.{Workbench, checkpoints}
 use Rattle.sv8_monitor.specs.Search.{is_inside, is_wanted, rising}
 
@@ -94,6 +94,26 @@ module _ (k : ℕ) (w : Workbench) (c : Condition) (span : Span) (from to : ℕ)
   spared_recorded pos =
       let all = untouched b (IsUntouched k w span.address span.count from to) h e in
       let recorded = all.recorded in
+      let under : to / k < checkpoints w + 1 = (div-lt_iff_lt-mul pos).1 (omega (arith, recorded, pos)) in
+      omega (arith, under)
+
+-- no instruction at an address is reached
+shown : (b : Bool) (P Q : Type 0) → MatchBool b P Q → b ≡ true → P
+shown true P Q h e = h
+shown false P Q h e = cc
+
+module _ (k : ℕ) (w : Workbench) (address from to : ℕ) (b : Bool) (Q : Type 0) (h : MatchBool b (IsUnreached k w address from to) Q) (e : b ≡ true) where
+  pub none_reached : address + 4 ≤ ram_size w.kept.pages → (n : ℕ) → from ≤ n → n < to
+      → meets w.kept.windows w.kept.pages w.kept.timeline n (machine_state w.kept n) (Pc address) ≡ false
+  none_reached inside n low below =
+      let kept = w.kept in
+      let all = shown b (IsUnreached k w address from to) Q h e in
+      spared_pcs_miss kept.windows kept.pages kept.timeline n (machine_state kept n) address (all.untranslated n low below) inside (all.untouched.spared n low below)
+
+  pub unreached_recorded : 0 < k → to / k ≤ checkpoints w
+  unreached_recorded pos =
+      let all = shown b (IsUnreached k w address from to) Q h e in
+      let recorded = all.untouched.recorded in
       let under : to / k < checkpoints w + 1 = (div-lt_iff_lt-mul pos).1 (omega (arith, recorded, pos)) in
       omega (arith, under)
 

@@ -5,5 +5,6 @@ pub mod Texts
 pub mod Events
 pub mod Comparing
 pub mod Answers
+pub mod Pair
 pub mod Session
 pub mod Laws

@@ -63,6 +63,15 @@ asks (Mem step address count) = true
 asks (Out step) = true
 asks Quit = false
 
+-- a question that a line can ask: of the workbench's own commands those alone that ask
+abbrev pub is_answerable : Question → Bool
+is_answerable (Now query) = true
+is_answerable (Before query) = true
+is_answerable (BeforeCommand command) = asks command
+is_answerable Keep = true
+is_answerable (Part from to) = true
+is_answerable (Differ now before count) = true
+
 abbrev pub if_asks : Command → Option Question
 if_asks c = if asks c then Some (BeforeCommand c) else None
 

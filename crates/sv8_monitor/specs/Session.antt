@@ -17,13 +17,13 @@ use Rattle.sv8_shell.specs.Order as shell_order
 use Rattle.sv8_shell.specs.Commands.{outcome_of}
 use Rattle.sv8_shell.specs.Outcome.{Outcome, Answers}
 use Rattle.sv8_shell.specs.Session as shell_session
-use Rattle.sv8_monitor.specs.declared.monitor.Monitor.{Monitor}
 use Rattle.sv8_monitor.specs.declared.question.Question.{Question}
 use Rattle.sv8_monitor.specs.declared.question.Question.TheVariants.{Now, Before, BeforeCommand, Keep, Part, Differ}
 use Rattle.sv8_monitor.specs.Questions.{question_of}
 use Rattle.sv8_monitor.specs.Answers.{query_outcome, differ_outcome}
 use Rattle.sv8_monitor.specs.Comparing.{range_refusal, IsParted}
 use Rattle.sv8_monitor.specs.Texts.{parted_text}
+use Rattle.sv8_monitor.specs.Pair.{Pair}
 
 -- what a session keeps between its orders: the source and the timeline as they are, and as they were kept
 pub record Both : Type 0 where
@@ -35,7 +35,7 @@ abbrev pub new_pair : ℕ → ℕ → Both
 new_pair windows pages = record { now = empty windows pages; before = empty windows pages }
 
 -- of a monitor
-abbrev pub kept_of : {windows pages k : ℕ} → Monitor windows pages k → Both
+abbrev pub kept_of : Pair → Both
 kept_of m = record { now = m.current.kept; before = m.before.kept }
 
 pub data Order : Type 0 where

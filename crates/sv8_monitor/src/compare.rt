@@ -1,8 +1,9 @@
 //! What differs between a workbench and the one that was kept.
 
-ghost use Rattle.std.specs.Prelude.{◌≡◌, MatchBool, ℕ, ◌+◌, ◌-◌, ◌*◌, ◌/◌, ◌<◌, ◌≤◌, ◌++◌, ◌∷◌, [], length, map, IfOk, IfErr, IfSome, OnOk, OnErr, None, Some};
+ghost use Rattle.std.specs.Prelude.{◌≡◌, MatchBool, ℕ, ◌+◌, ◌-◌, ◌*◌, ◌/◌, ◌<◌, ◌≤◌, ◌++◌, ◌∷◌, ◌⊎◌, [], max, length, map, IfOk, IfErr, IfSome, OnOk, OnErr, None, Some};
 ghost use Rattle.sv8_bench.specs.Faults.{step_refusal, IsQueryFault};
 ghost use Rattle.sv8_phys.specs.Memory.{ram_size};
+ghost use Rattle.sv8_bench.specs.Alike.{AreAlikeUpTo};
 ghost use Rattle.sv8_bench.specs.Shown.{machine_state};
 ghost use Rattle.sv8_bench.specs.Workbench.{IsAnswered, IsGivenUp};
 ghost use Rattle.sv8_cpu.specs.Sameness.{IsSameProcessor};
@@ -16,7 +17,8 @@ use sv8_bench::{Bench, BenchFault, LAST_STEP, Walk};
 use sv8_cpu::Machine;
 use sv8_phys::Watch;
 
-/// The first step from one on up to another, which is looked at too, at which the processors of two workbenches differ.
+/// The first step from one on up to another, which is looked at too, at which the processors of two workbenches differ. Up to `common`,
+/// that step included, they are known to be the same, so it begins no lower.
 ///
 /// # Errors
 ///
@@ -24,26 +26,29 @@ use sv8_phys::Watch;
 pub fn part<const NW: usize, const PAGES: usize, const K: u32>(
     now: &mut Bench<NW, PAGES, K>,
     before: &mut Bench<NW, PAGES, K>,
+    common: u32,
     from: u32,
     to: u32,
 ) -> Result<Option<u32>, BenchFault>
+    requires alike { AreAlikeUpTo common before.old.kept now.old.kept }
     ensures parted { IfOk result (IsParted before.old.kept now.old.kept from to) }
     ensures within { OnOk result (range_refusal from to ≡ None) }
-    ensures idle { OnOk result (to < from → (now.new ≡ now.old) × (before.new ≡ before.old)) }
-    ensures now_looked { IfOk result (λ parted. from ≤ to → IsSearched K from (parting to parted) now.old now.new) }
-    ensures before_looked { IfOk result (λ parted. from ≤ to → IsSearched K from (parting to parted) before.old before.new) }
+    ensures idle { OnOk result ((to < from) ⊎ (to ≤ common) → (now.new ≡ now.old) × (before.new ≡ before.old)) }
+    ensures now_looked { IfOk result (λ parted. from ≤ to → common < to → IsSearched K (max from common) (parting to parted) now.old now.new) }
+    ensures before_looked { IfOk result (λ parted. from ≤ to → common < to → IsSearched K (max from common) (parting to parted) before.old before.new) }
     ensures refused { IfErr result (IsQueryFault (range_refusal from to)) }
     ensures untouched { IfSome (range_refusal from to) (λ e. (now.new ≡ now.old) × (before.new ≡ before.old)) }
-    ensures now_given_up { OnErr result (IsAbandoned K from to now.old now.new) }
-    ensures before_given_up { OnErr result (IsAbandoned K from to before.old before.new) }
+    ensures now_given_up { OnErr result (IsAbandoned K (max from common) to now.old now.new) }
+    ensures before_given_up { OnErr result (IsAbandoned K (max from common) to before.old before.new) }
+    ensures kept { (now.new.kept ≡ now.old.kept) × (before.new.kept ≡ before.old.kept) }
 {
     if LAST_STEP < from || LAST_STEP < to {
         return Err(BenchFault::StepTooLarge);
     }
-    if to < from {
+    if to < from || to <= common {
         return Ok(None);
     }
-    let parted = part_within(now, before, from, to)?;
+    let parted = part_within(now, before, from.max(common), to)?;
     Ok(parted)
 }
 

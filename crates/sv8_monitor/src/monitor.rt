@@ -1,12 +1,18 @@
 //! The commands of the monitor, as the loop asks for them.
 
-ghost use Rattle.std.specs.Prelude.{◌≡◌, ℕ, ◌++◌, List, take};
+ghost use Rattle.std.specs.Prelude.{◌≡◌, ℕ, ◌++◌, List, min, take, true, IfOk, OnOk, OnErr};
 ghost use Rattle.sv8_session.specs.Gathers.{texts};
 ghost use Rattle.sv8_session.specs.Put.{Puts, Replies};
+ghost use Rattle.sv8_trace.specs.Recording.{recorded};
+ghost use Rattle.sv8_bench.specs.Alike.{AreAlikeUpTo};
+ghost use Rattle.sv8_shell.specs.Put as outcomes;
+ghost use Rattle.sv8_shell.specs.Session as workbench;
 ghost use Rattle.sv8_shell.specs.Text.{ok_line};
-ghost use Rattle.sv8_monitor.specs.Session.{Both, Order, ask, begins_read, kept_of, language};
+ghost use Rattle.sv8_monitor.specs.Answers.{differ_outcome};
+ghost use Rattle.sv8_monitor.specs.Questions.{asks, is_answerable};
+ghost use Rattle.sv8_monitor.specs.Session.{Both, Order, ask, begins_read, kept_of, language, shell};
 ghost use Rattle.sv8_monitor.specs.Texts.{parted_text, differences_text};
-ghost use Rattle.sv8_monitor.specs.declared.question.Question.TheVariants.{Keep, Part, Differ};
+ghost use Rattle.sv8_monitor.specs.declared.question.Question.TheVariants.{BeforeCommand, Keep, Part, Differ};
 
 use crate::answers::answer_query;
 use crate::compare::{differ, part};
@@ -14,21 +20,89 @@ use crate::difference::Difference;
 use crate::lines::add_parted;
 use crate::piece::put_pieces;
 use crate::question::{Question, parse_question};
+use std::alloc::AllocError;
 use std::io::Write;
-use sv8_bench::{Bench, BenchFault};
+use std::marker::Model;
+use sv8_bench::{Bench, BenchFault, LAST_STEP};
 use sv8_session::{Begun, Commands};
 use sv8_shell::put::{WriteFault, accept, done, refuse};
 use sv8_shell::refusal::{bad_command, refusal_of};
 use sv8_shell::text::Text;
-use sv8_shell::{Shell, answer};
+use sv8_shell::{Command, Effect, Shell, answer, answer_line};
 
-/// A workbench, and the one that was kept of it.
+/// A workbench that is edited, and the one that was kept of it.
 #[derive(Drop)]
 pub struct Monitor<const NW: usize, const PAGES: usize, const K: u32> {
-    /// The one that is edited.
-    pub current: Bench<NW, PAGES, K>,
+    current: Bench<NW, PAGES, K>,
+    before: Bench<NW, PAGES, K>,
+    /// Up to this step the processors of both are the same: no edit since `keep` has changed what a step below it reads.
+    common: u32,
+}
+
+impl<const NW: usize, const PAGES: usize, const K: u32> Model for Monitor<NW, PAGES, K> {
+    ghost use Rattle.sv8_bench.specs.Alike.{AreAlikeUpTo};
+    ghost use Rattle.sv8_monitor.specs.Pair.{Pair};
+
+    ghost Value = { Pair };
+
+    ghost view = { λ m. record { current = m.current; before = m.before; common = m.common } };
+
+    ghost invariant = { λ m. AreAlikeUpTo m.common m.before.kept m.current.kept };
+}
+
+impl<const NW: usize, const PAGES: usize, const K: u32> Monitor<NW, PAGES, K> {
+    /// A monitor of a workbench, which is kept as it is now.
+    ///
+    /// # Errors
+    ///
+    /// `AllocError` where memory for a copy of it cannot be had.
+    pub fn new(current: Bench<NW, PAGES, K>) -> Result<Self, AllocError>
+        ensures { IfOk result (λ m. m ≡ record { current = current.entry; before = current.entry; common = 1000000 }) }
+    {
+        let before = current.copy(current.alloc())?;
+        Ok(Monitor {
+            current,
+            before,
+            common: LAST_STEP,
+        })
+    }
+
+    /// The workbench that is edited.
+    pub fn current(&self) -> &Bench<NW, PAGES, K>
+        ensures { result.now ≡ self.now.current }
+    {
+        &self.current
+    }
+
     /// The one that was kept.
-    pub before: Bench<NW, PAGES, K>,
+    pub fn before(&self) -> &Bench<NW, PAGES, K>
+        ensures { result.now ≡ self.now.before }
+    {
+        &self.before
+    }
+
+    /// The step up to which, that step included, the processors of both are known to be the same: 1,000,000 where none was edited since
+    /// `keep`, else the least of what edits left recorded.
+    pub fn common(&self) -> u32
+        ensures step { result ≡ self.now.common }
+        ensures alike { AreAlikeUpTo result self.now.before.kept self.now.current.kept }
+    {
+        self.common
+    }
+
+    /// Keeps the workbench as it is now.
+    ///
+    /// # Errors
+    ///
+    /// `AllocError` where memory for a copy of it cannot be had. What was kept is then as it was.
+    pub fn keep(&mut self) -> Result<(), AllocError>
+        ensures kept { OnOk result (self.new ≡ record { current = self.old.current; before = self.old.current; common = 1000000 }) }
+        ensures unchanged { OnErr result (self.new ≡ self.old) }
+    {
+        self.before = self.current.copy(self.current.alloc())?;
+        self.common = LAST_STEP;
+        Ok(())
+    }
 }
 
 /// The commands of a monitor: those of the workbench, and its own questions.
@@ -59,7 +133,7 @@ impl<const NW: usize, const PAGES: usize, const K: u32> Commands for Monitoring<
         writer: &mut W,
     ) -> Result<(), WriteFault> {
         match parse_question(text) {
-            None => Shell::<NW, PAGES, K>::answer(&mut state.current, text, lines, writer),
+            None => answer_command(state, text, lines, writer),
             Some(Ok(question)) => answer_question(state, writer, question),
             Some(Err(_)) => refuse(writer, bad_command()),
         }
@@ -84,22 +158,72 @@ fn begins_own<E>(question: &Result<Question<'_>, E>) -> Begun
     }
 }
 
+/// The step up to which both are still known to be alike once one was edited, where they were up to another one.
+fn common_after<const NW: usize, const PAGES: usize, const K: u32>(
+    common: u32,
+    edited: &Bench<NW, PAGES, K>,
+) -> u32
+    ensures { result ≡ min common (recorded K edited.now.recording) }
+{
+    common.min(edited.recorded())
+}
+
+/// Answers a command of the workbench's on the one that is edited.
+fn answer_command<const NW: usize, const PAGES: usize, const K: u32, W: Write>(
+    monitor: &mut Monitor<NW, PAGES, K>,
+    text: &[u8],
+    lines: &[Vec<u8>],
+    writer: &mut W,
+) -> Result<(), WriteFault>
+    ensures { (all : List (List ℕ)) → texts lines.now ≡ take 65537 all →
+        Replies language result (W.contents writer.old) (W.contents writer.new) (kept_of monitor.old) (shell (workbench.language.order text.now all)) (kept_of monitor.new) }
+{
+    match answer_line(&mut monitor.current, text, lines, writer) {
+        Ok(Effect::Unchanged) => Ok(()),
+        Ok(Effect::Edited) => {
+            monitor.common = common_after(monitor.common, &monitor.current);
+            Ok(())
+        }
+        Err(fault) => {
+            monitor.common = common_after(monitor.common, &monitor.current);
+            Err(fault)
+        }
+    }
+}
+
+/// Answers a question.
 fn answer_question<const NW: usize, const PAGES: usize, const K: u32, W: Write>(
     monitor: &mut Monitor<NW, PAGES, K>,
     writer: &mut W,
     question: Question<'_>,
 ) -> Result<(), WriteFault>
+    requires { is_answerable question ≡ true }
     ensures { Replies language result (W.contents writer.old) (W.contents writer.new) (kept_of monitor.old) (ask question.entry) (kept_of monitor.new) }
 {
     match question {
         Question::Now(query) => answer_query(&mut monitor.current, writer, query),
         Question::Before(query) => answer_query(&mut monitor.before, writer, query),
-        Question::BeforeCommand(command) => answer(&mut monitor.before, writer, command),
+        Question::BeforeCommand(command) => answer_before(monitor, writer, command),
         Question::Keep => answer_keep(monitor, writer),
         Question::Part { from, to } => answer_part(monitor, writer, from, to),
         Question::Differ { now, before, count } => {
             answer_differ(monitor, writer, now, before, count)
         }
+    }
+}
+
+/// Answers a query of the workbench's on the one that was kept.
+fn answer_before<const NW: usize, const PAGES: usize, const K: u32, W: Write>(
+    monitor: &mut Monitor<NW, PAGES, K>,
+    writer: &mut W,
+    command: Command<'_>,
+) -> Result<(), WriteFault>
+    requires { asks command ≡ true }
+    ensures { Replies language result (W.contents writer.old) (W.contents writer.new) (kept_of monitor.old) (ask (BeforeCommand command.entry)) (kept_of monitor.new) }
+{
+    match answer(&mut monitor.before, writer, command) {
+        Ok(_) => Ok(()),
+        Err(fault) => Err(fault),
     }
 }
 
@@ -109,11 +233,8 @@ fn answer_keep<const NW: usize, const PAGES: usize, const K: u32, W: Write>(
 ) -> Result<(), WriteFault>
     ensures { Replies language result (W.contents writer.old) (W.contents writer.new) (kept_of monitor.old) (ask Keep) (kept_of monitor.new) }
 {
-    match monitor.current.copy(monitor.current.alloc()) {
-        Ok(copy) => {
-            monitor.before = copy;
-            done(writer)
-        }
+    match monitor.keep() {
+        Ok(()) => done(writer),
         Err(_) => refuse(writer, refusal_of(BenchFault::OutOfMemory)),
     }
 }
@@ -126,7 +247,13 @@ fn answer_part<const NW: usize, const PAGES: usize, const K: u32, W: Write>(
 ) -> Result<(), WriteFault>
     ensures { Replies language result (W.contents writer.old) (W.contents writer.new) (kept_of monitor.old) (ask (Part from to)) (kept_of monitor.new) }
 {
-    match part(&mut monitor.current, &mut monitor.before, from, to) {
+    match part(
+        &mut monitor.current,
+        &mut monitor.before,
+        monitor.common,
+        from,
+        to,
+    ) {
         Ok(parted) => tell_parted(writer, parted),
         Err(fault) => refuse(writer, refusal_of(fault)),
     }
@@ -149,14 +276,32 @@ fn answer_differ<const NW: usize, const PAGES: usize, const K: u32, W: Write>(
 ) -> Result<(), WriteFault>
     ensures { Replies language result (W.contents writer.old) (W.contents writer.new) (kept_of monitor.old) (ask (Differ at_now at_before count)) (kept_of monitor.new) }
 {
-    monitor.current.sizes();
-    match differ(
+    compare_memories(
         &mut monitor.current,
         &mut monitor.before,
+        writer,
         at_now,
         at_before,
         count,
-    ) {
+    )
+}
+
+/// Answers which words of RAM differ between two workbenches.
+fn compare_memories<const NW: usize, const PAGES: usize, const K: u32, W: Write>(
+    now: &mut Bench<NW, PAGES, K>,
+    before: &mut Bench<NW, PAGES, K>,
+    writer: &mut W,
+    at_now: u32,
+    at_before: u32,
+    count: u32,
+) -> Result<(), WriteFault>
+    ensures replies { outcomes.Replies result (W.contents writer.old) (W.contents writer.new) now.old.kept
+        (differ_outcome at_now at_before count before.old.kept now.old.kept) now.new.kept }
+    ensures now { now.new.kept ≡ now.old.kept }
+    ensures before { before.new.kept ≡ before.old.kept }
+{
+    now.sizes();
+    match differ(now, before, at_now, at_before, count) {
         Ok(found) => tell_differences(writer, found.as_slice()),
         Err(fault) => refuse(writer, refusal_of(fault)),
     }

@@ -6,6 +6,7 @@ ghost use Rattle.sv8_bench.specs.Faults.{IsQueryFault};
 ghost use Rattle.sv8_monitor.specs.Answers.{steps_refusal};
 ghost use Rattle.sv8_phys.specs.Memory.{ram_size};
 ghost use Rattle.sv8_cpu.specs.State.{State};
+ghost use Rattle.sv8_watch.specs.declared.condition.Condition.TheVariants as condition;
 ghost use Rattle.sv8_watch.specs.Conditions.{is_met, meets, bytes_from};
 ghost use Rattle.sv8_watch.specs.Watched.{IsBefore, happening_of};
 ghost use Rattle.sv8_bench.specs.Shown.{machine_state};
@@ -293,8 +294,24 @@ fn add_falling(found: &mut Vec<Found>, seen: &[Found], most: u32) -> Result<u32,
     Ok(left)
 }
 
-/// Whether the notes of the recorded run show that no step of a range meets a condition.
-fn shows_none<const NW: usize, const PAGES: usize, const K: u32>(
+/// Whether the record shows that no step of a range reaches an instruction at an address. It never does of one outside RAM.
+fn reaches_none<const NW: usize, const PAGES: usize, const K: u32>(
+    bench: &Bench<NW, PAGES, K>,
+    address: u32,
+    from: u32,
+    to: u32,
+) -> bool
+    ensures none { result ≡ true → (n : ℕ) → from ≤ n → n < to
+        → meets bench.now.kept.windows bench.now.kept.pages bench.now.kept.timeline n (machine_state bench.now.kept n) (condition.Pc address) ≡ false }
+    ensures recorded { result ≡ true → to / K ≤ checkpoints bench.now }
+{
+    bench.sizes();
+    u64::from(address) + 4 <= 4_096 * PAGES as u64 && bench.is_unreached(address, from, to)
+}
+
+/// Whether the notes of the recorded run show that no step of a range touches the bytes of a condition. They show nothing of a
+/// condition that has none.
+fn touches_none<const NW: usize, const PAGES: usize, const K: u32>(
     bench: &Bench<NW, PAGES, K>,
     condition: Condition,
     from: u32,
@@ -309,6 +326,24 @@ fn shows_none<const NW: usize, const PAGES: usize, const K: u32>(
     match condition.span() {
         Some(span) => bench.is_untouched(span.address, span.count, from, to),
         None => false,
+    }
+}
+
+/// Whether the recorded run shows that no step of a range meets a condition.
+fn shows_none<const NW: usize, const PAGES: usize, const K: u32>(
+    bench: &Bench<NW, PAGES, K>,
+    condition: Condition,
+    from: u32,
+    to: u32,
+) -> bool
+    requires inside { is_inside (ram_size PAGES) condition ≡ true }
+    ensures none { result ≡ true → (n : ℕ) → from ≤ n → n < to
+        → meets bench.now.kept.windows bench.now.kept.pages bench.now.kept.timeline n (machine_state bench.now.kept n) condition ≡ false }
+    ensures recorded { result ≡ true → to / K ≤ checkpoints bench.now }
+{
+    match condition {
+        Condition::Pc(address) => reaches_none(bench, address, from, to),
+        _ => touches_none(bench, condition, from, to),
     }
 }
 

@@ -14,7 +14,7 @@ use Rattle.sv8_trace.specs.declared.interval.Interval.{Interval}
 use Rattle.sv8_trace.specs.declared.prepared.Staged.{Staged}
 use Rattle.sv8_trace.specs.Kept.{kept_in}
 use Rattle.sv8_trace.specs.Recording.{Recording, blank, no_interval, trace_of}
-use Rattle.sv8_trace.specs.Prepared.{placed, list_at, prepared_trace, IsPageColumn, IsPreparedFor}
+use Rattle.sv8_trace.specs.Prepared.{placed, list_at, prepared_trace, IsPageColumn, IsPreparedFor, IsPlaced}
 use Rattle.sv8_trace.specs.Placing.{placed_pages_in, placed_levels_in, with_kept}
 use Rattle.sv8_trace.specs.Overlaid.{AreFull}
 
@@ -106,10 +106,16 @@ module _ (windows pages k : ℕ) (pos : 0 < k) (r : Recording) (s : Staged) (fit
   kept_is n c (inl h) = let e = interval_is (n / k) h in rw (lt-ltb (n / k) s.count h, e)
   kept_is n c (inr h) = let w : length lists ≤ n / k = omega (arith, lists_count, h) in rw (le-ltb (n / k) s.count h, get_or_past lists (n / k) no_interval w)
 
-  pub committed : history.Agrees (machine windows pages) k (prepared_trace windows pages k r s) (trace_of windows pages k (record { points = last; intervals = lists }))
+  committed : history.Agrees (machine windows pages) k (prepared_trace windows pages k r s) (trace_of windows pages k (record { points = last; intervals = lists }))
   committed = record {
     count = lists_count;
     points = λ i h. let d : k * i / k ≡ i = mul-div_cancel_left i pos in rw d (point_is i h);
     notes = λ n h. let e = ap (λ (x : Interval). x.notes) (interval_is (n / k) (of_count n h)) in rw e (footprint_same _);
     kept = λ n c. kept_is n c (cases_lt (n / k) s.count);
+  }
+
+  pub placed_is : IsPlaced windows pages k r s (record { points = last; intervals = lists })
+  placed_is = record {
+    agrees = committed;
+    flags = λ i h. ap (λ (x : Interval). x.translated) (interval_is i (omega (arith, lists_count, h)));
   }

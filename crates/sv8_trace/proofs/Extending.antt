@@ -193,7 +193,13 @@ module _ (windows pages k : ℕ) (pos : 0 < k) (schedule : Schedule) (old new : 
     }
 
   pub extended_is : IsExtended windows pages k schedule old new
-  extended_is = agrees
+  extended_is = record {
+    agrees = agrees;
+    flag = ap (λ xs. (get_or xs (length old.intervals) no_interval).translated) interval_is
+        ∙ ap (λ (x : Interval). x.translated) (get_or-append_seam old.intervals steps [] no_interval) ∙ recorded.translated;
+    flags = λ i h. ap (λ xs. (get_or xs i no_interval).translated) interval_is
+        ∙ ap (λ (x : Interval). x.translated) (get_or_append_left old.intervals (steps ∷ []) no_interval i h);
+  }
 
 -- what holds of the last checkpoint
 pub last_new : (k : ℕ) (old new : Recording) (s : State) (steps : Interval) (P : State → ℕ → Type 0) → length old.points ≡ length old.intervals + 1

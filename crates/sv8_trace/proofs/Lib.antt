@@ -17,5 +17,6 @@ pub mod Spreading
 pub mod Preparing
 pub mod Committing
 pub mod Editing
+pub mod Translated
 pub mod Common
 pub mod Untouched

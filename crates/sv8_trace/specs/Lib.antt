@@ -8,6 +8,7 @@ pub mod Recording
 pub mod Drafts
 pub mod Marks
 pub mod Touching
+pub mod Translating
 pub mod Patch
 pub mod PageRuns
 pub mod Prepared

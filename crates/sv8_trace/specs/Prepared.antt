@@ -1,14 +1,14 @@
 -- A change of a trace that is built and not yet placed.
-use Rattle.std.specs.Prelude.{◌≡◌, ℕ, suc, ◌*◌, ◌/◌, ◌%◌, ◌≤◌, ltb, length, List, [], ◌∷◌, slice_index_or, slice_set, Bool, false, cond, Option, Some, None, unwrap_or, MatchOption, ⊤}
+use Rattle.std.specs.Prelude.{◌≡◌, ℕ, suc, ◌*◌, ◌/◌, ◌%◌, ◌<◌, ◌≤◌, ltb, length, List, [], ◌∷◌, slice_index_or, slice_set, Bool, false, cond, Option, Some, None, unwrap_or, MatchOption, ⊤}
 use Rattle.sv8_phys.specs.Memory.{with_page}
 use Rattle.sv8_history.specs.Machine.{Machine}
-use Rattle.sv8_history.specs.Trace.{Trace}
+use Rattle.sv8_history.specs.Trace.{Trace, Agrees}
 use Rattle.sv8_cpu.specs.State.{State}
 use Rattle.sv8_cpu.specs.Recorded.{machine}
 use Rattle.sv8_trace.specs.declared.kept.Kept.{Kept}
 use Rattle.sv8_trace.specs.declared.prepared.Staged.{Staged}
 use Rattle.sv8_trace.specs.Kept.{kept_in}
-use Rattle.sv8_trace.specs.Recording.{Recording, blank, no_interval, trace_of}
+use Rattle.sv8_trace.specs.Recording.{Recording, blank, is_translated, no_interval, trace_of}
 
 -- what was prepared, as it is seen from outside
 abbrev pub Preparation : Type 0
@@ -68,6 +68,11 @@ pub record IsPreparedFor (pages : ℕ) (r : Recording) (staged : Staged) : Type 
   pub lists_count : length staged.kept.items ≡ staged.count
   pub whole_pages : (p : ℕ) → MatchOption (slice_index_or staged.pages.items p None) ⊤ (IsPageColumn staged.count)
   pub whole_levels : (l : ℕ) → MatchOption (slice_index_or staged.levels.items l None) ⊤ (λ c. length c ≡ suc staged.count)
+
+-- It was placed: the trace shows what was prepared, and each interval that stays keeps its flag.
+pub record IsPlaced (windows pages k : ℕ) (old : Recording) (staged : Staged) (new : Recording) : Type 0 where
+  pub agrees : Agrees (machine windows pages) k (prepared_trace windows pages k old staged) (trace_of windows pages k new)
+  pub flags : (i : ℕ) → i < length new.intervals → is_translated new i ≡ is_translated old i
 
 -- The traces show the same, and have one set of notes.
 pub record Near (m : Machine) (k : ℕ) (v w : Trace m) : Type 0 where

@@ -14,6 +14,7 @@ use std::rc::Rc;
 pub(crate) struct Finished {
     notes: Rc<Notes>,
     kept: KeptList,
+    translated: bool,
 }
 
 impl Model for Finished {
@@ -21,7 +22,7 @@ impl Model for Finished {
 
     ghost Value = { Interval };
 
-    ghost view = { λ f. record { notes = f.notes.value; kept = f.kept } };
+    ghost view = { λ f. record { notes = f.notes.value; kept = f.kept; translated = f.translated } };
 }
 
 impl Finished {
@@ -33,9 +34,17 @@ impl Finished {
     pub(crate) fn new(alloc: Global, interval: Interval) -> Result<Finished, AllocError>
         ensures { IfOk result (λ f. f ≡ interval) }
     {
-        let Interval { notes, kept } = interval;
+        let Interval {
+            notes,
+            kept,
+            translated,
+        } = interval;
         let notes = Rc::new(alloc, notes)?;
-        Ok(Finished { notes, kept })
+        Ok(Finished {
+            notes,
+            kept,
+            translated,
+        })
     }
 
     /// What each of the steps touches.
@@ -50,6 +59,13 @@ impl Finished {
         ensures { result.now ≡ self.now.kept }
     {
         &self.kept
+    }
+
+    /// Whether one of the steps begins in a state in which addresses are translated.
+    pub(crate) fn translated(&self) -> bool
+        ensures { result ≡ self.now.translated }
+    {
+        self.translated
     }
 
     /// Puts a list of kept values in the place of that of the interval.
@@ -69,6 +85,10 @@ impl Finished {
     {
         let notes = self.notes.clone()?;
         let kept = self.kept.copy()?;
-        Ok(Finished { notes, kept })
+        Ok(Finished {
+            notes,
+            kept,
+            translated: self.translated,
+        })
     }
 }

@@ -7,11 +7,13 @@ use crate::kept::KeptList;
 use crate::notes::Notes;
 use std::alloc::{AllocError, Global};
 
-/// What is kept of the steps from a checkpoint to the next one: what each touches, and what stood in cells before events set them.
+/// What is kept of the steps from a checkpoint to the next one: what each touches, what stood
+/// in cells before events set them, and whether one of the steps begins in a state in which addresses are translated.
 #[derive(Drop)]
 pub(crate) struct Interval {
     pub notes: Notes,
     pub kept: KeptList,
+    pub translated: bool,
 }
 
 impl Interval {
@@ -22,6 +24,7 @@ impl Interval {
         Interval {
             notes: Notes::new(alloc),
             kept: KeptList::new(alloc),
+            translated: false,
         }
     }
 
@@ -31,6 +34,7 @@ impl Interval {
     {
         self.notes.clear();
         self.kept.clear();
+        self.translated = false;
     }
 
     /// The same once more, in no more memory than it needs.
@@ -44,6 +48,7 @@ impl Interval {
         Ok(Interval {
             notes: self.notes.copy()?,
             kept: self.kept.copy()?,
+            translated: self.translated,
         })
     }
 }

@@ -1,8 +1,9 @@
 //! Steps that are made and recorded.
 
-ghost use Rattle.std.specs.Prelude.{◌≡◌, ℕ, ◌+◌, ◌≤◌, ◌<◌, ◌&&◌, ◌==◌, ◌++◌, ◌⊎◌, cond, None, Some, is_some, slice_index_or, IfOk, OnOk, OnErr};
+ghost use Rattle.std.specs.Prelude.{◌≡◌, ℕ, ◌+◌, ◌≤◌, ◌<◌, ◌&&◌, ◌||◌, ◌==◌, ◌++◌, ◌⊎◌, cond, None, Some, is_some, slice_index_or, IfOk, OnOk, OnErr};
 ghost use Rattle.sv8_model.specs.Cells as model;
 ghost use Rattle.sv8_time.specs.Schedule.{bytes_below};
+ghost use Rattle.sv8_mmu.specs.Registers.{translates};
 ghost use Rattle.sv8_phys.specs.Memory.{ram_size};
 ghost use Rattle.sv8_phys.specs.Notes.{told};
 ghost use Rattle.sv8_cpu.specs.WordPokes.{AreInside};
@@ -128,6 +129,17 @@ fn keep_below<const NW: usize, const PAGES: usize>(
     Ok(())
 }
 
+/// Notes whether addresses are translated in the state before a step.
+fn note_translation<const NW: usize, const PAGES: usize>(
+    translated: &mut bool,
+    machine: &Machine<NW, PAGES>,
+)
+    requires { NW ≤ 32 }
+    ensures { translated.new ≡ (translated.old || translates machine.now.mmu) }
+{
+    *translated = *translated || machine.mmu().translates();
+}
+
 /// Makes step n and records it, as the step with this offset in its interval. `touches` is a place for what it touches.
 fn record_step<const NW: usize, const PAGES: usize>(
     machine: Machine<NW, PAGES>,
@@ -150,10 +162,12 @@ fn record_step<const NW: usize, const PAGES: usize>(
     ensures kept { OnOk result ((j : ℕ) (c : model.Cell) → kept_in j c interval.new.kept
         ≡ cond (is_touched (told (footprint NW PAGES timeline.now n machine.entry)) c) None
         (cond (j == offset && is_some (poke_of c (event_at timeline.now n))) (Some (get c machine.entry)) (kept_in j c interval.old.kept))) }
+    ensures translated { OnOk result (interval.new.translated ≡ (interval.old.translated || translates machine.entry.mmu)) }
     ensures counted { OnOk result (work.new ≡ counted work.old) }
     ensures uncounted { OnErr result (work.new ≡ work.old ⊎ work.new ≡ counted work.old) }
 {
     touches.clear();
+    note_translation(&mut interval.translated, &machine);
     keep_below(&mut interval.kept, &machine, timeline, n, offset)?;
     let machine = machine.step(n, timeline, touches, work)?;
     interval.notes.note_step(touches.touches(), offset)?;
@@ -185,11 +199,13 @@ pub(crate) fn record_watched<const NW: usize, const PAGES: usize>(
     ensures kept { OnOk result ((j : ℕ) (c : model.Cell) → kept_in j c interval.new.kept
         ≡ cond (is_touched (told (footprint NW PAGES timeline.now n machine.old)) c) None
         (cond (j == offset && is_some (poke_of c (event_at timeline.now n))) (Some (get c machine.old)) (kept_in j c interval.old.kept))) }
+    ensures translated { OnOk result (interval.new.translated ≡ (interval.old.translated || translates machine.old.mmu)) }
     ensures counted { OnOk result (work.new ≡ counted work.old) }
     ensures uncounted { OnErr result (work.new ≡ work.old ⊎ work.new ≡ counted work.old) }
 {
     touches.clear();
     watch.clear();
+    note_translation(&mut interval.translated, machine);
     keep_below(&mut interval.kept, machine, timeline, n, offset)?;
     machine.watch(n, timeline, watch, work)?;
     watch.tell(touches)?;

@@ -14,6 +14,7 @@ mod placing;
 mod preparing;
 mod search;
 mod touching;
+mod translating;
 
 use crate::finished::Finished;
 use crate::interval::Interval;

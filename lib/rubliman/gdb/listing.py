@@ -8,7 +8,6 @@ from functools import cached_property
 from ..asking.monitor import Monitor
 
 
-
 @dataclass(frozen=True)
 class Line:
     """A line of the listing."""

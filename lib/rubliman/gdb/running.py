@@ -106,9 +106,7 @@ class Runner:
             told += "\n"
         return replace(stop, said=told + stop.said)
 
-    def _up(
-        self, start: int, end: int, breaks: _Breaks, conditions: list[str], output: list[bytes]
-    ) -> Stop | None:
+    def _up(self, start: int, end: int, breaks: _Breaks, conditions: list[str], output: list[bytes]) -> Stop | None:
         """The stop behind a step and up to another; None where there is none."""
         at, steps = start, _FIRST_STEPS
         while at < end:

@@ -24,8 +24,8 @@ def told(refusal: Refusal, text: Text, origins: Origins) -> str:
         return f"the workbench refuses the text: {refusal.number} {refusal.name}"
     line = text.lines[refusal.line - 1]
     origin = None if line.address is None else origins.at(line.address)
-    return (f"the workbench refuses line {refusal.line}{f' (from {origin})' if origin else ''} by {refusal.number} {refusal.name}: "
-            f"{line.text.strip()}")
+    place = f"line {refusal.line}{f' (from {origin})' if origin else ''}"
+    return f"the workbench refuses {place} by {refusal.number} {refusal.name}: {line.text.strip()}"
 
 
 def compare(program: Program, text: Text, listing: list[Placed], origins: Origins) -> None:
@@ -33,7 +33,7 @@ def compare(program: Program, text: Text, listing: list[Placed], origins: Origin
     placed = bytearray()
     for line in listing:
         placed += bytes(max(0, line.address + len(line.data) - len(placed)))
-        placed[line.address:line.address + len(line.data)] = line.data
+        placed[line.address : line.address + len(line.data)] = line.data
     wanted = bytearray(program.image())
     size = max(len(placed), len(wanted))
     placed, wanted = placed.ljust(size, b"\0"), wanted.ljust(size, b"\0")
@@ -45,5 +45,7 @@ def compare(program: Program, text: Text, listing: list[Placed], origins: Origin
     number = next((it for it, line in enumerate(listing) if line.address <= at < line.address + len(line.data)), None)
     where = "" if number is None else f", by line {number + 1}: {text.lines[number].text.strip()}"
     origin = origins.at(at)
-    raise Problem(f"the workbench's image differs first at {at:08X}{f' (from {origin})' if origin else ''}, "
-                  f"{placed[at]:02X} for {wanted[at]:02X}{where}")
+    raise Problem(
+        f"the workbench's image differs first at {at:08X}{f' (from {origin})' if origin else ''}, "
+        f"{placed[at]:02X} for {wanted[at]:02X}{where}"
+    )

@@ -29,7 +29,8 @@ def main(words: Sequence[str]) -> int:
         parser.error("--import names no file")
     name = Path(chosen.files[0]).name
     try:
-        settings = Settings(chosen.base, frozenset(it for it in chosen.only.split(",") if it), tuple(map(Path, chosen.sources)))
+        only = frozenset(it for it in chosen.only.split(",") if it)
+        settings = Settings(chosen.base, only, tuple(map(Path, chosen.sources)))
         imported = import_file([Path(it) for it in chosen.files], settings)
         for note in imported.notes:
             _say(name, note)
@@ -128,19 +129,64 @@ class _Parser(argparse.ArgumentParser):
 
 
 def _parser() -> argparse.ArgumentParser:
-    words = _Parser(prog="sparc8", description="Imports a real program as a source text for the workbench.", allow_abbrev=False)
-    words.add_argument("--import", dest="files", nargs="*", default=[], metavar="FILE", help="a linked 32-bit SPARC ELF file, a raw image, "
-                       "or sources (.c, .S, .s), which are built by cross tools (CROSS= chooses them, CFLAGS= the flags)")
-    words.add_argument("-o", dest="output", metavar="OUT", help="write the text here; without it, and with nothing to ask, it is printed")
-    words.add_argument("--script", metavar="COMMANDS", help="write a script that enters the text and gives these commands, separated by `;`")
-    words.add_argument("--base", type=_whole, default=0, metavar="ADDRESS", help="where a raw image lies (0)")
-    words.add_argument("--only", default="", metavar="NAMES", help="write these functions as instructions, and other code as data")
-    words.add_argument("--sources", action="append", default=[], metavar="FOLDER", help="look for the files of origin here first")
-    words.add_argument("--check", action="store_true", help="have the program assemble the text, and compare the whole image with the file")
-    words.add_argument("--run", action="store_true", help="run it, and print what it puts out at the console")
-    words.add_argument("--steps", type=_steps, default=MOST_STEPS, metavar="N", help=f"the most steps of --run ({MOST_STEPS})")
-    words.add_argument("--windows", type=int, choices=(2, 4, 8, 16, 32), metavar="N", help="register windows: 2, 4, 8, 16 or 32 (8)")
-    words.add_argument("--addr2line", nargs="+", type=_place, default=[], metavar="STEP", help="tell where the program is at a step, "
-                       "or what lies at an address (0x..)")
+    about = "Imports a real program as a source text for the workbench."
+    words = _Parser(prog="sparc8", description=about, allow_abbrev=False)
+    _add_importing(words)
+    _add_asking(words)
     words.set_defaults(program=os.environ.get("SPARC8") or str(places.command()))
     return words
+
+
+def _add_importing(words: argparse.ArgumentParser) -> None:
+    """Adds what says what is imported, and how it is written."""
+    words.add_argument(
+        "--import",
+        dest="files",
+        nargs="*",
+        default=[],
+        metavar="FILE",
+        help="a linked 32-bit SPARC ELF file, a raw image, "
+        "or sources (.c, .S, .s), which are built by cross tools (CROSS= chooses them, CFLAGS= the flags)",
+    )
+    words.add_argument(
+        "-o",
+        dest="output",
+        metavar="OUT",
+        help="write the text here; without it, and with nothing to ask, it is printed",
+    )
+    words.add_argument(
+        "--script",
+        metavar="COMMANDS",
+        help="write a script that enters the text and gives these commands, separated by `;`",
+    )
+    words.add_argument("--base", type=_whole, default=0, metavar="ADDRESS", help="where a raw image lies (0)")
+    words.add_argument(
+        "--only", default="", metavar="NAMES", help="write these functions as instructions, and other code as data"
+    )
+    words.add_argument(
+        "--sources", action="append", default=[], metavar="FOLDER", help="look for the files of origin here first"
+    )
+
+
+def _add_asking(words: argparse.ArgumentParser) -> None:
+    """Adds what is asked of an import."""
+    words.add_argument(
+        "--check",
+        action="store_true",
+        help="have the program assemble the text, and compare the whole image with the file",
+    )
+    words.add_argument("--run", action="store_true", help="run it, and print what it puts out at the console")
+    words.add_argument(
+        "--steps", type=_steps, default=MOST_STEPS, metavar="N", help=f"the most steps of --run ({MOST_STEPS})"
+    )
+    words.add_argument(
+        "--windows", type=int, choices=(2, 4, 8, 16, 32), metavar="N", help="register windows: 2, 4, 8, 16 or 32 (8)"
+    )
+    words.add_argument(
+        "--addr2line",
+        nargs="+",
+        type=_place,
+        default=[],
+        metavar="STEP",
+        help="tell where the program is at a step, or what lies at an address (0x..)",
+    )

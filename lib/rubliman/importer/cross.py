@@ -16,14 +16,33 @@ from .problem import Problem
 
 RUNTIME = Path(__file__).resolve().parent.parent / "runtime"
 SOURCES = (".c", ".S", ".s")
-PREFIXES = ("sparc64-linux-gnu-", "sparc-linux-gnu-", "sparc-elf-", "sparc-none-elf-", "sparc-unknown-elf-", "sparc-gaisler-elf-",
-            "sparc-leon-elf-", "sparc-rtems6-", "sparc-rtems5-", "sparc-buildroot-linux-uclibc-", "sparc-unknown-linux-gnu-")
+PREFIXES = (
+    "sparc64-linux-gnu-",
+    "sparc-linux-gnu-",
+    "sparc-elf-",
+    "sparc-none-elf-",
+    "sparc-unknown-elf-",
+    "sparc-gaisler-elf-",
+    "sparc-leon-elf-",
+    "sparc-rtems6-",
+    "sparc-rtems5-",
+    "sparc-buildroot-linux-uclibc-",
+    "sparc-unknown-linux-gnu-",
+)
 
 _PLAIN_FLAGS = "-O2 -g"
 _MACHINE = ["-m32", "-mcpu=v8", "-mno-fpu"]
 _FIXED = ["-fno-pic", "-fno-pie"]
 """These stand behind the user's flags: addresses of a program that is linked once have to stand in its code."""
-_ALONE = ["-ffreestanding", "-fno-stack-protector", "-fno-asynchronous-unwind-tables", "-nostdinc", "-isystem", str(RUNTIME / "include")]
+_ALONE = [
+    "-ffreestanding",
+    "-fno-stack-protector",
+    "-fno-asynchronous-unwind-tables",
+    "-nostdinc",
+    "-isystem",
+    str(RUNTIME / "include"),
+]
+_SUPPORT_FLAGS = ["-ffunction-sections", "-fno-tree-loop-distribute-patterns"]
 _FLOATING = re.compile(r"undefined reference to `(__\w+[sdt]f[23]?|__(fix|float)\w+|_Q_\w+)'")
 _SCRIPT, _START, _SUPPORT = RUNTIME / "sparc8.ld", RUNTIME / "crt0.S", RUNTIME / "support.c"
 
@@ -42,13 +61,24 @@ class CrossTools:
             if all(shutil.which(prefix + it, path=environment.get("PATH")) for it in ("gcc", "ld")):
                 return CrossTools(prefix)
         if chosen:
-            raise Problem(f"CROSS={chosen} names no cross tools ({chosen}gcc and {chosen}ld are wanted): give the part before gcc")
-        raise Problem("no cross tools for SPARC are found: install gcc-sparc64-linux-gnu, or name others by CROSS=, the part before gcc")
+            raise Problem(
+                f"CROSS={chosen} names no cross tools ({chosen}gcc and {chosen}ld are wanted): give the part before gcc"
+            )
+        raise Problem(
+            "no cross tools for SPARC are found: install gcc-sparc64-linux-gnu, or name others by CROSS=, "
+            "the part before gcc"
+        )
 
     def run(self, tool: str, words: Sequence[str | Path], failing: str) -> str:
         """Runs a tool. Where it fails, that is told with its first complaint."""
-        done = subprocess.run([self.prefix + tool, *words], capture_output=True, text=True, errors="replace", check=False,
-                              env={**os.environ, "LC_ALL": "C"})
+        done = subprocess.run(
+            [self.prefix + tool, *words],
+            capture_output=True,
+            text=True,
+            errors="replace",
+            check=False,
+            env={**os.environ, "LC_ALL": "C"},
+        )
         if done.returncode:
             raise Problem(f"{failing}: {_complaint(done.stderr)}")
         return done.stdout
@@ -85,7 +115,7 @@ class Builder:
         defined = set().union(*map(_defined, objects))
         if "main" in defined and "_start" not in defined:
             objects.insert(0, self._compile(_START, folder / "start.o"))
-            objects.append(self._compile(_SUPPORT, folder / "support.o", ["-ffunction-sections", "-fno-tree-loop-distribute-patterns"]))
+            objects.append(self._compile(_SUPPORT, folder / "support.o", _SUPPORT_FLAGS))
             defined.add("_start")
         return self._link(objects, "_start" if "_start" in defined else "0", folder / "linked", sources[0].name)
 
@@ -96,8 +126,8 @@ class Builder:
         return to
 
     def _link(self, objects: Sequence[Path], entry: str, to: Path, name: str) -> Path:
-        words = ["-m", "elf32_sparc", "-static", "--gc-sections", *(["-q"] if self.keeps_relocations else []),
-                 "-T", _SCRIPT, "-e", entry, "-o", to, *objects, *self.tools.library()]
+        flags = ["-m", "elf32_sparc", "-static", "--gc-sections", *(["-q"] if self.keeps_relocations else [])]
+        words = [*flags, "-T", _SCRIPT, "-e", entry, "-o", to, *objects, *self.tools.library()]
         self.tools.run("ld", words, f"{name} cannot be linked")
         return to
 
@@ -106,7 +136,11 @@ def _defined(file: Path) -> set[str]:
     """The global names that an object file defines."""
     with file.open("rb") as data:
         table = ELFFile(data).get_section_by_name(".symtab")
-        return {it.name for it in table.iter_symbols() if it["st_info"]["bind"] == "STB_GLOBAL" and it["st_shndx"] != "SHN_UNDEF"}
+        return {
+            it.name
+            for it in table.iter_symbols()
+            if it["st_info"]["bind"] == "STB_GLOBAL" and it["st_shndx"] != "SHN_UNDEF"
+        }
 
 
 def _complaint(errors: str) -> str:
@@ -114,4 +148,6 @@ def _complaint(errors: str) -> str:
     lines = [it.strip() for it in errors.splitlines() if it.strip()]
     wanted = ("undefined reference", "overflowed", "will not fit", "error:", "Error:")
     said = next((it for word in wanted for it in lines if word in it), lines[0] if lines else "it fails without a word")
-    return f"{said} (floating point in C needs GCC's own library for 32 bits, which these tools lack)" if _FLOATING.search(said) else said
+    if not _FLOATING.search(said):
+        return said
+    return f"{said} (floating point in C needs GCC's own library for 32 bits, which these tools lack)"

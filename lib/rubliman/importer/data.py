@@ -12,7 +12,7 @@ _ESCAPES = {ord("\n"): "\\n", ord("\t"): "\\t", 0: "\\0", ord("\\"): "\\\\", ord
 
 
 def data_statements(data: bytes, at: int) -> Iterator[tuple[int, str]]:
-    """Statements that place these bytes from an address on, each with how many: strings, words where they are aligned, bytes else."""
+    """Statements that place these bytes from an address on, each with how many: strings, aligned words, bytes else."""
     here = 0
     while here < len(data):
         special = _SPECIAL.search(data, here)
@@ -50,10 +50,10 @@ def _numbers(data: bytes, at: int) -> Iterator[tuple[int, str]]:
     if before:
         yield before, _bytes(data[:before])
     for start in range(before, len(data) - behind, 4 * _WORDS_OF_LINE):
-        piece = data[start:min(start + 4 * _WORDS_OF_LINE, len(data) - behind)]
-        yield len(piece), words_statement([int.from_bytes(piece[it:it + 4], "big") for it in range(0, len(piece), 4)])
+        piece = data[start : min(start + 4 * _WORDS_OF_LINE, len(data) - behind)]
+        yield len(piece), words_statement([int.from_bytes(piece[it : it + 4], "big") for it in range(0, len(piece), 4)])
     if behind:
-        yield behind, _bytes(data[len(data) - behind:])
+        yield behind, _bytes(data[len(data) - behind :])
 
 
 def _bytes(data: bytes) -> str:

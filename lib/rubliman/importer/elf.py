@@ -19,6 +19,18 @@ _UNDEFINED, _FIRST_RESERVED = 0, 0xFF00
 _SECTION_SYMBOL, _FILE_SYMBOL = 3, 4
 _KINDS = {2: SymbolKind.FUNCTION, 1: SymbolKind.OBJECT}
 _NO_RELOCATION = 0
+# What pyelftools raises at a damaged file.
+_DAMAGE = (
+    ELFError,
+    ConstructError,
+    struct.error,
+    IndexError,
+    ValueError,
+    KeyError,
+    AttributeError,
+    TypeError,
+    OverflowError,
+)
 
 
 def read_elf(data: bytes) -> tuple[Program, ELFFile]:
@@ -29,8 +41,9 @@ def read_elf(data: bytes) -> tuple[Program, ELFFile]:
         notes = _notes(elf)
         sections = [part for segment in _loaded(elf) for part in _parts(elf, segment, notes)]
         relocations = {it.place: it for it in _relocations(elf)}
-        program = Program(sections, elf["e_entry"], list(_symbols(elf)), relocations, any(_tables(elf, "SHT_RELA")), notes)
-    except (ELFError, ConstructError, struct.error, IndexError, ValueError, KeyError, AttributeError, TypeError, OverflowError) as problem:
+        keeps_relocations = any(_tables(elf, "SHT_RELA"))
+        program = Program(sections, elf["e_entry"], list(_symbols(elf)), relocations, keeps_relocations, notes)
+    except _DAMAGE as problem:
         said = " ".join(str(problem).split())
         raise Problem(f"a damaged ELF file ({said or type(problem).__name__}): link it anew") from problem
     return program, elf
@@ -40,8 +53,10 @@ def _refuse_others(elf: ELFFile) -> None:
     """Says of a file of another kind what to do in its place."""
     if elf.elfclass != 32 or elf.little_endian:
         order = "little" if elf.little_endian else "big"
-        raise Problem(f"a {elf.elfclass}-bit {order}-endian file: the machine is 32-bit and big-endian, "
-                      "so build it by gcc -m32 and ld -m elf32_sparc")
+        raise Problem(
+            f"a {elf.elfclass}-bit {order}-endian file: the machine is 32-bit and big-endian, "
+            "so build it by gcc -m32 and ld -m elf32_sparc"
+        )
     if elf["e_machine"] not in ("EM_SPARC", "EM_SPARC32PLUS"):
         raise Problem(f"a file for {elf['e_machine']}: build it for SPARC V8 (gcc -m32 -mcpu=v8)")
     kind = elf["e_type"]
@@ -60,26 +75,37 @@ def _notes(elf: ELFFile) -> list[str]:
 
 
 def _loaded(elf: ELFFile) -> Iterator:
-    """The segments that are loaded. Names stand for the addresses at which code runs, so these must be those of its bytes."""
+    """The segments that are loaded. Names are those of addresses at which code runs: its bytes must be there too."""
     for segment in elf.iter_segments():
         if segment["p_type"] == "PT_LOAD" and segment["p_memsz"]:
             if segment["p_paddr"] != segment["p_vaddr"]:
-                raise Problem(f"what runs at {segment['p_vaddr']:08X} is loaded at {segment['p_paddr']:08X}: "
-                              "import it as a raw image (objcopy -O binary, then --base)")
+                raise Problem(
+                    f"what runs at {segment['p_vaddr']:08X} is loaded at {segment['p_paddr']:08X}: "
+                    "import it as a raw image (objcopy -O binary, then --base)"
+                )
             yield segment
+
+
+def _has_bytes(section) -> bool:
+    """Whether a section takes part of the memory; that of a thread is none of it."""
+    flags = section["sh_flags"]
+    return bool(flags & SH_FLAGS.SHF_ALLOC and section["sh_size"] and not flags & SH_FLAGS.SHF_TLS)
+
+
+def _end(section) -> int:
+    return section["sh_addr"] + section["sh_size"]
 
 
 def _parts(elf: ELFFile, segment, notes: list[str]) -> Iterator[Section]:
     """The sections of a segment, and what lies between them where it is not 0."""
     start, end = segment["p_vaddr"], segment["p_vaddr"] + segment["p_memsz"]
-    inside = [it for it in elf.iter_sections() if it["sh_flags"] & SH_FLAGS.SHF_ALLOC and it["sh_size"]
-              and start <= it["sh_addr"] and it["sh_addr"] + it["sh_size"] <= end and not it["sh_flags"] & SH_FLAGS.SHF_TLS]
+    inside = [it for it in elf.iter_sections() if _has_bytes(it) and start <= it["sh_addr"] and _end(it) <= end]
     content, here = segment.data(), start
     if len(content) != segment["p_filesz"]:
         raise ValueError("what is loaded is cut off")
     for section in sorted(inside, key=lambda it: it["sh_addr"]):
         at, size = section["sh_addr"], section["sh_size"]
-        gap = content[here - start:at - start] if here < at else b""
+        gap = content[here - start : at - start] if here < at else b""
         if any(gap):
             if segment["p_offset"] == 0 and here == start:
                 notes.append(f"the headers of the file, which ld puts at {start:08X}, are left out")
@@ -88,15 +114,16 @@ def _parts(elf: ELFFile, segment, notes: list[str]) -> Iterator[Section]:
         data = b"" if section["sh_type"] == "SHT_NOBITS" else section.data()
         if section["sh_type"] != "SHT_NOBITS" and len(data) != size:
             raise ValueError(f"{section.name} is cut off")
-        yield Section(section.name, at, data, size, bool(section["sh_flags"] & SH_FLAGS.SHF_EXECINSTR), max(1, section["sh_addralign"]))
+        is_code = bool(section["sh_flags"] & SH_FLAGS.SHF_EXECINSTR)
+        yield Section(section.name, at, data, size, is_code, max(1, section["sh_addralign"]))
         here = at + size
-    rest = content[here - start:] if here - start < len(content) else b""
+    rest = content[here - start :] if here - start < len(content) else b""
     if not inside or any(rest):
         yield Section("", here, rest, end - here, bool(segment["p_flags"] & P_FLAGS.PF_X), 4)
 
 
 def _text(strings: bytes, at: int) -> str:
-    return strings[at:strings.index(0, at)].decode("latin-1")
+    return strings[at : strings.index(0, at)].decode("latin-1")
 
 
 def _tables(elf: ELFFile, kind: str) -> Iterator:
@@ -109,7 +136,8 @@ def _symbols(elf: ELFFile) -> Iterator[Symbol]:
         strings = elf.get_section(table["sh_link"]).data()
         for name, value, size, info, _, section in struct.iter_unpack(">IIIBBH", table.data()):
             kind = info & 15
-            if kind not in (_SECTION_SYMBOL, _FILE_SYMBOL) and _UNDEFINED < section < _FIRST_RESERVED and _text(strings, name):
+            is_defined = _UNDEFINED < section < _FIRST_RESERVED
+            if kind not in (_SECTION_SYMBOL, _FILE_SYMBOL) and is_defined and _text(strings, name):
                 yield Symbol(_text(strings, name), value, size, _KINDS.get(kind, SymbolKind.OTHER))
 
 

@@ -1,4 +1,4 @@
-"""Decides how each word of a program is written: which addresses have names, and which words of code stand as instructions."""
+"""Decides how each word of a program is written: which addresses have names, and which words are instructions."""
 from __future__ import annotations
 
 import struct
@@ -17,8 +17,8 @@ _LARGEST_13 = 0xFFF
 
 @dataclass(frozen=True)
 class Manner:
-    """How code is written: every word as an instruction, or (`dense`) words of data but for those that need a name and for the
-    functions of `chosen`. Where not `named`, a dense word never has a name."""
+    """How code is written: every word as an instruction, or (`dense`) words of data but for those that need a name and
+    for the functions of `chosen`. Where not `named`, a dense word never has a name."""
 
     dense: bool = False
     chosen: frozenset[str] = frozenset()
@@ -29,7 +29,9 @@ class _Functions:
     """The functions of the program, to tell in which one an address lies."""
 
     def __init__(self, program: Program) -> None:
-        self._functions = sorted((it for it in program.symbols if it.kind is SymbolKind.FUNCTION), key=lambda it: it.address)
+        self._functions = sorted(
+            (it for it in program.symbols if it.kind is SymbolKind.FUNCTION), key=lambda it: it.address
+        )
         self._starts = [it.address for it in self._functions]
 
     def at(self, address: int) -> int:
@@ -42,7 +44,8 @@ class _Functions:
 
 
 class Forms:
-    """The forms of the words of a program. Where `can_move`, each address has a name as far as that can be, so that lines may be put in."""
+    """The forms of the words of a program. Where `can_move`, each address has a name as far as that can be, so that
+    lines may be put in."""
 
     def __init__(self, program: Program, manner: Manner) -> None:
         self.names = Names(program)
@@ -85,11 +88,15 @@ class Forms:
             return False
         if at in self._expressions or at in self._targets or instructions.is_call(word):
             return True
-        return instructions.is_branch(word) and self._functions.at(instructions.target_of(word, at)) != self._functions.at(at)
+        if not instructions.is_branch(word):
+            return False
+        return self._functions.at(instructions.target_of(word, at)) != self._functions.at(at)
 
     def numbers(self) -> list[int]:
         """The places of addresses that stand as numbers although their relocations are known."""
-        return sorted(it for it in self._program.relocations if it not in self._expressions and it not in self._targets) if self.can_move else []
+        if not self.can_move:
+            return []
+        return sorted(self._program.relocations.keys() - self._expressions.keys() - self._targets)
 
     def _name_relocations(self, section: Section) -> None:
         """Gives names to the addresses in a section; a call or a branch names its target by itself."""
@@ -98,7 +105,8 @@ class Forms:
                 if relocation.kind in _TARGETS:
                     self._targets.add(place)
                 elif section.is_code or relocation.kind in _WORDS:
-                    self._name(relocation, int.from_bytes(section.data[place - section.address:place - section.address + 4], "big"))
+                    begin = place - section.address
+                    self._name(relocation, int.from_bytes(section.data[begin : begin + 4], "big"))
 
     def _name(self, relocation: Relocation, word: int) -> None:
         """Gives a name to an address, if the word has just that address."""
@@ -146,4 +154,4 @@ def _form(relocation: Relocation) -> _Form | None:
 def words_of(section: Section) -> Sequence[int]:
     """The whole words of a section."""
     count = len(section.data) // 4
-    return struct.unpack(f">{count}I", section.data[:4 * count])
+    return struct.unpack(f">{count}I", section.data[: 4 * count])

@@ -60,7 +60,11 @@ class Imported:
 
     def place(self, address: int) -> str:
         """An address as a user knows it: the symbol, what is added to it, and the line of origin."""
-        below = max((it for it in self.program.symbols if it.address <= address), key=lambda it: (it.address, -it.kind.value), default=None)
+        below = max(
+            (it for it in self.program.symbols if it.address <= address),
+            key=lambda it: (it.address, -it.kind.value),
+            default=None,
+        )
         known = below is not None and self.program.holds(address)
         symbol = f"{below.name}{f'+{address - below.address:#x}' if address > below.address else ''}" if known else "?"
         origin = self.origins.at(address)
@@ -69,12 +73,15 @@ class Imported:
 
 
 def import_file(paths: Sequence[Path], settings: Settings = Settings()) -> Imported:
-    """Imports a linked ELF file, a raw image, or sources, of which there may be several. What can't be had is a `Problem`."""
+    """Imports a linked ELF file, a raw image, or sources, which may be several. What can't be had is a `Problem`."""
     paths = [Path(it) for it in paths]
     sources = [it for it in paths if it.suffix in SOURCES]
     if not sources:
         if len(paths) > 1:
-            raise Problem(f"{paths[1]} is one file too many: only sources ({', '.join(SOURCES)}) may be several, and are linked together")
+            raise Problem(
+                f"{paths[1]} is one file too many: only sources ({', '.join(SOURCES)}) may be several, "
+                "and are linked together"
+            )
         return _import_data(paths[0].name, _read(paths[0]), settings)
     if len(sources) < len(paths):
         other = next(it for it in paths if it not in sources)
@@ -104,7 +111,7 @@ def _import_data(name: str, data: bytes, settings: Settings) -> Imported:
 
 @dataclass(frozen=True)
 class _Attempt:
-    """A way to write the text, with lines of origin or without, and what is told where an earlier one had too many lines."""
+    """A way to write the text, with lines of origin or without; and what is told where an earlier one was too long."""
 
     manner: Manner
     has_remarks: bool
@@ -126,8 +133,10 @@ def _fitting(program: Program, origins: Origins, settings: Settings, notes: list
     """The first text that has no more lines than the workbench takes."""
     unknown = sorted(settings.only - {it.name for it in program.symbols})
     if unknown:
-        raise Problem(f"it has no function {unknown[0]}, which --only chooses: the compiler may have put it into another, "
-                      "so see the names in the text")
+        raise Problem(
+            f"it has no function {unknown[0]}, which --only chooses: the compiler may have put it into another, "
+            "so see the names in the text"
+        )
     remarks, lines = origins.remarks(), 0
     for attempt in _attempts(settings.only, bool(remarks)):
         if lines:
@@ -136,7 +145,9 @@ def _fitting(program: Program, origins: Origins, settings: Settings, notes: list
         lines = len(text.lines)
         if lines <= MOST_LINES:
             return text
-    raise Problem(f"{lines:,} lines even with its code as data, and {MOST_LINES:,} are the most: import a smaller program")
+    raise Problem(
+        f"{lines:,} lines even with its code as data, and {MOST_LINES:,} are the most: import a smaller program"
+    )
 
 
 def _notes(program: Program, text: Text) -> Iterator[str]:
@@ -144,13 +155,18 @@ def _notes(program: Program, text: Text) -> Iterator[str]:
     if program.needs_start:
         yield f"the machine starts at 0, and the entry is {program.entry:08X}: a branch to it is put at 0"
     elif program.entry:
-        yield f"its entry is {program.entry:08X}, but the machine starts at 0, where other code lies: that is taken for the reset code"
+        yield (
+            f"its entry is {program.entry:08X}, but the machine starts at 0, where other code lies: "
+            "that is taken for the reset code"
+        )
     if not text.can_move:
         way = "" if program.keeps_relocations else " (link with -q for names)"
         yield f"addresses stand as numbers: lines may be replaced, but put none in{way}"
     elif text.numbers:
-        yield (f"addresses that stand as numbers: {len(text.numbers):,}, the first at {text.numbers[0]:08X}; "
-               "lines may be replaced, but put none in before what they name")
+        yield (
+            f"addresses that stand as numbers: {len(text.numbers):,}, the first at {text.numbers[0]:08X}; "
+            "lines may be replaced, but put none in before what they name"
+        )
     for name in text.fixed:
         yield f"{name} stands at a fixed address (.org): lines that are put in before it need room there"
     for why, count in sorted(text.formless.items()):

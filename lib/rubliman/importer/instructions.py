@@ -1,7 +1,7 @@
 """The text of each instruction in the assembler's own language.
 
-The tables only say how the program spells what it knows. That a text means its word is shown by the program itself, which
-assembles it (`check`); a word that has no text here is data.
+The tables only say how the program spells what it knows. That a text means its word is shown by the program itself,
+which assembles it (`check`); a word that has no text here is data.
 """
 from __future__ import annotations
 
@@ -12,10 +12,33 @@ from .registers import REGISTERS, SPECIAL
 
 CONDITIONS = "n e le l leu cs neg vs a ne g ge gu cc pos vc".split()
 
-_PLAIN = {0x00: "add", 0x01: "and", 0x02: "or", 0x03: "xor", 0x04: "sub", 0x05: "andn", 0x06: "orn", 0x07: "xnor", 0x08: "addx",
-          0x0A: "umul", 0x0B: "smul", 0x0C: "subx", 0x0E: "udiv", 0x0F: "sdiv"}
-ARITHMETIC = {**_PLAIN, **{code + 0x10: f"{name}cc" for code, name in _PLAIN.items()},
-              0x20: "taddcc", 0x21: "tsubcc", 0x22: "taddcctv", 0x23: "tsubcctv", 0x24: "mulscc", 0x3C: "save", 0x3D: "restore"}
+_PLAIN = {
+    0x00: "add",
+    0x01: "and",
+    0x02: "or",
+    0x03: "xor",
+    0x04: "sub",
+    0x05: "andn",
+    0x06: "orn",
+    0x07: "xnor",
+    0x08: "addx",
+    0x0A: "umul",
+    0x0B: "smul",
+    0x0C: "subx",
+    0x0E: "udiv",
+    0x0F: "sdiv",
+}
+ARITHMETIC = {
+    **_PLAIN,
+    **{code + 0x10: f"{name}cc" for code, name in _PLAIN.items()},
+    0x20: "taddcc",
+    0x21: "tsubcc",
+    0x22: "taddcctv",
+    0x23: "tsubcctv",
+    0x24: "mulscc",
+    0x3C: "save",
+    0x3D: "restore",
+}
 SHIFTS = {0x25: "sll", 0x26: "srl", 0x27: "sra"}
 LOADS = {0x00: "ld", 0x01: "ldub", 0x02: "lduh", 0x03: "ldd", 0x09: "ldsb", 0x0A: "ldsh", 0x0D: "ldstub", 0x0F: "swap"}
 STORES = {0x04: "st", 0x05: "stb", 0x06: "sth", 0x07: "std"}
@@ -45,7 +68,8 @@ def target_of(word: int, at: int) -> int:
 def statement(word: int, at: int, name: Callable[[int], str], immediate: str | None = None) -> str | None:
     """The statement of a word at an address, or None where it has none.
 
-    `name` writes an address. `immediate` is written in the place of the number of the word, where a relocation gives it a name.
+    `name` writes an address. `immediate` is written in the place of the number of the word, where a relocation gives it
+    a name.
     """
     if is_call(word):
         return f"call {name(target_of(word, at))}"
@@ -107,7 +131,7 @@ def _second(word: int, immediate: str | None) -> str:
 
 
 def _address(word: int, immediate: str | None) -> str:
-    """An address of a register and what is added to it. A lone register adds register 0, a lone number is added to it."""
+    """An address of a register and what is added to it; register 0 where one of them stands alone."""
     first = REGISTERS[word >> 14 & 31]
     if not word >> 13 & 1:
         return first if not word & 31 else f"{first}+{REGISTERS[word & 31]}"
@@ -128,7 +152,9 @@ def _of_memory(word: int, immediate: str | None) -> str | None:
         suffix, place = "a", f"[{_address(word, None)}]{word >> 5 & 0xFF}"
     else:
         return None
-    return f"{STORES[code]}{suffix} {register}, {place}" if code in STORES else f"{LOADS[code]}{suffix} {place}, {register}"
+    if code in STORES:
+        return f"{STORES[code]}{suffix} {register}, {place}"
+    return f"{LOADS[code]}{suffix} {place}, {register}"
 
 
 def _of_operation(word: int, immediate: str | None) -> str | None:

@@ -28,8 +28,10 @@ class Names:
         self._labels: dict[int, list[str]] = defaultdict(list)
         for symbol in sorted(program.symbols, key=lambda it: (it.address, it.kind.value, it.name)):
             self._add(symbol)
-        self._objects = sorted((it for it in program.symbols if it.size and self._section(it.address) and not self._in_code(it.address)),
-                               key=lambda it: it.address)
+        self._objects = sorted(
+            (it for it in program.symbols if it.size and self._section(it.address) and not self._in_code(it.address)),
+            key=lambda it: it.address,
+        )
         self._starts = [it.address for it in self._objects]
 
     def labels(self, address: int) -> list[str]:
@@ -57,7 +59,8 @@ class Names:
     def of(self, relocation: Relocation) -> str | None:
         """How the address of a relocation is written, or None where no name stands for it.
 
-        It is its symbol, and what is added in data. In code a label at the very place is better: lines may be put in between.
+        It is its symbol, and what is added in data. In code a label at the very place is better: lines may be put in
+        between.
         """
         base, target = self._of_symbol.get((relocation.symbol or "", relocation.base)), relocation.target
         if base is not None and (not relocation.addend or not self._in_code(target)):

@@ -14,6 +14,19 @@ from elftools.elf.elffile import ELFFile
 
 from .program import Program
 
+# What pyelftools raises at line information that is damaged, or of a kind that it does not know.
+_DAMAGE = (
+    DWARFError,
+    ELFError,
+    ConstructError,
+    KeyError,
+    IndexError,
+    AttributeError,
+    TypeError,
+    ValueError,
+    NotImplementedError,
+)
+
 
 @dataclass(frozen=True)
 class Origin:
@@ -49,7 +62,9 @@ class Origins:
         """The line itself, in printing characters and single spaces; empty where the file is not found."""
         lines = self._lines(origin.path)
         found = " ".join(lines[origin.line - 1].split()) if origin.line <= len(lines) else ""
-        return found if found.isascii() and found.isprintable() else "".join(it if " " <= it <= "~" else "?" for it in found)
+        if found.isascii() and found.isprintable():
+            return found
+        return "".join(it if " " <= it <= "~" else "?" for it in found)
 
     def remarks(self) -> dict[int, list[str]]:
         """Remarks for the source text, by the address before which each stands."""
@@ -74,13 +89,14 @@ def read_origins(elf: ELFFile, program: Program, folders: Sequence[Path]) -> tup
         return Origins(), None
     try:
         return Origins([row for rows in _placed(list(_sequences(elf)), program) for row in rows], folders), None
-    except (DWARFError, ELFError, ConstructError, KeyError, IndexError, AttributeError, TypeError, ValueError, NotImplementedError) as problem:
-        said = " ".join(str(problem).split())
-        return Origins(), f"its line information cannot be read ({said or type(problem).__name__}): build it with -gdwarf-4 for lines of origin"
+    except _DAMAGE as problem:
+        why = " ".join(str(problem).split()) or type(problem).__name__
+        return Origins(), f"its line information cannot be read ({why}): build it with -gdwarf-4 for lines of origin"
 
 
 def _placed(sequences: Sequence[Sequence[Row]], program: Program) -> Iterator[Sequence[Row]]:
-    """The sequences of code that is in the program. The linker puts those of code that it left out at 0: of those there the longest is kept."""
+    """The sequences of code that is in the program. The linker puts those of code that it left out at 0: of those there
+    the longest is kept."""
     at_zero = max((it for it in sequences if it[0][0] == 0), key=lambda it: it[-1][0], default=None)
     return (it for it in sequences if program.holds(it[0][0]) and (it[0][0] or it is at_zero))
 
@@ -113,5 +129,8 @@ def _files(header, directory: str) -> list[str]:
     directories = [it.decode("latin-1") for it in header.include_directory]
     if header.version < 5:
         directories.insert(0, directory)
-    return [str(Path(directory, directories[it.dir_index] if it.dir_index < len(directories) else "", it.name.decode("latin-1")))
-            for it in header.file_entry]
+
+    def folder(index: int) -> str:
+        return directories[index] if index < len(directories) else ""
+
+    return [str(Path(directory, folder(it.dir_index), it.name.decode("latin-1"))) for it in header.file_entry]

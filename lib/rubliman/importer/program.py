@@ -96,11 +96,15 @@ class Program:
             raise Problem("nothing is loaded by it: link it with its code in sections that are loaded")
         for section in self.sections:
             if section.end > RAM_SIZE:
-                raise Problem(f"what is loaded at {section.address:08X} to {section.end - 1:08X} lies outside RAM (00000000 to "
-                              f"{RAM_SIZE - 1:08X}): link it below, with a linker script or -Ttext=0")
+                raise Problem(
+                    f"what is loaded at {section.address:08X} to {section.end - 1:08X} lies outside RAM (00000000 to "
+                    f"{RAM_SIZE - 1:08X}): link it below, with a linker script or -Ttext=0"
+                )
         for low, high in zip(self.sections, self.sections[1:]):
             if low.end > high.address:
-                raise Problem(f"{low.name or 'a part'} and {high.name or 'a part'} overlap at {high.address:08X}: link them apart")
+                raise Problem(
+                    f"{low.name or 'a part'} and {high.name or 'a part'} overlap at {high.address:08X}: link them apart"
+                )
 
     @property
     def needs_start(self) -> bool:
@@ -116,5 +120,5 @@ class Program:
         image = bytearray()
         for section in self.sections:
             image += bytes(max(0, section.data_end - len(image)))
-            image[section.address:section.data_end] = section.data
+            image[section.address : section.data_end] = section.data
         return bytes(image)

@@ -11,5 +11,8 @@ def read_raw(data: bytes, base: int) -> Program:
     if base % 4:
         raise Problem(f"--base {base:#x} is no multiple of 4: instructions stand at such addresses alone")
     if base + len(data) > RAM_SIZE:
-        raise Problem(f"{len(data):,} bytes at {base:#x} do not fit: RAM has {RAM_SIZE:,} bytes from 0, so choose a lower --base or a shorter image")
+        raise Problem(
+            f"{len(data):,} bytes at {base:#x} do not fit: RAM has {RAM_SIZE:,} bytes from 0, "
+            "so choose a lower --base or a shorter image"
+        )
     return Program([Section("", base, data, len(data), True, 4)], base)

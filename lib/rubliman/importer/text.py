@@ -69,7 +69,9 @@ class _Writer:
             self._here = 8
         for section, following in zip(self._program.sections, [*self._program.sections[1:], None]):
             if section.name:
-                self.text.lines.append(Line(f"! section {section.name}, {section.address:08X} to {section.end - 1:08X}"))
+                self.text.lines.append(
+                    Line(f"! section {section.name}, {section.address:08X} to {section.end - 1:08X}")
+                )
             self._move(section)
             if section.is_code and section.address % 4 == 0:
                 _CodeWriter(self, section).write()
@@ -89,7 +91,7 @@ class _Writer:
 
     def between(self, start: int, end: int) -> list[int]:
         """The addresses of labels from `start` on, below `end`."""
-        return self._labelled[bisect_left(self._labelled, start):bisect_left(self._labelled, end)]
+        return self._labelled[bisect_left(self._labelled, start) : bisect_left(self._labelled, end)]
 
     def _move(self, section: Section) -> None:
         """On to a section: by `.align` where that leads there, so that it moves with what is put in before it."""
@@ -105,7 +107,7 @@ class _Writer:
         self._here = section.address
 
     def _rest(self, section: Section, following: Section | None) -> None:
-        """What behind the data of a section is 0, with the labels there; those of its end, if no other section begins there."""
+        """What behind the data of a section is 0, with the labels there; those of its end, if no other begins there."""
         for stop in self.between(section.data_end, section.end):
             self._skip_to(stop)
             self.label(stop)
@@ -122,7 +124,8 @@ class _Writer:
 
     def _data(self, section: Section) -> None:
         at, named = section.address, self.forms.named_places(section)
-        for cut in sorted({*self.between(at, section.data_end), *named, *(it + 4 for it in named), section.data_end} - {at}):
+        cuts = {*self.between(at, section.data_end), *named, *(it + 4 for it in named), section.data_end}
+        for cut in sorted(cuts - {at}):
             self.label(at)
             name = self.forms.expression(at)
             if name is not None and cut == at + 4:
@@ -133,7 +136,7 @@ class _Writer:
 
     def bytes(self, section: Section, at: int, end: int) -> None:
         """The bytes up to an address, by their values."""
-        for count, statement in data_statements(section.data[at - section.address:end - section.address], at):
+        for count, statement in data_statements(section.data[at - section.address : end - section.address], at):
             self.put(statement, at)
             at += count
 

@@ -17,7 +17,7 @@ _REFUSED = re.compile(r"refused (\d+) (\w+)(?: line (\d+))?$")
 
 @dataclass
 class Refusal(Exception):
-    """A command that the program refused: the number and the name of why, and the line of the source that is at fault."""
+    """A command that the program refused: the number and the name of why, and the line of the source at fault."""
 
     number: int
     name: str
@@ -51,14 +51,24 @@ class Workbench:
     def __enter__(self) -> Workbench:
         self._complaints = tempfile.TemporaryFile("w+", encoding="latin-1")
         try:
-            self._process = subprocess.Popen(self._command, stdin=subprocess.PIPE, stdout=subprocess.PIPE, stderr=self._complaints,
-                                             encoding="latin-1", bufsize=1 << 16)
+            self._process = subprocess.Popen(
+                self._command,
+                stdin=subprocess.PIPE,
+                stdout=subprocess.PIPE,
+                stderr=self._complaints,
+                encoding="latin-1",
+                bufsize=1 << 16,
+            )
         except OSError as problem:
             self._complaints.close()
-            raise Problem(f"the program {self._command[0]} cannot be run ({problem.strerror}): name another by SPARC8=") from problem
+            raise Problem(
+                f"the program {self._command[0]} cannot be run ({problem.strerror}): name another by SPARC8="
+            ) from problem
         return self
 
-    def __exit__(self, kind: type[BaseException] | None, value: BaseException | None, trace: TracebackType | None) -> None:
+    def __exit__(
+        self, kind: type[BaseException] | None, value: BaseException | None, trace: TracebackType | None
+    ) -> None:
         assert self._process is not None
         self._process.kill()
         self._process.communicate()
@@ -109,4 +119,7 @@ class Workbench:
             answer.append(line)
         self._complaints.seek(0)
         said = self._complaints.read().strip().splitlines()
-        raise Problem(f"the program {self._command[0]} ended without an answer{': ' + said[-1] if said else ''}: see whether it runs by itself")
+        complaint = f": {said[-1]}" if said else ""
+        raise Problem(
+            f"the program {self._command[0]} ended without an answer{complaint}: see whether it runs by itself"
+        )

@@ -119,7 +119,7 @@ class Handler(BaseHTTPRequestHandler):
         return self.rfile.read(int(length))
 
     def _presence(self, session: Session) -> None:
-        """Waits until the page is gone, and ends its run. The run's name, which nobody can guess, is its right to it."""
+        """Waits until the page is gone, and ends its run. The run's name is its right to it: nobody can guess it."""
         key = self.headers.get("Sec-WebSocket-Key")
         if key is None or self.headers.get("Upgrade", "").lower() != "websocket" or session.is_seen:
             raise Denied(HTTPStatus.BAD_REQUEST, "it is for the page alone")

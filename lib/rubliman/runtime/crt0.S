@@ -5,7 +5,7 @@
 #define PSR_ET 0x20             /* traps are on */
 #define PSR_PIL 0xf00           /* the level up to which interrupts wait */
 #define CONSOLE 0x80000008
-#define FRAME 96                /* the least frame: 16 registers, the address of a result, 6 arguments, and up to a multiple of 8 */
+#define FRAME 96                /* the least frame: 16 registers, a result's address, 6 arguments, a multiple of 8 */
 #define STATE 80                /* struct trap of sparc8.h */
 
     .macro trap to
@@ -127,7 +127,8 @@ window_overflow:
     jmp     %l1
      rett   %l2
 
-    ! A restore to the window that is marked: it comes from its stack, and the one behind it is the marked one from now on.
+    ! A restore to the window that is marked: it comes from its stack, and the one behind it is the marked one from now
+    ! on.
 window_underflow:
     rd      %wim, %l3
     sethi   %hi(last_window), %l4

@@ -1,4 +1,5 @@
-/* What C programs call without naming it, or expect to be there: console, memory, 64-bit division, and traps that no handler takes. */
+/* What C programs call without naming it, or expect to be there: console, memory, 64-bit division, and traps that no
+   handler takes. */
 #include <sparc8.h>
 #include <stdarg.h>
 #include <stddef.h>
@@ -168,8 +169,13 @@ long long __ashrdi3(long long value, int count)
     unsigned sign = value < 0 ? ~0u : 0;
     if (!count)
         return value;
-    it.part.low = count < 32 ? it.part.low >> count | it.part.high << (32 - count) : (unsigned)((int)it.part.high >> (count - 32));
-    it.part.high = count < 32 ? (unsigned)((int)it.part.high >> count) : sign;
+    if (count < 32) {
+        it.part.low = it.part.low >> count | it.part.high << (32 - count);
+        it.part.high = (unsigned)((int)it.part.high >> count);
+    } else {
+        it.part.low = (unsigned)((int)it.part.high >> (count - 32));
+        it.part.high = sign;
+    }
     return (long long)it.whole;
 }
 

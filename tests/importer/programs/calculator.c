@@ -45,7 +45,9 @@ static int sum(void)
 
 int main(void)
 {
-    static const char *const lines[] = {"1+2*3", "(1+2)*3", "-7/2", "-7%3", "2*(3+4*(5-6))-(-1)", "100000*30000/7", "((((9))))"};
+    static const char *const lines[] = {
+        "1+2*3", "(1+2)*3", "-7/2", "-7%3", "2*(3+4*(5-6))-(-1)", "100000*30000/7", "((((9))))",
+    };
     for (unsigned i = 0; i < sizeof lines / sizeof *lines; i++) {
         here = lines[i];
         printf("%s = %d\n", lines[i], sum());

@@ -2,7 +2,9 @@
 #include <stdio.h>
 #include <string.h>
 
-static const char text[] = "how much wood would a woodchuck chuck if a woodchuck could chuck wood; aaaaaaaaaaaaaaaaaaaaaaaa, as much wood as a woodchuck would";
+static const char text[] =
+    "how much wood would a woodchuck chuck if a woodchuck could chuck wood; aaaaaaaaaaaaaaaaaaaaaaaa, as much wood as "
+    "a woodchuck would";
 static unsigned char packed[300];
 static char unpacked[300];
 

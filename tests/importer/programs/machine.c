@@ -3,7 +3,9 @@
 
 enum code { PUSH, ADD, SUB, MUL, DUP, SWAP, DROP, OVER, JUMP_IF, PRINT, LESS, HALT };
 
-static const char *const names[] = {"push", "add", "sub", "mul", "dup", "swap", "drop", "over", "jump-if", "print", "less", "halt"};
+static const char *const names[] = {
+    "push", "add", "sub", "mul", "dup", "swap", "drop", "over", "jump-if", "print", "less", "halt",
+};
 
 static const int program[] = {
     PUSH, 1, PUSH, 1,                                  /* product, counter */

@@ -3,6 +3,7 @@
 ghost use Rattle.std.specs.Prelude.{◌≡◌, ◌<◌, length, None, Some, IfErr, OnOk, OnErr};
 ghost use Rattle.sv8_time.specs.Schedule.{with_poke, without_poke, with_poke_byte, without_poke_byte, with_input, without_input, with_request, without_request, set_poke_fault, clear_poke_fault, set_poke_byte_fault, clear_poke_byte_fault, set_input_fault, clear_input_fault, set_request_fault, clear_request_fault};
 ghost use Rattle.sv8_edits.specs.Changes.{input_change, poke_changes, clear_changes, poke_byte_changes, clear_byte_changes, request_changes, clear_request_changes};
+ghost use Rattle.sv8_bench.specs.Alike.{StaysAlike};
 ghost use Rattle.sv8_bench.specs.Faults.{IsTimelineFault};
 ghost use Rattle.sv8_bench.specs.Kept.{with_timeline};
 ghost use Rattle.sv8_bench.specs.Workbench.{IsEdited, IsRefed};
@@ -28,6 +29,7 @@ impl<const NW: usize, const PAGES: usize, const K: u32> Bench<NW, PAGES, K> {
             (poke_changes self.old.kept.windows self.old.kept.pages step address value self.old.kept.timeline)) }
         ensures refused { IfErr result (IsTimelineFault (set_poke_fault step address self.old.kept.timeline)) }
         ensures unchanged { OnErr result (self.new ≡ self.old) }
+        ensures alike { StaysAlike K self.old self.new }
     {
         self.timeline.check_set_poke(step, address)?;
         let _limit = self.timeline.limit();
@@ -51,6 +53,7 @@ impl<const NW: usize, const PAGES: usize, const K: u32> Bench<NW, PAGES, K> {
             (clear_changes self.old.kept.windows self.old.kept.pages step address self.old.kept.timeline)) }
         ensures refused { IfErr result (IsTimelineFault (clear_poke_fault step address self.old.kept.timeline)) }
         ensures unchanged { OnErr result (self.new ≡ self.old) }
+        ensures alike { StaysAlike K self.old self.new }
     {
         self.timeline.check_clear_poke(step, address)?;
         let _limit = self.timeline.limit();
@@ -74,6 +77,7 @@ impl<const NW: usize, const PAGES: usize, const K: u32> Bench<NW, PAGES, K> {
             (poke_byte_changes self.old.kept.windows self.old.kept.pages step address value self.old.kept.timeline)) }
         ensures refused { IfErr result (IsTimelineFault (set_poke_byte_fault step address self.old.kept.timeline)) }
         ensures unchanged { OnErr result (self.new ≡ self.old) }
+        ensures alike { StaysAlike K self.old self.new }
     {
         self.timeline.check_set_poke_byte(step, address)?;
         let _limit = self.timeline.limit();
@@ -104,6 +108,7 @@ impl<const NW: usize, const PAGES: usize, const K: u32> Bench<NW, PAGES, K> {
             (clear_byte_changes self.old.kept.windows self.old.kept.pages step address self.old.kept.timeline)) }
         ensures refused { IfErr result (IsTimelineFault (clear_poke_byte_fault step address self.old.kept.timeline)) }
         ensures unchanged { OnErr result (self.new ≡ self.old) }
+        ensures alike { StaysAlike K self.old self.new }
     {
         self.timeline.check_clear_poke_byte(step, address)?;
         let _limit = self.timeline.limit();
@@ -129,6 +134,7 @@ impl<const NW: usize, const PAGES: usize, const K: u32> Bench<NW, PAGES, K> {
             (with_timeline (with_input step bytes.now self.old.kept.timeline) self.old.kept) self.old self.new) }
         ensures refused { IfErr result (IsTimelineFault (set_input_fault step bytes.now self.old.kept.timeline)) }
         ensures unchanged { OnErr result (self.new ≡ self.old) }
+        ensures alike { StaysAlike K self.old self.new }
     {
         self.timeline.check_set_input(step, bytes)?;
         let events = self.timeline.events(step);
@@ -145,6 +151,7 @@ impl<const NW: usize, const PAGES: usize, const K: u32> Bench<NW, PAGES, K> {
         ensures edited { OnOk result (IsRefed K (Some step) (with_timeline (with_input step bytes.now self.old.kept.timeline) self.old.kept) self.old self.new) }
         ensures refused { IfErr result (λ e. e ≡ BenchFault.OutOfMemory) }
         ensures unchanged { OnErr result (self.new ≡ self.old) }
+        ensures alike { StaysAlike K self.old self.new }
     {
         let _limit = self.timeline.limit();
         let prepared = self.trace.prepare_input(self.alloc, step)?;
@@ -163,6 +170,7 @@ impl<const NW: usize, const PAGES: usize, const K: u32> Bench<NW, PAGES, K> {
         ensures edited { OnOk result (IsRefed K (Some step) (with_timeline (without_input step self.old.kept.timeline) self.old.kept) self.old self.new) }
         ensures refused { IfErr result (IsTimelineFault (clear_input_fault step self.old.kept.timeline)) }
         ensures unchanged { OnErr result (self.new ≡ self.old) }
+        ensures alike { StaysAlike K self.old self.new }
     {
         self.timeline.check_clear_input(step)?;
         let _limit = self.timeline.limit();
@@ -184,6 +192,7 @@ impl<const NW: usize, const PAGES: usize, const K: u32> Bench<NW, PAGES, K> {
             (request_changes self.old.kept.windows self.old.kept.pages step level self.old.kept.timeline)) }
         ensures refused { IfErr result (IsTimelineFault (set_request_fault step level self.old.kept.timeline)) }
         ensures unchanged { OnErr result (self.new ≡ self.old) }
+        ensures alike { StaysAlike K self.old self.new }
     {
         let checked = self.timeline.check_set_request(step, level)?;
         let _limit = self.timeline.limit();
@@ -207,6 +216,7 @@ impl<const NW: usize, const PAGES: usize, const K: u32> Bench<NW, PAGES, K> {
             (clear_request_changes self.old.kept.windows self.old.kept.pages step level self.old.kept.timeline)) }
         ensures refused { IfErr result (IsTimelineFault (clear_request_fault step level self.old.kept.timeline)) }
         ensures unchanged { OnErr result (self.new ≡ self.old) }
+        ensures alike { StaysAlike K self.old self.new }
     {
         let checked = self.timeline.check_clear_request(step, level)?;
         let _limit = self.timeline.limit();

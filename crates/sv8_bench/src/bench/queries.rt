@@ -4,13 +4,12 @@ ghost use Rattle.std.specs.Prelude.{◌≡◌, ℕ, ◌+◌, ◌-◌, ◌*◌, �
 ghost use Rattle.sv8_time.specs.Schedule.{bytes_below};
 ghost use Rattle.sv8_phys.specs.Memory.{ram_size};
 ghost use Rattle.sv8_cpu.specs.State.{State};
-ghost use Rattle.sv8_cpu.specs.Recorded.{machine, event_at, AreEvents};
-ghost use Rattle.sv8_history.specs.Trace.{IsTraceOf};
+ghost use Rattle.sv8_cpu.specs.Recorded.{event_at, AreEvents};
 ghost use Rattle.sv8_trace.specs.Recorder.{steps_on, counted_by, RaisedUpTo};
-ghost use Rattle.sv8_trace.specs.Recording.{last_point, recorded, trace_of};
+ghost use Rattle.sv8_trace.specs.Recording.{last_point, recorded};
 ghost use Rattle.sv8_bench.specs.Faults.{are_words, step_refusal, words_refusal, IsQueryFault};
 ghost use Rattle.sv8_bench.specs.Shown.{machine_state, shown_at, words_in, words_shown, output_shown};
-ghost use Rattle.sv8_bench.specs.Workbench.{IsAnswered, IsGivenUp};
+ghost use Rattle.sv8_bench.specs.Workbench.{IsAnswered, IsGivenUp, IsRecordOf};
 
 use crate::bench::Bench;
 use crate::fault::BenchFault;
@@ -75,8 +74,8 @@ pub(crate) fn record_up_to<const NW: usize, const PAGES: usize, const K: u32>(
     ensures most { length trace.new.intervals ≤ max (length trace.old.intervals) (step / K) }
     ensures raised { RaisedUpTo (K * (step / K - length trace.old.intervals)) work.old work.new }
     ensures run { (start : State) (valid : AreEvents PAGES timeline.now)
-        → IsTraceOf (machine NW PAGES) K (record { start = start; events = event_at timeline.now; valid = valid }) (trace_of NW PAGES K trace.old)
-        → IsTraceOf (machine NW PAGES) K (record { start = start; events = event_at timeline.now; valid = valid }) (trace_of NW PAGES K trace.new) }
+        → IsRecordOf NW PAGES K (record { start = start; events = event_at timeline.now; valid = valid }) trace.old
+        → IsRecordOf NW PAGES K (record { start = start; events = event_at timeline.now; valid = valid }) trace.new }
 {
     while trace.recorded() + K <= step {
         trace.extend(alloc, timeline, work)?;

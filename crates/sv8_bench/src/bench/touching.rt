@@ -1,13 +1,17 @@
-//! Whether recorded steps leave bytes of RAM alone.
+//! Whether recorded steps leave bytes of RAM alone, or reach no instruction there.
 
 ghost use Rattle.std.specs.Prelude.{◌≡◌, ◌+◌, ◌≤◌, MatchBool};
 ghost use Rattle.sv8_time.specs.Words.{poked_bytes, bytes_of_words};
 ghost use Rattle.sv8_cpu.specs.Touching.{is_within, pokes_any};
 ghost use Rattle.sv8_trace.specs.Touching.{NoneTouches};
-ghost use Rattle.sv8_bench.specs.Touching.{NonePokes, IsUntouched};
+ghost use Rattle.sv8_trace.specs.Translating.{NoneTranslates};
+ghost use Rattle.sv8_bench.specs.Touching.{NonePokes, IsUntouched, IsUnreached};
 
 use crate::bench::Bench;
 use sv8_time::{Timeline, WordPoke};
+
+/// How many bytes an instruction has.
+const INSTRUCTION_SIZE: u32 = 4;
 
 /// Whether a byte is one of so many from an address on.
 fn is_within(address: u32, count: u32, byte: u64) -> bool
@@ -72,5 +76,19 @@ impl<const NW: usize, const PAGES: usize, const K: u32> Bench<NW, PAGES, K> {
         }
         self.trace.is_untouched(address, count, from, to)
             && !pokes_between(&self.timeline, address, count, from, to)
+    }
+
+    /// Whether `is_untouched` says of the word at an address that no step from `from` on and below `to` touches it, and addresses are
+    /// translated in no state before a step of the intervals in which these steps lie. It makes no step.
+    ///
+    /// An instruction at the address is then reached in none of these steps, where its word lies in RAM (`spared_pcs_miss` of
+    /// `sv8_watch`).
+    pub fn is_unreached(&self, address: u32, from: u32, to: u32) -> bool
+        requires within { address + 4 ≤ 0x1_0000_0000 }
+        ensures { MatchBool result (IsUnreached K self.now address from to)
+            (IsUntouched K self.now address 4 from to → NoneTranslates K self.now.recording from to → ⊥) }
+    {
+        self.is_untouched(address, INSTRUCTION_SIZE, from, to)
+            && self.trace.is_untranslated(from, to)
     }
 }

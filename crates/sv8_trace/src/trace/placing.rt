@@ -7,7 +7,7 @@ ghost use Rattle.sv8_history.specs.Patches.{cut, patch_all};
 ghost use Rattle.sv8_cpu.specs.Recorded.{machine};
 ghost use Rattle.sv8_trace.specs.Patch.{changes_of, IsPatch};
 ghost use Rattle.sv8_trace.specs.Recording.{no_interval, recorded, trace_of};
-ghost use Rattle.sv8_trace.specs.Prepared.{prepared_trace, IsPreparedFor};
+ghost use Rattle.sv8_trace.specs.Prepared.{IsPreparedFor, IsPlaced};
 ghost use Rattle.sv8_trace.specs.Placing.{with_kept};
 
 use crate::finished::Finished;
@@ -43,7 +43,7 @@ impl<const NW: usize, const PAGES: usize, const K: u32> Trace<NW, PAGES, K> {
     /// Puts what was prepared in its place. It takes no memory.
     pub fn commit(&mut self, prepared: Prepared)
         requires { IsPreparedFor PAGES self.old prepared }
-        ensures { Agrees (machine NW PAGES) K (prepared_trace NW PAGES K self.old prepared) (trace_of NW PAGES K self.new) }
+        ensures { IsPlaced NW PAGES K self.old prepared self.new }
     {
         let Prepared {
             count,

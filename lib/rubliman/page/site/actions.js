@@ -24,7 +24,15 @@ const seekLine = (isBack) => (bench) => {
 };
 
 /** The nearest step that changes the marked word. */
-const seekWord = (isBack) => (bench) => bench.find(`change ${hex(memory.markedWord())} 4`, isBack, `change of word ${hex(memory.markedWord(), 5)}`);
+const seekWord = (isBack) => (bench) => {
+  const word = memory.markedWord();
+  bench.find(`change ${hex(word)} 4`, isBack, `change of word ${hex(word, 5)}`);
+};
+
+const seekDifference = (bench) => {
+  if (bench.cause) bench.go(bench.cause.n);
+  else bench.onSay("No step is known that differs from before.", true);
+};
 
 const moved = (by) => (bench) => bench.go(bench.wanted + by);
 
@@ -120,7 +128,7 @@ export const ACTIONS = {
   "line-back": seekLine(true),
   "word-on": seekWord(false),
   "word-back": seekWord(true),
-  difference: (bench) => (bench.cause ? bench.go(bench.cause.n) : bench.onSay("No step is known that differs from before.", true)),
+  difference: seekDifference,
   up: markedBy(-1),
   down: markedBy(1),
   "up-more": markedBy(-1, true),

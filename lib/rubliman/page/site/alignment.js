@@ -11,7 +11,7 @@ const FURTHEST = 400;
  */
 export function pairs(before, now) {
   const found = [];
-  const places = gramsOf(before);
+  let places = null;
   let i = 0;
   let j = 0;
   while (i < before.length && j < now.length) {
@@ -19,7 +19,8 @@ export function pairs(before, now) {
       found.push([i++, j++]);
       continue;
     }
-    const [more, less] = resumption(places, now, i, j) ?? [1, 1];
+    places ??= placesOf(before, now);
+    const [more, less] = resumption(places, i, j) ?? [1, 1];
     for (let k = 0; k < Math.min(more, less); k++) found.push([i++, j++]);
     for (let k = less; k < more; k++) found.push([i++, null]);
     for (let k = more; k < less; k++) found.push([null, j++]);
@@ -29,26 +30,23 @@ export function pairs(before, now) {
   return found;
 }
 
-const gram = (keys, at) => (at + ENOUGH <= keys.length ? keys.slice(at, at + ENOUGH).join("\n") : null);
+/** Each stretch of so many keys. */
+const stretches = (keys) =>
+  Array.from({ length: Math.max(0, keys.length - ENOUGH + 1) }, (_, at) => keys.slice(at, at + ENOUGH).join("\n"));
 
-/** Where each run of so many keys stands. */
-function gramsOf(keys) {
-  const found = new Map();
-  for (let at = 0; at + ENOUGH <= keys.length; at++) {
-    const it = gram(keys, at);
-    if (found.has(it)) found.get(it).push(at);
-    else found.set(it, [at]);
-  }
-  return found;
+/** Where in `before` each stretch of `now` stands. */
+function placesOf(before, now) {
+  const places = new Map();
+  stretches(before).forEach((it, at) => (places.has(it) ? places.get(it).push(at) : places.set(it, [at])));
+  return stretches(now).map((it) => places.get(it) ?? []);
 }
 
 /** How many steps of before and of now pass until both do the same again; null where they do not. */
-function resumption(places, now, i, j) {
+function resumption(places, i, j) {
   let best = null;
-  for (let less = 0; less <= FURTHEST && (best === null || less < best[0] + best[1]); less++) {
-    const it = gram(now, j + less);
-    if (it === null) break;
-    const at = firstFrom(places.get(it) ?? [], i);
+  for (let less = 0; less <= FURTHEST && j + less < places.length; less++) {
+    if (best !== null && less >= best[0] + best[1]) break;
+    const at = firstFrom(places[j + less], i);
     if (at === undefined || at - i > FURTHEST) continue;
     if (best === null || at - i + less < best[0] + best[1]) best = [at - i, less];
   }

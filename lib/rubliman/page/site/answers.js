@@ -30,7 +30,9 @@ export const words = (lines) => lines.map((it) => parseInt(it.slice(9), 16));
 /** The bytes of `out`. */
 export function output(lines) {
   const found = [];
-  for (const line of lines) for (let at = 0; at < line.length; at += 2) found.push(parseInt(line.slice(at, at + 2), 16));
+  for (const line of lines) {
+    for (let at = 0; at < line.length; at += 2) found.push(parseInt(line.slice(at, at + 2), 16));
+  }
   return found;
 }
 
@@ -47,8 +49,8 @@ export const differences = (lines) =>
  */
 export function step(line) {
   const words = line.split(" ");
-  const found = { n: Number(words[0]), pc: number(words[1]), fetched: number(words[2]), word: number(words[3]), what: words[4] };
-  found.at = found.fetched ?? found.pc;
+  const [pc, fetched, word] = words.slice(1, 4).map(number);
+  const found = { n: Number(words[0]), pc, fetched, word, what: words[4], at: fetched ?? pc };
   let at = 5;
   if (found.what === "trap" || found.what === "error") found.type = number(words[at++]);
   while (at < words.length) {

@@ -68,8 +68,9 @@ export class Connection {
 
   close() {
     this.isOpen = false;
+    const { presence } = this;
     // A browser warns of a socket that is closed while it opens.
-    if (this.presence.readyState === WebSocket.CONNECTING) this.presence.addEventListener("open", () => this.presence.close());
-    else this.presence.close();
+    if (presence.readyState === WebSocket.CONNECTING) presence.addEventListener("open", () => presence.close());
+    else presence.close();
   }
 }

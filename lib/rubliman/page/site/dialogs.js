@@ -1,5 +1,5 @@
 // The whole source, the examples, the help; a script that is saved.
-import { byId, element, fill, span } from "./dom.js";
+import { byId, element, fill, make, span } from "./dom.js";
 import { file } from "./connection.js";
 import { EXAMPLES, pathOf } from "./examples.js";
 import { GROUPS } from "./keys.js";
@@ -29,7 +29,8 @@ export function examples(bench) {
       dialog.close();
       openExample(bench, it);
     };
-    return element("button", { type: "button", class: "example", "data-example": it.name, onclick: choose }, span("strong", it.title), span("", it.text));
+    const attributes = { type: "button", class: "example", "data-example": it.name, onclick: choose };
+    return element("button", attributes, span("strong", it.title), span("", it.text));
   });
   fill(byId("examples-list"), made);
   dialog.showModal();
@@ -78,27 +79,42 @@ export async function save(bench) {
   if (text === null) return;
   const name = `${stem(bench.name || "what-if").toLowerCase().replace(/[^a-z0-9]+/g, "-")}-w${bench.windows}.txt`;
   const address = URL.createObjectURL(new Blob([text], { type: "text/plain" }));
-  element("a", { href: address, download: name }).click();
+  make(element("a", { href: address, download: name })).click();
   setTimeout(() => URL.revokeObjectURL(address), 10_000);
   bench.onSay(`Saved as ${name}: ./sparc8 --windows ${bench.windows} runs it.`);
 }
 
-const KEY_NAMES = { ArrowLeft: "←", ArrowRight: "→", ArrowUp: "↑", ArrowDown: "↓", PageUp: "PgUp", PageDown: "PgDn", Delete: "Del", "-": "−" };
+const KEY_NAMES = {
+  ArrowLeft: "←",
+  ArrowRight: "→",
+  ArrowUp: "↑",
+  ArrowDown: "↓",
+  PageUp: "PgUp",
+  PageDown: "PgDn",
+  Delete: "Del",
+  "-": "−",
+};
 const keyName = (it) => it.split(/\+(?=.)/).map((one) => KEY_NAMES[one] ?? one).join(" ");
 
 const ABOUT = [
-  "Time runs from the left to the right. The strip shows what happens at which step, and below it which line of the source runs; the slider, a click and the arrow keys go to a step.",
-  "Change the past anywhere: a line (Enter, or a click on Edit), a word of memory at the shown step (m), input (i), an interrupt (q). Each change is a what-if, which is switched on and off in the list.",
-  "Orange is before, blue is now, grey is both. The verdict below the strip tells the first step that differs, both lines there, registers and output old and new, and what differs at the shown step.",
+  "Time runs from the left to the right. The strip shows what happens at which step, and below it which line of the " +
+    "source runs; the slider, a click and the arrow keys go to a step.",
+  "Change the past anywhere: a line (Enter, or a click on Edit), a word of memory at the shown step (m), input (i), " +
+    "an interrupt (q). Each change is a what-if, which is switched on and off in the list.",
+  "Orange is before, blue is now, grey is both. The verdict below the strip tells the first step that differs, both " +
+    "lines there, registers and output old and new, and what differs at the shown step.",
   "Where one run has a trap or a line more, the page lays the step of before beside the shown one that does the same.",
 ];
 
 export function help() {
-  const groups = GROUPS.map(([title, rows]) =>
-    element("section", {}, element("h3", {}, title), element("dl", {}, rows.map(([keys, , text]) => [element("dt", {}, keysOf(keys)), element("dd", {}, text)]))),
-  );
-  fill(byId("help"), element("div", { class: "about" }, ABOUT.map((it) => element("p", {}, it))), element("div", { class: "groups" }, groups));
+  const about = ABOUT.map((it) => element("p", {}, it));
+  const groups = GROUPS.map(([title, rows]) => element("section", {}, element("h3", {}, title), helpRows(rows)));
+  fill(byId("help"), element("div", { class: "about" }, about), element("div", { class: "groups" }, groups));
   byId("keys-dialog").showModal();
 }
 
-const keysOf = (keys) => (keys.length > 4 ? [keys[0], "–", keys.at(-1)] : keys).map((it) => (it === "–" ? " – " : element("kbd", {}, keyName(it))));
+const helpRows = (rows) =>
+  element("dl", {}, rows.map(([keys, , text]) => [element("dt", {}, keysOf(keys)), element("dd", {}, text)]));
+
+const keyOf = (it) => element("kbd", {}, keyName(it));
+const keysOf = (keys) => (keys.length > 4 ? [keyOf(keys[0]), " – ", keyOf(keys.at(-1))] : keys.map(keyOf));

@@ -18,7 +18,8 @@ const NONE = new Map();
 export async function enter(text, windows, onEnd) {
   const connection = await Connection.open(windows, onEnd);
   try {
-    const { past, problems } = scripts.isScript(text) ? await enterScript(connection, text) : await enterSource(connection, text);
+    const read = scripts.isScript(text) ? enterScript : enterSource;
+    const { past, problems } = await read(connection, text);
     const before = await settle(connection, past, past.now());
     return { connection, past, before, problems };
   } catch (problem) {

@@ -49,7 +49,16 @@ export const FLAG_NAMES = {
 
 export const trapType = (tbr) => (tbr >>> 4) & 255;
 
-const FAULTS = ["none", "invalid entry", "protection", "privilege", "translation", "access bus", "internal", "reserved"];
+const FAULTS = [
+  "none",
+  "invalid entry",
+  "protection",
+  "privilege",
+  "translation",
+  "access bus",
+  "internal",
+  "reserved",
+];
 const ACCESSES = [
   "user load",
   "supervisor load",
@@ -71,7 +80,16 @@ export const faultFields = (value) => ({
 });
 
 /** What an access field lets a user and the supervisor do: read, write, execute. */
-export const ACCESS_RIGHTS = ["r-- / r--", "rw- / rw-", "r-x / r-x", "rwx / rwx", "--x / --x", "r-- / rw-", "--- / r-x", "--- / rwx"];
+export const ACCESS_RIGHTS = [
+  "r-- / r--",
+  "rw- / rw-",
+  "r-x / r-x",
+  "rwx / rwx",
+  "--x / --x",
+  "r-- / rw-",
+  "--- / r-x",
+  "--- / rwx",
+];
 
 const ENTRIES = ["invalid", "table", "page", "reserved"];
 

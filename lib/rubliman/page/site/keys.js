@@ -2,7 +2,9 @@
 import { perform } from "./actions.js";
 import { isEditing } from "./view_source.js";
 
-/** Groups of keys: the keys as a browser names them, with `Shift+`, `Alt+` and `Ctrl+` in front, what they do, in words. */
+const DIGITS = Array.from({ length: 9 }, (_, at) => String(at + 1));
+
+/** Groups of keys: as a browser names them, with `Shift+`, `Alt+` and `Ctrl+` in front, what they do, in words. */
 export const GROUPS = [
   ["Where", [
     [["ArrowLeft", "ArrowRight"], ["back", "on"], "a step back, a step on"],
@@ -26,7 +28,7 @@ export const GROUPS = [
     [["i"], ["input"], "input at the shown step"],
     [["q"], ["irq"], "an interrupt at the shown step"],
     [["m"], ["poke"], "pokes the marked word at the shown step"],
-    [["1", "2", "3", "4", "5", "6", "7", "8", "9"], Array.from({ length: 9 }, (_, at) => `toggle-${at + 1}`), "switches that what-if"],
+    [DIGITS, DIGITS.map((it) => `toggle-${it}`), "switches that what-if"],
     [["x"], ["toggle-all"], "all what-ifs off, and on again"],
     [["k"], ["keep"], "keeps what is now as before"],
   ]],
@@ -47,7 +49,8 @@ export const GROUPS = [
   ]],
 ];
 
-const BY_KEY = new Map(GROUPS.flatMap(([, rows]) => rows.flatMap(([keys, names]) => keys.map((it, at) => [it, names[at] ?? names[0]]))));
+const ROWS = GROUPS.flatMap(([, rows]) => rows);
+const BY_KEY = new Map(ROWS.flatMap(([keys, names]) => keys.map((it, at) => [it, names[at] ?? names[0]])));
 
 /** A key as the groups name it. Shift counts where it is no part of the character. */
 function nameOf(event) {
@@ -68,8 +71,8 @@ function isTaken(target, name) {
 export function begin(bench) {
   document.addEventListener("keydown", (it) => {
     const name = nameOf(it);
-    const isTyping = takesText(it.target) || isEditing();
-    if (document.querySelector("dialog[open]") || (isTyping && !name.startsWith("Ctrl+")) || isTaken(it.target, name)) return;
+    const isText = (takesText(it.target) || isEditing()) && !name.startsWith("Ctrl+");
+    if (isText || isTaken(it.target, name) || document.querySelector("dialog[open]")) return;
     const action = BY_KEY.get(name);
     if (!action || !bench.view) return;
     it.preventDefault();

@@ -11,7 +11,8 @@ export class Listing {
     this.bars = new Uint32Array(lines.length);
     this.placed = [];
     lines.forEach((line, at) => this.#place(line, at));
-    this.labels = names.filter((it) => it.startsWith("label ", 9)).map((it) => [parseInt(it.slice(0, 8), 16), it.slice(15)]);
+    const labels = names.filter((it) => it.startsWith("label ", 9));
+    this.labels = labels.map((it) => [parseInt(it.slice(0, 8), 16), it.slice(15)]);
   }
 
   #place(line, at) {

@@ -16,12 +16,13 @@ const FEWEST = 16;
 export class Looking {
   /** `onChange` is told when something else is to be shown, `onSay` what the user is to know. */
   constructor({ onChange, onSay }, onProblem) {
-    Object.assign(this, { onChange, onSay, queue: new Queue(onProblem) });
+    Object.assign(this, { onChange, onSay, queue: new Queue(onProblem, () => this.#showChange()) });
     Object.assign(this, { connection: null, past: new Past(), set: new Map(), placeOfLine: null });
     Object.assign(this, { listing: NO_LISTING, before: NO_LISTING, run: null, runBefore: null });
     Object.assign(this, { step: 0, wanted: 0, view: null, fixedShift: null, alignment: null });
     Object.assign(this, { shown: { low: 0, high: 100 }, isFit: true, asked: { low: 0, high: FIT } });
     this.memory = { address: 0, count: 64 };
+    this.isChanged = false;
   }
 
   /** Whether now is before: no what-if is on. */
@@ -40,12 +41,26 @@ export class Looking {
     return this.connection.ask(commands);
   }
 
+  /** Has what is other now be shown, once, when what is under way is done. */
+  changed() {
+    this.isChanged = true;
+  }
+
+  #showChange() {
+    const { isChanged } = this;
+    this.isChanged = false;
+    if (isChanged) this.onChange();
+  }
+
   // ---- two runs beside each other
 
-  async complete(run, prefix) {
-    if (!runs.isCut(run)) return;
-    const given = await this.ask(runs.restQuestions(run, prefix));
-    run.add(given.flatMap((it) => answers.steps(it.lines)));
+  /** Asks for the rest of long runs of which an answer broke off. */
+  async complete() {
+    const isOne = this.run === this.runBefore;
+    const questions = [isOne ? [] : runs.restQuestions(this.run), runs.restQuestions(this.runBefore, "before ")];
+    const rest = (await this.ask(questions.flat())).map((it) => answers.steps(it.lines));
+    if (questions[0].length > 0) this.run.add(rest.splice(0, questions[0].length).flat());
+    if (rest.length > 0) this.runBefore.add(rest.flat());
   }
 
   layRuns() {
@@ -94,33 +109,35 @@ export class Looking {
     await this.stretch(low, Math.min(LAST_STEP, low + span));
   }
 
-  async look(n) {
+  /** Shows a step. Gives the answers to `more` questions, which are asked with those of the step. */
+  async look(n, more = []) {
     const shift = this.shiftAt(n);
     const memory = { ...this.memory };
     const asked = views.questions(n, shift, memory, this.isSame && shift === 0);
-    const given = await this.ask(asked.map((it) => it.command));
+    const given = await this.ask([...asked.map((it) => it.command), ...more]);
     this.view = views.told(asked, given, n, shift, memory);
     if (this.wanted === this.step) this.wanted = n;
     this.step = n;
-    this.onChange();
+    this.changed();
+    return given.slice(asked.length);
   }
 
   /** Shows other steps in the strip. */
   range(low, high) {
     return this.queue.deed(async () => {
       await this.stretch(Math.max(0, low), Math.min(LAST_STEP, Math.max(high, low + FEWEST)));
-      this.onChange();
+      this.changed();
     });
   }
 
   async stretch(low, high) {
     this.isFit = false;
     this.asked = { low, high };
-    const given = await this.ask([...runs.questions(low, high, "before "), ...(this.isSame ? [] : runs.questions(low, high))]);
-    this.runBefore = runs.told(low, high, given);
-    this.run = this.isSame ? this.runBefore : runs.told(low, high, given.slice(2));
-    await this.complete(this.runBefore, "before ");
-    if (!this.isSame) await this.complete(this.run, "");
+    const before = runs.questions(low, high, "before ");
+    const given = await this.ask(this.isSame ? before : [...before, ...runs.questions(low, high)]);
+    this.runBefore = runs.told(low, high, given.slice(0, before.length));
+    this.run = this.isSame ? this.runBefore : runs.told(low, high, given.slice(before.length));
+    await this.complete();
     this.shown = { low, high };
     this.layRuns();
   }
@@ -151,9 +168,8 @@ export class Looking {
   /** Goes to the nearest step that meets a condition, and tells where there is none. */
   find(condition, isBack, name) {
     return this.queue.deed(async () => {
-      const from = this.wanted;
-      const question = isBack ? `steps ${from} 0 1 ${condition}` : `steps ${Math.min(LAST_STEP, from + 1)} ${LAST_STEP} 1 ${condition}`;
-      const [{ lines }] = await this.ask([question]);
+      const range = isBack ? `${this.wanted} 0` : `${Math.min(LAST_STEP, this.wanted + 1)} ${LAST_STEP}`;
+      const [{ lines }] = await this.ask([`steps ${range} 1 ${condition}`]);
       if (lines.length > 0) this.go(Number(lines[0].split(" ")[0]));
       else this.onSay(`No ${name} ${isBack ? "in front of" : "behind"} this step.`, true);
     });

@@ -2,7 +2,7 @@
 import * as actions from "./actions.js";
 import { given } from "./connection.js";
 import * as dialogs from "./dialogs.js";
-import { byId, element } from "./dom.js";
+import { byId, element, fill } from "./dom.js";
 import { named } from "./examples.js";
 import * as keys from "./keys.js";
 import { remember, remembered } from "./saving.js";
@@ -139,7 +139,8 @@ function fields() {
     byId("lines").focus({ preventScroll: true });
   });
   const irq = byId("add-irq");
-  irq.append(element("option", { value: "" }, "–"), ...Array.from({ length: 15 }, (_, at) => element("option", { value: String(at + 1) }, String(at + 1))));
+  const levels = Array.from({ length: 15 }, (_, at) => String(at + 1));
+  fill(irq, element("option", { value: "" }, "–"), levels.map((it) => element("option", { value: it }, it)));
   irq.addEventListener("change", () => {
     if (irq.value) actions.giveRequest(bench, Number(irq.value));
     irq.value = "";
@@ -151,8 +152,9 @@ function fields() {
 function wordKeys(event) {
   if (event.target.matches("input")) return;
   if (event.key === "Escape") byId("lines").focus({ preventScroll: true });
-  const count = memory.room();
-  const by = { ArrowLeft: -4, ArrowRight: 4, ArrowUp: -16, ArrowDown: 16, PageUp: -4 * count, PageDown: 4 * count }[event.key];
+  const page = 4 * memory.room();
+  const ways = { ArrowLeft: -4, ArrowRight: 4, ArrowUp: -16, ArrowDown: 16, PageUp: -page, PageDown: page };
+  const by = ways[event.key];
   if (by === undefined && event.key !== "Enter") return;
   event.preventDefault();
   if (by === undefined) actions.perform(bench, "poke");
@@ -165,7 +167,11 @@ function listen() {
   byId("words").addEventListener("keydown", wordKeys);
   byId("words").addEventListener("dblclick", () => actions.perform(bench, "poke"));
   new ResizeObserver(([it]) => steps.resize(bench, it.contentRect.height)).observe(byId("steps"));
-  new ResizeObserver(() => bench.view && tabs.isChosen("memory") && memory.mark(bench, memory.markedWord())).observe(byId("words"));
+  new ResizeObserver(resizedWords).observe(byId("words"));
+}
+
+function resizedWords() {
+  if (bench.view && tabs.isChosen("memory")) memory.mark(bench, memory.markedWord());
 }
 
 /** What the page opens with: what it had in front of a reload, the file that was named, or the first example. */

@@ -4,9 +4,9 @@
 const MOST = 500;
 
 /**
- * The places of `texts` that replace `gone` lines, each with its text and its place: lines that stay keep theirs, others
- * take those of what they replace, one by one, and more of them stand behind the line above. `behind` is the place of the
- * line in front.
+ * The places of `texts` that replace `gone` lines, each with its text and its place: lines that stay keep theirs,
+ * others take those of what they replace, one by one, and more of them stand behind the line above. `behind` is the
+ * place of the line in front.
  */
 export function placed(gone, texts, behind) {
   const found = [];

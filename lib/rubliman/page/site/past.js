@@ -45,7 +45,8 @@ export class Past {
 
   /** Those that are on and have a place in common with this one. */
   rivals(whatIf) {
-    return this.whatIfs.filter((it) => it !== whatIf && it.isOn && [...it.values.keys()].some((place) => whatIf.values.has(place)));
+    const isShared = (place) => whatIf.values.has(place);
+    return this.whatIfs.filter((it) => it !== whatIf && it.isOn && [...it.values.keys()].some(isShared));
   }
 
   /** The past in which what is now is before. What-ifs that are off stay, with their lines' new numbers. */
@@ -83,6 +84,7 @@ export function editedLines(past, first, last, texts) {
   const behind = now[first - 2]?.place ?? 0;
   const given = placed(gone, texts, behind);
   const found = new Map([...gone, ...given].map((it) => [places.line(it.place), []]));
-  for (const it of [...now.slice(0, first - 1), ...given, ...now.slice(last)]) found.get(places.line(it.place))?.push(it.text);
+  const all = [...now.slice(0, first - 1), ...given, ...now.slice(last)];
+  for (const it of all) found.get(places.line(it.place))?.push(it.text);
   return found;
 }

@@ -26,8 +26,10 @@ export const isLine = (place) => place.startsWith("line ");
 const lineOf = (place) => Number(place.slice(5));
 
 /** Whether two values are the same. */
-export const isSame = (one, other) =>
-  Array.isArray(one) && Array.isArray(other) ? one.length === other.length && one.every((it, at) => it === other[at]) : one === other;
+export function isSame(one, other) {
+  if (!Array.isArray(one) || !Array.isArray(other)) return one === other;
+  return one.length === other.length && one.every((it, at) => it === other[at]);
+}
 
 /** The value of a place: what is set, or else what stands there in `before`. */
 const valueIn = (values, past, place) => (values.has(place) ? values.get(place) : past.valueBefore(place));
@@ -66,7 +68,8 @@ function lineEdit(from, to, past, changed) {
     texts.push(...valueIn(to, past, line(number)));
   }
   const begin = linesInFront(from, low) + 1;
-  return [{ places: changed.filter(isLine), values: to, command: [`edit ${begin} ${begin + gone - 1} ${texts.length}`, ...texts].join("\n") }];
+  const command = [`edit ${begin} ${begin + gone - 1} ${texts.length}`, ...texts].join("\n");
+  return [{ places: changed.filter(isLine), values: to, command }];
 }
 
 /** The commands that poke a word's bytes. */
@@ -98,10 +101,9 @@ function eventCommands(place, old, value) {
 export function commandsBetween(from, to, past) {
   const all = new Set([...from.keys(), ...to.keys()]);
   const changed = [...all].filter((it) => !isSame(valueIn(from, past, it), valueIn(to, past, it)));
-  const events = changed
-    .filter((it) => !isLine(it))
-    .flatMap((it) =>
-      eventCommands(it, valueIn(from, past, it), valueIn(to, past, it)).map((command) => ({ places: [it], values: to, command })),
-    );
+  const events = changed.filter((it) => !isLine(it)).flatMap((it) => {
+    const given = eventCommands(it, valueIn(from, past, it), valueIn(to, past, it));
+    return given.map((command) => ({ places: [it], values: to, command }));
+  });
   return [...lineEdit(from, to, past, changed), ...events];
 }

@@ -6,9 +6,9 @@ export class Queue {
   #isBusy = false;
   #idle = [];
 
-  /** `onProblem` is told what goes wrong. */
-  constructor(onProblem) {
-    this.onProblem = onProblem;
+  /** `onProblem` is told what goes wrong, `onDone` when one of them is done. */
+  constructor(onProblem, onDone) {
+    Object.assign(this, { onProblem, onDone });
   }
 
   /** Adds a deed. The promise is for what it gives; undefined where it failed. */
@@ -46,16 +46,20 @@ export class Queue {
     if (this.#isBusy) return;
     this.#isBusy = true;
     for (let next = this.#next(); next; next = this.#next()) {
-      let given;
-      try {
-        given = await next.run();
-      } catch (problem) {
-        this.onProblem(problem);
-      }
+      const given = await this.#tried(next.run);
+      await this.#tried(this.onDone);
       next.resolve?.(given);
     }
     this.#isBusy = false;
     this.#idle.splice(0).forEach((it) => it());
+  }
+
+  async #tried(does) {
+    try {
+      return await does();
+    } catch (problem) {
+      return this.onProblem(problem);
+    }
   }
 
   #next() {

@@ -4,13 +4,16 @@ import { isInterrupt } from "./fields.js";
 
 // Up to so many steps are shown one by one.
 export const MOST_STEPS = 4000;
-// So many lines of an answer, and so many samples, are taken of more. Where that is not enough, the samples are asked for
-// by themselves, and what happens by stretches, the first few of each.
-const MOST_LINES = 12_000;
+// So many samples are taken of more, and so many lines that tell what happens. Where these are not enough, it is asked
+// for by stretches, the first few of each.
 const SAMPLES = 1500;
+const MOST_LINES = 6000;
 const STRETCHES = 600;
 const MOST_OF_STRETCH = 4;
 const HAPPENING = "trap in out event";
+// The monitor keeps its machine each so many steps. Samples as far apart are asked for there one by one, which makes no
+// steps between them.
+const KEPT = 256;
 
 /** The lanes of the strip, from the top. */
 export const LANES = [
@@ -22,17 +25,29 @@ export const LANES = [
 ];
 
 const happens = (it) => LANES.some((lane) => lane.takes(it));
-const sampling = (low, high) => Math.max(1, Math.ceil((high - low) / SAMPLES));
+
+/** How far samples of a long stretch are from each other. */
+function sampling(low, high) {
+  const every = Math.max(1, Math.ceil((high - low) / SAMPLES));
+  return every < KEPT ? every : Math.ceil(every / KEPT) * KEPT;
+}
 
 export class Run {
-  constructor(low, high, steps, output) {
-    Object.assign(this, { low, high, output });
+  /** `cutAt` is the last step of which it is known what happened, where the answer to that broke off. */
+  constructor(low, high, steps, output, cutAt = null) {
+    Object.assign(this, { low, high, output, cutAt });
     this.isWhole = high - low <= MOST_STEPS;
-    this.add(steps);
+    this.#set(steps);
   }
 
+  /** Takes in the rest. */
   add(steps) {
-    this.steps = [...(this.steps ?? []), ...steps];
+    this.cutAt = null;
+    this.#set([...this.steps, ...steps]);
+  }
+
+  #set(steps) {
+    this.steps = this.isWhole ? steps : [...new Map(steps.map((it) => [it.n, it])).values()].sort((a, b) => a.n - b.n);
     const every = sampling(this.low, this.high);
     this.samples = this.isWhole ? this.steps : this.steps.filter((it) => it.n % every === 0);
     this.happenings = this.steps.filter(happens);
@@ -60,34 +75,40 @@ export class Run {
     }
     return last;
   }
-
-  /** The same up to a lower step. */
-  upTo(high) {
-    return new Run(this.low, high, this.steps.filter((it) => it.n < high), this.output);
-  }
 }
 
-/** The questions that show a stretch of a run. */
+/** How many lines are asked for of a long stretch: of what happens, and samples where these are told with it. */
+const mostLines = (low, high) => (sampling(low, high) < KEPT ? MOST_LINES + SAMPLES : MOST_LINES);
+
+/** The questions that show a stretch of a run: what happens, samples that are asked for one by one, and the output. */
 export function questions(low, high, prefix = "") {
-  const span = high - low;
-  if (span <= MOST_STEPS) return [`${prefix}steps ${low} ${high} ${span}`, `${prefix}out ${high}`];
+  const steps = `${prefix}steps ${low} ${high}`;
+  const output = `${prefix}out ${high}`;
+  if (high - low <= MOST_STEPS) return [`${steps} ${high - low}`, output];
   const every = sampling(low, high);
-  return [`${prefix}steps ${low} ${high} ${MOST_LINES} ${HAPPENING} every ${every}`, `${prefix}out ${high}`];
+  const happenings = `${steps} ${mostLines(low, high)} ${HAPPENING}`;
+  if (every < KEPT) return [`${happenings} every ${every}`, output];
+  const samples = [];
+  for (let n = Math.ceil(low / every) * every; n < high; n += every) samples.push(`${prefix}steps ${n} ${n + 1} 1`);
+  return [happenings, ...samples, output];
 }
 
 /** The run that their answers tell. */
-export const told = (low, high, [steps, output]) => new Run(low, high, answers.steps(steps.lines), answers.output(output.lines));
+export function told(low, high, given) {
+  const [first, ...rest] = given.slice(0, -1).map(({ lines }) => answers.steps(lines));
+  const isCut = high - low > MOST_STEPS && first.length >= mostLines(low, high);
+  return new Run(low, high, [first, ...rest].flat(), answers.output(given.at(-1).lines), isCut ? first.at(-1).n : null);
+}
 
-/** Whether the answer of a long stretch broke off. */
-export const isCut = (run) => !run.isWhole && run.steps.length >= MOST_LINES;
-
-/** The questions for the rest: its samples, and what happens by stretches. */
-export function restQuestions(run, prefix = "") {
-  const begin = run.steps.at(-1).n + 1;
-  const width = Math.max(1, Math.ceil((run.high - run.low) / STRETCHES));
-  const found = [`${prefix}steps ${begin} ${run.high} ${2 * SAMPLES} every ${sampling(run.low, run.high)}`];
-  for (let low = begin; low < run.high; low += width) {
-    found.push(`${prefix}steps ${low} ${Math.min(run.high, low + width)} ${MOST_OF_STRETCH} ${HAPPENING}`);
+/** The questions for what happens behind where the answer broke off, and for samples there that are not told yet. */
+export function restQuestions({ low, high, cutAt }, prefix = "") {
+  if (cutAt === null) return [];
+  const begin = cutAt + 1;
+  const every = sampling(low, high);
+  const found = every < KEPT ? [`${prefix}steps ${begin} ${high} ${2 * SAMPLES} every ${every}`] : [];
+  const width = Math.max(1, Math.ceil((high - low) / STRETCHES));
+  for (let at = begin; at < high; at += width) {
+    found.push(`${prefix}steps ${at} ${Math.min(high, at + width)} ${MOST_OF_STRETCH} ${HAPPENING}`);
   }
   return found;
 }

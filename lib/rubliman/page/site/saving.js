@@ -5,14 +5,14 @@ import * as scripts from "./script.js";
 const KEY = "rubliman-session";
 
 /**
- * The script, after a run of the monitor has taken it. What-ifs that are refused by themselves are left out of their own
- * place; those that are on stand at its end all the same. Null where even that is refused.
+ * The script, after a run of the monitor has taken it. What-ifs that are refused by themselves are left out of their
+ * own place; those that are on stand at its end all the same. Null where even that is refused.
  */
 export async function checked(bench) {
   const refused = new Set(bench.past.whatIfs.filter((it) => it.refused));
   for (;;) {
     const parts = scripts.writeParts(bench.past, bench.step, (it) => !refused.has(it));
-    const text = `${parts.flatMap((it) => it.lines).join("\n")}\n`;
+    const text = scripts.textOf(parts);
     const at = await firstRefused(text, bench.windows);
     if (at === null) return text;
     const whatIf = parts.flatMap((it) => Array(it.count).fill(it.whatIf))[at];
@@ -41,8 +41,9 @@ async function firstRefused(text, windows) {
 /** Keeps what stands here for a reload of this page. */
 export function remember(bench) {
   try {
-    const text = scripts.write(bench.past, bench.step);
-    sessionStorage.setItem(KEY, JSON.stringify({ token: location.hash, text, name: bench.name, windows: bench.windows, step: bench.step }));
+    const { name, windows, step } = bench;
+    const text = scripts.write(bench.past, step);
+    sessionStorage.setItem(KEY, JSON.stringify({ token: location.hash, text, name, windows, step }));
   } catch {
     // A session that is too long for the browser begins anew at a reload.
     sessionStorage.removeItem(KEY);

@@ -1,8 +1,8 @@
 // Reads scripts of the workbench as a past with what-ifs, and writes them.
 //
 // `before` is what stands at a script's last `keep`, or where it has none, in front of its first question; now is what
-// stands at its end. What differs from before at a question behind it is a what-if, unless earlier ones make it together;
-// those of which all stands at the end are on.
+// stands at its end. What differs from before at a question behind it is a what-if, unless earlier ones make it
+// together; those of which all stands at the end are on.
 import { placed } from "./matching.js";
 import { Past } from "./past.js";
 import * as places from "./places.js";
@@ -11,12 +11,22 @@ import { statement } from "./text.js";
 const QUESTIONS = new Set("list regs mem out steps windows where names events before part differ".split(" "));
 const SETS = new Set("edit poke unpoke pokeb unpokeb input uninput irq unirq".split(" "));
 const EDIT = /^edit[ \t]+([0-9]{1,10})[ \t]+([0-9]{1,10})[ \t]+([0-9]{1,10})$/;
-const COMMAND = /^[ \t]*(?:list|keep|quit|names|edit [ 0-9]+|(?:un)?(?:pokeb?|input|irq) [ 0-9A-Fa-f]+|(?:regs|out|mem|steps|windows|where|events|before|part|differ)( .*)?)[ \t]*$/;
+// What a first line of a script may be.
+const COMMANDS = [
+  /^(?:list|keep|quit|names)$/,
+  /^edit [ 0-9]+$/,
+  /^(?:un)?(?:pokeb?|input|irq) [ 0-9A-Fa-f]+$/,
+  /^(?:regs|out|mem|steps|windows|where|events|before|part|differ)(?: .*)?$/,
+];
 
 export const linesOf = (text) => text.split("\n").map((it) => (it.endsWith("\r") ? it.slice(0, -1) : it));
 
 /** Whether a text is a script: its first line that is not blank is a command. Else it is a source. */
-export const isScript = (text) => COMMAND.test(linesOf(text).find((it) => it.trim() !== "")?.replaceAll("\t", " ") ?? "");
+export function isScript(text) {
+  const first = linesOf(text).find((it) => it.trim() !== "") ?? "";
+  const words = first.replaceAll("\t", " ").replace(/^ +| +$/g, "");
+  return COMMANDS.some((it) => it.test(words));
+}
 
 /** The lines of a source. */
 export function sourceLines(text) {
@@ -35,7 +45,9 @@ export function commands(text) {
     const count = Number(asEdit(lines[at])?.[3] ?? 0);
     const behind = lines.slice(at + 1, at + 1 + count);
     if (words[0] === "quit" && words.length === 1) break;
-    if (words.length > 0) found.push({ number, words, kind: kindOf(words[0]), behind, text: [lines[at], ...behind].join("\n"), isWhole: behind.length === count });
+    const text = [lines[at], ...behind].join("\n");
+    const isWhole = behind.length === count;
+    if (words.length > 0) found.push({ number, words, kind: kindOf(words[0]), behind, text, isWhole });
     at += 1 + count;
   }
   return found;
@@ -108,10 +120,12 @@ class Standing {
   }
 }
 
-const isWithin = (one, all) => [...one].every(([place, value]) => all.has(place) && places.isSame(value, all.get(place)));
+const isWithin = (one, all) =>
+  [...one].every(([place, value]) => all.has(place) && places.isSame(value, all.get(place)));
 
 /** What lines do, without remarks, so that a remark alone is no what-if. */
-const bare = (values) => new Map([...values].map(([place, value]) => [place, places.isLine(place) ? value.map(statement) : value]));
+const bareValue = (place, value) => (places.isLine(place) ? value.map(statement) : value);
+const bare = (values) => new Map([...values].map(([place, value]) => [place, bareValue(place, value)]));
 
 /** A reading of a script's commands that were accepted: the past, with its what-ifs. */
 export function read(accepted) {
@@ -130,7 +144,8 @@ export function read(accepted) {
 
 /** Adds a what-if, unless it is there, or several that are there make it together. */
 function addNew(past, values) {
-  const covered = new Set(past.whatIfs.filter((it) => isWithin(bare(it.values), bare(values))).flatMap((it) => [...it.values.keys()]));
+  const parts = past.whatIfs.filter((it) => isWithin(bare(it.values), bare(values)));
+  const covered = new Set(parts.flatMap((it) => [...it.values.keys()]));
   if (covered.size < values.size) past.add(values);
 }
 
@@ -146,9 +161,9 @@ function switchOn(past, values) {
 }
 
 /**
- * A past as a script, in parts: before, its events and a question; each what-if that `isAlone` takes, a question and what
- * takes it back; and at the end those that are on, with a question of the shown step. A part has its lines, how many
- * commands they are, and its what-if.
+ * A past as a script, in parts: before, its events and a question; each what-if that `isAlone` takes, a question and
+ * what takes it back; and at the end those that are on, with a question of the shown step. A part has its lines, how
+ * many commands they are, and its what-if.
  */
 export function writeParts(past, step, isAlone = (it) => !it.refused) {
   const none = new Map();
@@ -164,4 +179,7 @@ export function writeParts(past, step, isAlone = (it) => !it.refused) {
   return found;
 }
 
-export const write = (past, step, isAlone) => `${writeParts(past, step, isAlone).flatMap((it) => it.lines).join("\n")}\n`;
+/** The same as one text. */
+export const write = (past, step) => textOf(writeParts(past, step));
+
+export const textOf = (parts) => `${parts.flatMap((it) => it.lines).join("\n")}\n`;

@@ -17,9 +17,12 @@ function tickDistance(span) {
   return Math.max(1, unit * [1, 2, 5, 10].find((it) => it * unit >= least));
 }
 
+const HAPPENINGS = ["type", "in", "out", "event"];
+const isError = (it) => it.what === "error";
+
 /** Whether the same happens in two steps. */
 const isTwin = (one, other) =>
-  ["type", "in", "out", "event"].every((name) => one[name] === other[name]) && (one.what === "error") === (other.what === "error");
+  HAPPENINGS.every((name) => one[name] === other[name]) && isError(one) === isError(other);
 
 export class Strip {
   /** `onGo` is told the step that is pressed or dragged to, `onHover` the one under the pointer, or null. */
@@ -38,16 +41,18 @@ export class Strip {
 
   /**
    * What is drawn: steps `low` to `high`, the shown `step`, the `first` step that differs or null, the runs `now` and
-   * `before` (null where they are one), `lineNow` and `lineBefore` of a step by the `listing`, and how many `lines` there are.
+   * `before` (null where they are one), `lineNow` and `lineBefore` of a step by the `listing`, and how many `lines`
+   * there are.
    */
   show(model) {
     this.model = model;
     if (!this.drawn || PARTS.some((it) => this.drawn[it] !== model[it])) this.#drawAll();
     this.drawn = model;
-    [this.canvas.width, this.canvas.height] = [this.ground.width, this.ground.height];
     this.pen = this.canvas.getContext("2d");
+    this.pen.resetTransform();
+    this.pen.clearRect(0, 0, this.canvas.width, this.canvas.height);
     this.pen.drawImage(this.ground, 0, 0);
-    this.pen.setTransform(devicePixelRatio || 1, 0, 0, devicePixelRatio || 1, 0, 0);
+    this.pen.scale(devicePixelRatio || 1, devicePixelRatio || 1);
     this.#drawStep();
   }
 
@@ -64,8 +69,10 @@ export class Strip {
     if (!lane) return at;
     const { low, high, now, before } = this.model;
     const most = Math.max(1, (NEAR * (high - low)) / (this.canvas.clientWidth - LEFT));
-    const found = [...now.happenings, ...(before?.happenings ?? [])].filter((it) => lane.takes(it) && Math.abs(it.n - at) <= most);
-    return found.reduce((best, it) => (best === null || Math.abs(it.n - at) < Math.abs(best - at) ? it.n : best), null) ?? at;
+    const distance = (it) => Math.abs(it.n - at);
+    const all = [...now.happenings, ...(before?.happenings ?? [])];
+    const found = all.filter((it) => lane.takes(it) && distance(it) <= most);
+    return found.reduce((best, it) => (distance(it) < distance(best) ? it : best), found[0])?.n ?? at;
   }
 
   #x(n) {
@@ -84,8 +91,10 @@ export class Strip {
   #drawAll() {
     const ratio = devicePixelRatio || 1;
     [this.width, this.height] = [this.canvas.clientWidth, this.canvas.clientHeight];
-    this.ground.width = Math.max(1, Math.round(this.width * ratio));
-    this.ground.height = Math.max(1, Math.round(this.height * ratio));
+    for (const it of [this.ground, this.canvas]) {
+      it.width = Math.max(1, Math.round(this.width * ratio));
+      it.height = Math.max(1, Math.round(this.height * ratio));
+    }
     this.pen = this.ground.getContext("2d");
     this.pen.setTransform(ratio, 0, 0, ratio, 0, 0);
     this.pen.font = "10.5px system-ui, 'DejaVu Sans', sans-serif";
@@ -93,7 +102,8 @@ export class Strip {
     this.color = Object.fromEntries(COLORS.map((it) => [it, style.getPropertyValue(`--${it}`).trim()]));
     this.top = LANES.length * LANE + 4;
     this.bottom = this.height - AXIS;
-    this.wide = Math.max(1.5, Math.min(14, ((this.width - LEFT) / Math.max(1, this.model.high - this.model.low)) * 0.8));
+    const { low, high } = this.model;
+    this.wide = Math.max(1.5, Math.min(14, ((this.width - LEFT) / Math.max(1, high - low)) * 0.8));
     this.#drawGround();
     this.#drawLanes();
     this.#drawLines();

@@ -1,11 +1,13 @@
 // Steps, values and registers as elements that tell them, in the same words and colours everywhere.
-import { classes, element, span } from "./dom.js";
+import { classes, element, plainText, span } from "./dom.js";
 import { isInterrupt, trapName } from "./fields.js";
 import { character, counted, hex } from "./text.js";
 
 /** A button that looks like text, and goes to a step, an address or a line. */
-export const link = (data, ...children) =>
-  element("button", { type: "button", class: "link", ...Object.fromEntries(Object.entries(data).map(([name, value]) => [`data-${name}`, value])) }, ...children);
+export function link(data, ...children) {
+  const named = Object.entries(data).map(([name, value]) => [`data-${name}`, String(value)]);
+  return element("button", { type: "button", class: "link", ...Object.fromEntries(named) }, ...children);
+}
 
 export const stepLink = (n) => link({ step: n }, counted(n));
 
@@ -15,9 +17,7 @@ const byteText = (byte) => `${hex(byte, 2)} “${character(byte)}”`;
 export function happenings(it) {
   if (!it) return [];
   const found = [];
-  if (it.what === "error") found.push(span("trap", "error mode"), ` trap ${hex(it.type, 2)} ${trapName(it.type)}, with traps off`);
-  else if (it.type !== undefined && isInterrupt(it.type)) found.push(span("trap", "interrupt"), ` level ${it.type - 0x10}`);
-  else if (it.type !== undefined) found.push(span("trap", `trap ${hex(it.type, 2)}`), ` ${trapName(it.type)}`);
+  if (it.type !== undefined) found.push(...trap(it));
   else if (it.what === "annul") found.push(span("quiet", "annulled"));
   else if (it.what === "stop") found.push(span("quiet", "error mode"));
   if (it.in !== undefined) found.push(span("event", `in ${byteText(it.in)}`));
@@ -25,6 +25,14 @@ export function happenings(it) {
   if (it.timer) found.push(span("event", "timer"));
   if (it.event) found.push(span("event", "event"));
   return found.flatMap((one, at) => (at > 0 && typeof one !== "string" ? [" ", one] : [one]));
+}
+
+/** The trap or interrupt that a step takes, or that leads to error mode. */
+function trap({ what, type }) {
+  const number = hex(type, 2);
+  if (what === "error") return [span("trap", "error mode"), ` trap ${number} ${trapName(type)}, with traps off`];
+  if (isInterrupt(type)) return [span("trap", "interrupt"), ` level ${type - 0x10}`];
+  return [span("trap", `trap ${number}`), ` ${trapName(type)}`];
 }
 
 const ARROWS = { load: "←", store: "→", swap: "↔" };
@@ -38,13 +46,15 @@ export function access(it) {
 }
 
 /** The same as text, for names and titles. */
-export const textOf = (parts) => parts.map((it) => (typeof it === "string" ? it : it.textContent)).join("");
+export const textOf = (parts) => parts.map(plainText).join("");
 
 /** Old and new, beside each other. */
 export const changed = (old, value) => [span("was", old), span("quiet", " → "), span("now", value)];
 
 /** A register's name with its old and new value. */
-export const pair = ({ name, old, value, isMoved, symbols }) =>
-  span(classes("pair", "code", isMoved && "moved"), name, " ", ...(symbols ? changed(...symbols) : changed(shortHex(name, old), shortHex(name, value))));
+export function pair({ name, old, value, isMoved, symbols }) {
+  const values = symbols ?? [shortHex(name, old), shortHex(name, value)];
+  return span(classes("pair", "code", isMoved && "moved"), name, " ", ...changed(...values));
+}
 
 const shortHex = (name, value) => (name === "annul" || name === "waiting" ? String(value) : hex(value));

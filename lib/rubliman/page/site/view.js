@@ -32,7 +32,8 @@ export function questions(n, shift, memory, isSame) {
   const m = within(n + shift);
   const last = within(n - 1);
   const found = asked("now", "", n, memory);
-  found.push(question("last.machine", `regs ${last}`, answers.machine), question("last.windows", `windows ${last}`, answers.windowRows));
+  found.push(question("last.machine", `regs ${last}`, answers.machine));
+  found.push(question("last.windows", `windows ${last}`, answers.windowRows));
   found.push(question("output", `out ${n}`, answers.output));
   if (isSame) return found;
   found.push(...asked("before", "before ", m, memory));
@@ -42,7 +43,8 @@ export function questions(n, shift, memory, isSame) {
 
 /** The view that the answers to these questions tell. */
 export function told(asked, given, n, shift, memory) {
-  const found = { n, m: within(n + shift), address: memory.address, now: {}, last: {}, before: {}, differences: [], output: [] };
+  const found = { n, m: within(n + shift), address: memory.address, differences: [], output: [] };
+  Object.assign(found, { now: {}, last: {}, before: {} });
   asked.forEach(({ name, made }, at) => {
     const [part, field] = name.split(".");
     const value = given[at].refused === null ? made(given[at].lines) : null;

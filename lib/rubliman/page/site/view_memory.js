@@ -1,5 +1,5 @@
 // Words of memory at the shown step, with those of before.
-import { byId, classes, element, fill, span } from "./dom.js";
+import { byId, classes, element, fill, make, span } from "./dom.js";
 import * as places from "./places.js";
 import { link } from "./telling.js";
 import { character, hex, several } from "./text.js";
@@ -28,11 +28,17 @@ export function mark(bench, address) {
   const count = room();
   const low = bench.memory.address;
   const isSeen = word >= low && word < low + 4 * count;
-  const row = word - (word % 16);
-  if (!isSeen) bench.memory.address = Math.max(0, Math.min(RAM - 4 * count, word < low && low - word <= 64 ? row : row - 16 * (word > low && word - low - 4 * count < 64 ? count / ACROSS - 1 : 0)));
+  if (!isSeen) bench.memory.address = Math.max(0, Math.min(RAM - 4 * count, firstFor(word, low, count)));
   bench.memory.count = count;
   if (isSeen && bench.view?.now.memory?.length === count) show(bench);
   else bench.again();
+}
+
+/** The first address to show so that a word is the first row; the last row where it is just behind what is shown. */
+function firstFor(address, low, count) {
+  const isJustBehind = address > low && address - low - 4 * count < 64;
+  const above = isJustBehind ? count / ACROSS - 1 : 0;
+  return address - (address % 16) - 16 * above;
 }
 
 export function reset() {
@@ -46,7 +52,10 @@ export function show(bench) {
   const now = view.now.memory;
   const before = view.before.memory;
   const rows = [];
-  for (let at = 0; at < now.length; at += ACROSS) rows.push(row(bench, view.address + 4 * at, now.slice(at, at + ACROSS), before.slice(at, at + ACROSS)));
+  for (let at = 0; at < now.length; at += ACROSS) {
+    const [words, old] = [now, before].map((it) => it.slice(at, at + ACROSS));
+    rows.push(row(bench, view.address + 4 * at, words, old));
+  }
   fill(byId("words"), rows);
   byId("words").setAttribute("aria-activedescendant", `word-${word}`);
   showDifferences(bench);
@@ -55,7 +64,9 @@ export function show(bench) {
 function row(bench, address, now, before) {
   const cells = now.map((value, at) => cell(bench, address + 4 * at, value, before[at]));
   const text = now.flatMap((value) => [24, 16, 8, 0].map((bits) => character((value >>> bits) & 255))).join("");
-  return element("div", { role: "row", class: "words" }, element("span", { role: "rowheader", class: "address" }, hex(address, 5)), cells, element("span", { role: "gridcell", class: "characters" }, text));
+  const head = element("span", { role: "rowheader", class: "address" }, hex(address, 5));
+  const characters = element("span", { role: "gridcell", class: "characters" }, text);
+  return element("div", { key: address, role: "row", class: "words" }, head, cells, characters);
 }
 
 function cell(bench, address, value, old) {
@@ -65,14 +76,25 @@ function cell(bench, address, value, old) {
   const isTouched = made && address >= made.physical - 3 && address <= made.physical;
   const poked = pokedAt(bench, address);
   const line = bench.listing.lineAt(address);
-  const title = [bench.listing.symbol(address), line && `line ${line}`, `${value | 0}`, differs && `${hex(old)} in before`, poked && `poked at this step: ${poked}`];
-  const name = classes("cell", value === 0 && !differs && "zero", differs && "differs", isTouched && "fresh", address === word && "marked");
-  return element(
-    "span",
-    { role: "gridcell", id: `word-${address}`, class: name, "data-word": String(address), title: title.filter(Boolean).join("; "), "aria-selected": String(address === word) },
-    hex(value),
-    poked ? [" ", span("poked", `→ ${poked}`)] : differs && [" ", span("was", hex(old))],
-  );
+  const title = [
+    bench.listing.symbol(address),
+    line && `line ${line}`,
+    `${value | 0}`,
+    differs && `${hex(old)} in before`,
+    poked && `poked at this step: ${poked}`,
+  ];
+  const isMarked = address === word;
+  const isZero = value === 0 && !differs;
+  const attributes = {
+    role: "gridcell",
+    id: `word-${address}`,
+    class: classes("cell", isZero && "zero", differs && "differs", isTouched && "fresh", isMarked && "marked"),
+    "data-word": String(address),
+    title: title.filter(Boolean).join("; "),
+    "aria-selected": String(isMarked),
+  };
+  const more = poked ? [" ", span("poked", `→ ${poked}`)] : differs && [" ", span("was", hex(old))];
+  return element("span", attributes, hex(value), more);
 }
 
 /** What is poked into a word at the shown step, which `mem` shows at the next one. */
@@ -83,7 +105,9 @@ function pokedAt(bench, address) {
 
 function showDifferences(bench) {
   const words = wordsThatDiffer(bench);
-  const told = words.length >= MOST_DIFFERENCES ? `${MOST_DIFFERENCES} words or more differ` : `${several(words.length, "word")} differ${words.length === 1 ? "s" : ""}`;
+  const isMore = words.length >= MOST_DIFFERENCES;
+  const count = isMore ? `${MOST_DIFFERENCES} words or more` : several(words.length, "word");
+  const told = `${count} differ${words.length === 1 ? "s" : ""}`;
   const links = words.slice(0, 4).flatMap(({ address }) => [" ", link({ address }, hex(address, 5))]);
   fill(byId("memory-differs"), words.length > 0 && [span("quiet", told), ...links, words.length > 4 && " …"]);
   const badge = byId("tab-memory").querySelector(".badge");
@@ -94,9 +118,11 @@ function showDifferences(bench) {
 export function edit(bench, onUse) {
   const at = byId(`word-${word}`);
   if (!at || at.querySelector("input")) return;
-  const input = element("input", { class: "code", size: "8", maxlength: "8", "aria-label": `Poke word ${hex(word, 5)} at step ${bench.wanted}`, autocomplete: "off" });
+  const label = `Poke word ${hex(word, 5)} at step ${bench.wanted}`;
+  const attributes = { class: "code", size: "8", maxlength: "8", "aria-label": label, autocomplete: "off" };
+  const input = make(element("input", attributes));
   input.value = at.firstChild.textContent;
-  fill(at, input);
+  at.replaceChildren(input);
   input.select();
   const done = () => show(bench);
   input.addEventListener("blur", done, { once: true });

@@ -1,5 +1,5 @@
 // The source: a list of which the rows in sight are made alone, for there may be 65,536 lines.
-import { byId, classes, element, fill, span } from "./dom.js";
+import { byId, classes, element, fill, make, span } from "./dom.js";
 import { hex, several, statement, statementLength, untabbed } from "./text.js";
 
 export const ROW = 19;
@@ -13,7 +13,10 @@ const lines = () => byId("lines");
 const marks = { first: 1, last: 1, here: 0, next: 0 };
 let editor = null;
 
-export const marked = () => ({ first: Math.min(marks.first, marks.last), last: Math.max(marks.first, marks.last), at: marks.last });
+export function marked() {
+  const [first, last] = [marks.first, marks.last].sort((one, other) => one - other);
+  return { first, last, at: marks.last };
+}
 
 export function begin(bench) {
   lines().addEventListener("scroll", () => draw(bench));
@@ -60,8 +63,10 @@ function reveal(line, margin = 0) {
   const box = lines();
   const y = (line - 1) * ROW;
   const begin = top(lines().dataset.count) * ROW;
-  if (y < begin + margin * ROW) box.scrollTop = Math.max(0, y - Math.min(margin, 2) * ROW - (margin ? box.clientHeight / 4 : 0));
-  else if (y > begin + box.clientHeight - (margin + 1) * ROW) box.scrollTop = y - box.clientHeight + ROW + (margin ? box.clientHeight / 2 : 0);
+  const isAbove = y < begin + margin * ROW;
+  const isBelow = y > begin + box.clientHeight - (margin + 1) * ROW;
+  if (isAbove) box.scrollTop = Math.max(0, y - Math.min(margin, 2) * ROW - (margin ? box.clientHeight / 4 : 0));
+  else if (isBelow) box.scrollTop = y - box.clientHeight + ROW + (margin ? box.clientHeight / 2 : 0);
 }
 
 export function show(bench) {
@@ -101,8 +106,9 @@ function draw(bench) {
   const last = Math.min(listing.count, Math.ceil(end) + SPARE);
   const shift = lines().scrollTop - begin * ROW;
   const made = [];
-  for (let line = first; line <= last; line++) made.push(row(bench, line, shift));
+  for (let line = first; line <= last; line++) made.push(row(bench, line));
   fill(byId("rows"), made);
+  byId("rows").style.paddingTop = `${(first - 1) * ROW + shift}px`;
   const { at } = marked();
   // Where the marked line is out of sight, the list itself shows that it has the focus.
   if (at > begin && at <= end) lines().setAttribute("aria-activedescendant", `line-${at}`);
@@ -119,32 +125,57 @@ function old(bench, line) {
   return statement(text) === statement(bench.listing.text(line)) ? null : text;
 }
 
-function row(bench, line, shift) {
+function row(bench, line) {
   const { listing } = bench;
   const { first, last } = marked();
   const before = old(bench, line);
   const isMarked = line >= first && line <= last;
-  const name = classes("line", line === marks.here && "here", line === marks.next && line !== marks.here && "next", isMarked && "marked", before !== null && "changed", ran.lines.has(line) && "ran");
+  const isHere = line === marks.here;
+  const isNext = line === marks.next && !isHere;
   const address = listing.address(line);
-  const groups = address === null ? [] : listing.groups(line);
-  const made = element(
+  const attributes = {
+    key: line,
+    class: classes(
+      "line",
+      isHere && "here",
+      isNext && "next",
+      isMarked && "marked",
+      before !== null && "changed",
+      ran.lines.has(line) && "ran",
+    ),
+    role: "option",
+    id: `line-${line}`,
+    "data-line": String(line),
+    "aria-selected": String(isMarked),
+    "aria-posinset": String(line),
+    "aria-setsize": String(listing.count),
+    "aria-label": label(bench, line, before),
+  };
+  return element(
     "div",
-    { class: name, role: "option", id: `line-${line}`, "data-line": String(line), "aria-selected": String(isMarked), "aria-posinset": String(line), "aria-setsize": String(listing.count), "aria-label": label(bench, line, before) },
-    span("pointer", line === marks.here ? "▶" : line === marks.next ? "▷" : ""),
+    attributes,
+    span("pointer", isHere ? "▶" : isNext ? "▷" : ""),
     span("number", String(line)),
     span("address", address === null ? "" : hex(address, 5)),
-    element("span", { class: "word", title: groups.length > 1 ? groups.slice(0, 64).join(" ") : null }, groups.length > 1 ? `${groups[0]}…` : (groups[0] ?? "")),
-    span("text", ...text(listing.text(line), before)),
+    word(address === null ? [] : listing.groups(line)),
+    element("span", { class: "text", title: listing.text(line).trim() }, ...text(listing.text(line), before)),
   );
-  made.style.top = `${(line - 1) * ROW + shift}px`;
-  return made;
+}
+
+/** The first word of a line's bytes, and all of them as its title. */
+function word(groups) {
+  const isMore = groups.length > 1;
+  const title = isMore ? groups.slice(0, 64).join(" ") : null;
+  return element("span", { class: "word", title }, isMore ? `${groups[0]}…` : (groups[0] ?? ""));
 }
 
 function text(whole, before) {
   const plain = untabbed(whole);
   const cut = plain.length - (whole.length - statementLength(whole));
   if (before === null) return [plain.slice(0, cut), span("remark", plain.slice(cut))];
-  return [span("now", plain.slice(0, cut).trimEnd() || " "), before === "" ? span("quiet added", "put in") : element("del", { class: "was" }, before.slice(0, statementLength(before)).trim() || "nothing")];
+  const now = span("now", plain.slice(0, cut).trimEnd() || " ");
+  if (before === "") return [now, span("quiet added", "put in")];
+  return [now, element("del", { class: "was" }, before.slice(0, statementLength(before)).trim() || "nothing")];
 }
 
 function label(bench, line, before) {
@@ -166,30 +197,47 @@ export function edit(bench, first, last, onUse) {
   if (last - first > 400) first = last - 400;
   reveal(Math.max(1, first));
   draw(bench);
-  const isNew = last < first;
   const texts = [];
   for (let line = first; line <= last; line++) texts.push(bench.listing.text(line));
-  const area = element("textarea", { class: "code", rows: String(Math.max(1, texts.length)), spellcheck: "false", wrap: "off", "aria-label": isNew ? `New lines in front of line ${first}` : first === last ? `Line ${first}` : `Lines ${first} to ${last}`, "aria-describedby": "editor-note" });
-  area.value = isNew ? "        " : texts.join("\n");
-  const note = element("p", { id: "editor-note", class: "quiet", role: "alert" }, hint(texts.length));
-  editor = element("div", { class: "editor" }, area, note);
+  const old = last < first ? null : texts.join("\n");
+  const area = make(areaFor(first, last));
+  area.value = old ?? "        ";
+  const note = make(element("p", { id: "editor-note", class: "quiet", role: "alert" }, hint(texts.length)));
+  editor = make(element("div", { class: "editor" }));
+  editor.append(area, note);
   editor.style.top = `${(first - 1) * ROW + lines().scrollTop - top(bench.listing.count) * ROW}px`;
   byId("rows").append(editor);
   const room = () => (area.rows = Math.min(18, Math.max(1, area.value.split("\n").length)));
   area.addEventListener("input", room);
   room();
-  area.addEventListener("keydown", (it) => editorKey(bench, it, { area, note, onUse, isLong: texts.length > 1, old: isNew ? null : texts.join("\n") }));
+  const fields = { area, note, onUse, isLong: texts.length > 1, old };
+  area.addEventListener("keydown", (it) => editorKey(bench, it, fields));
   area.focus();
   area.setSelectionRange(area.value.length, area.value.length);
   editor.scrollIntoView({ block: "nearest" });
 }
 
-const hint = (count) => (count > 1 ? "Ctrl+Enter uses them, Esc leaves them" : "Enter uses it, Shift+Enter is a line more, Esc leaves it");
+function areaFor(first, last) {
+  const lines = first === last ? `Line ${first}` : `Lines ${first} to ${last}`;
+  return element("textarea", {
+    class: "code",
+    spellcheck: "false",
+    wrap: "off",
+    "aria-label": last < first ? `New lines in front of line ${first}` : lines,
+    "aria-describedby": "editor-note",
+  });
+}
+
+function hint(count) {
+  if (count > 1) return "Ctrl+Enter uses them, Esc leaves them";
+  return "Enter uses it, Shift+Enter is a line more, Esc leaves it";
+}
 
 async function editorKey(bench, it, { area, note, onUse, isLong, old: texts }) {
   it.stopPropagation();
   if (it.key === "Escape") return close(bench);
-  const isUse = it.key === "Enter" && !it.shiftKey && (it.ctrlKey || it.metaKey || !(isLong || area.value.includes("\n")));
+  const isOne = !isLong && !area.value.includes("\n");
+  const isUse = it.key === "Enter" && !it.shiftKey && (it.ctrlKey || it.metaKey || isOne);
   if (!isUse) return;
   it.preventDefault();
   if (area.value === texts || (texts === null && area.value.trim() === "")) return close(bench);

@@ -18,7 +18,8 @@ export function show(bench) {
   const { view } = bench;
   const shift = view.m - view.n;
   const how = bench.fixedShift === null ? "" : ", by hand";
-  byId("shift").textContent = bench.isSame && shift === 0 ? "–" : shift === 0 ? `same step${how}` : `${shift > 0 ? "+" : "−"}${counted(Math.abs(shift))}${how}`;
+  const distance = shift === 0 ? "same step" : `${shift > 0 ? "+" : "−"}${counted(Math.abs(shift))}`;
+  byId("shift").textContent = bench.isSame && shift === 0 ? "–" : `${distance}${how}`;
   const rows = chosen(bench);
   const table = byId("steps").querySelector("table");
   fill(table, element("tbody", {}, rows.map((it) => row(bench, it))));
@@ -26,8 +27,8 @@ export function show(bench) {
 
 /** As many rows as there is room for, the shown step in the upper half. */
 function chosen(bench) {
-  const { view } = bench;
-  const { front, behind } = rowsAround(view.before.steps, view.now.steps, view.m, view.n, bench.keyBefore, bench.keyNow);
+  const { now, before, n, m } = bench.view;
+  const { front, behind } = rowsAround(before.steps, now.steps, m, n, bench.keyBefore, bench.keyNow);
   const room = Math.max(5, Math.floor(place / ROW));
   const above = Math.min(front.length, Math.floor(room * 0.4));
   return [...front.slice(front.length - above), ...behind].slice(0, room);
@@ -46,7 +47,13 @@ function row(bench, { now, before }) {
     cells.push(element("td", { class: "number was" }, before ? counted(before.n) : ""));
     cells.push(element("td", { class: "was" }, before ? told(before, bench.before) : ""));
   }
-  return element("tr", { class: name, "data-step": String(Math.max(0, step.n)), "aria-current": isShown ? "step" : null }, cells);
+  const attributes = {
+    key: `${now?.n} ${before?.n}`,
+    class: name,
+    "data-step": String(Math.max(0, step.n)),
+    "aria-current": isShown ? "step" : null,
+  };
+  return element("tr", attributes, cells);
 }
 
 /** Whether a step of now is another one than that beside it: its line, its text, or what happened. */
@@ -61,7 +68,8 @@ const code = (it, listing) => listing.statement(listing.lineAt(it.at)) || (it.wo
 
 function told(it, listing) {
   const where = listing.symbol(it.at) ?? hex(it.pc, 5);
-  const title = `PC ${hex(it.pc)}${it.fetched !== null && it.fetched !== it.pc ? ` at ${hex(it.fetched)}` : ""}${it.word === null ? "" : `, word ${hex(it.word)}`}`;
+  const fetched = it.fetched !== null && it.fetched !== it.pc ? ` at ${hex(it.fetched)}` : "";
+  const title = `PC ${hex(it.pc)}${fetched}${it.word === null ? "" : `, word ${hex(it.word)}`}`;
   const text = code(it, listing);
   const label = /^\w+:/.exec(text);
   return [

@@ -19,7 +19,8 @@ export function told(bench, it) {
   const line = bench.listing.lineAt(it.at);
   const place = bench.listing.symbol(it.at);
   const code = bench.listing.statement(line) || (it.word === null ? "" : hex(it.word));
-  return [span("quiet", hex(it.pc, 5), place ? ` ${place}` : ""), "  ", code, "  ", ...access(it), " ", ...happenings(it)];
+  const at = span("quiet", hex(it.pc, 5), place ? ` ${place}` : "");
+  return [at, "  ", code, "  ", ...access(it), " ", ...happenings(it)];
 }
 
 function showHovered(bench, n) {
@@ -35,19 +36,23 @@ function showStep(bench) {
 
 /** Where the user wants to go, at once. */
 export function showWanted(bench) {
+  showFields(bench);
+  if (strip.model) strip.show({ ...strip.model, step: bench.wanted });
+}
+
+function showFields(bench) {
   const input = byId("step");
   if (document.activeElement !== input) input.value = String(bench.wanted);
   byId("slider").value = String(bench.wanted);
-  if (strip.model) strip.show({ ...strip.model, step: bench.wanted });
 }
 
 export function show(bench) {
   const { low, high } = bench.shown;
   const slider = byId("slider");
-  Object.assign(slider, { min: low, max: high });
+  [slider.min, slider.max] = [low, high];
   byId("range").textContent = `${counted(low)} – ${counted(high)}`;
   showStep(bench);
-  showWanted(bench);
+  showFields(bench);
   slider.setAttribute("aria-valuetext", `step ${counted(bench.view.n)}: ${textOf(told(bench, shownStep(bench)))}`);
   const canvas = byId("strip");
   canvas.setAttribute("aria-label", summary(bench));

@@ -19,12 +19,7 @@ export function show(bench) {
   const now = bench.view.now.machine;
   const before = bench.view.before.machine;
   const box = byId("units");
-  const old = document.activeElement?.id === "walk-address" ? document.activeElement.value : null;
-  fill(box, unit(now, before), walkRow(bench), devices(now, before), pending(now, before));
-  if (old !== null) {
-    byId("walk-address").value = old;
-    byId("walk-address").focus();
-  }
+  fill(box, unit(now, before), walkRow(), devices(now, before), pending(now, before));
   const names = ["control", "table", "context", "faultStatus", "faultAddress", "timer", "reload", "pending", "waiting"];
   const count = names.filter((it) => now[it] !== before[it]).length;
   byId("tab-units").querySelector(".badge").textContent = count > 0 ? String(count) : "";
@@ -36,42 +31,76 @@ const value = (name, now, before, digits = 8) => [
   now !== before && [" ", span("code was", hex(before, digits))],
 ];
 
-const flag = (name, now, before) => element("span", { class: classes("flag", now && "on", now !== before && "differs"), title: now === before ? null : "another in before" }, name);
+function flag(name, now, before) {
+  const differs = now !== before;
+  const title = differs ? "another in before" : null;
+  return element("span", { class: classes("flag", now && "on", differs && "differs"), title }, name);
+}
+
+const bit = (value, at) => (value >>> at) & 1;
+/** The address of the context table, which the register has in units of 16 bytes. */
+const tableOf = (register) => (register - (register % 4)) * 16;
 
 function unit(now, before) {
   const fault = faultFields(now.faultStatus);
-  const root = (now.table - (now.table % 4)) * 16;
-  const told = fault.type ? [span("refused", fault.name), ` on a ${fault.access}, level ${fault.level}${fault.isOverwritten ? ", overwritten" : ""}`] : [span("quiet", "none")];
+  const [root, rootBefore] = [now, before].map((it) => tableOf(it.table));
+  const [isOn, wasOn] = [now, before].map((it) => bit(it.control, 0));
+  const [isNoFault, wasNoFault] = [now, before].map((it) => bit(it.control, 1));
+  const table = [link({ address: root }, hex(root)), now.table !== before.table && span("code was", hex(rootBefore))];
+  const status = value("status", now.faultStatus, before.faultStatus);
   return element("dl", {},
-    row("Translation", flag(now.control & 1 ? "on" : "off", now.control & 1, before.control & 1), flag("no fault", (now.control >>> 1) & 1, (before.control >>> 1) & 1)),
-    row("Context", value("", now.context, before.context, 2), " ", span("key", "table"), " ", link({ address: root }, hex(root)), now.table !== before.table && span("code was", hex((before.table - (before.table % 4)) * 16))),
-    row("Fault", ...told),
-    row("", value("status", now.faultStatus, before.faultStatus), " ", value("address", now.faultAddress, before.faultAddress)));
+    row("Translation", flag(isOn ? "on" : "off", isOn, wasOn), flag("no fault", isNoFault, wasNoFault)),
+    row("Context", value("", now.context, before.context, 2), " ", span("key", "table"), " ", table),
+    row("Fault", fault.type ? faultText(fault) : span("quiet", "none")),
+    row("", status, " ", value("address", now.faultAddress, before.faultAddress)));
+}
+
+function faultText({ name, access, level, isOverwritten }) {
+  return [span("refused", name), ` on a ${access}, level ${level}${isOverwritten ? ", overwritten" : ""}`];
 }
 
 const row = (name, ...content) => [element("dt", {}, name), element("dd", {}, ...content)];
 
-function walkRow(bench) {
-  const input = element("input", { id: "walk-address", class: "code", size: "9", placeholder: "address", value: walk.text, autocomplete: "off", title: "An address of the program, or a label (p)" });
+function walkRow() {
+  const focused = document.activeElement;
+  const input = element("input", {
+    id: "walk-address",
+    class: "code",
+    size: "9",
+    placeholder: "address",
+    value: focused?.id === "walk-address" ? focused.value : walk.text,
+    autocomplete: "off",
+    title: "An address of the program, or a label (p)",
+  });
   const label = element("label", {}, span("key", "Walk"), " ", input);
-  return element("div", { class: "walk" }, label, walk.shown ? path(bench, walk.shown) : span("quiet", "where an address of the program leads"));
+  const way = walk.shown ? path(walk.shown) : span("quiet", "where an address of the program leads");
+  return element("div", { class: "walk" }, label, way);
 }
 
 /** The entries on the way, and where they lead, by the monitor's own word. */
-function path(bench, { entries, now, before }) {
-  const rows = entries.map(({ name, address, entry }) =>
-    element("tr", {}, element("th", { scope: "row" }, name), element("td", {}, address === null ? "" : link({ address }, hex(address))), element("td", { class: "code" }, entry === null ? "not in RAM" : hex(entry)), element("td", { class: "quiet" }, entry === null ? "" : entryText(entry))));
-  const same = now === before;
+function path({ entries, now, before }) {
+  const differs = now !== before;
+  const place = span(classes("strong", differs && "now"), placeText(now));
   return [
-    element("table", {}, element("tbody", {}, rows)),
-    element("p", {}, span("key", "leads to"), " ", span(classes("strong", !same && "now"), placeText(now)), !same && [" ", span("was", placeText(before))]),
+    element("table", {}, element("tbody", {}, entries.map(entryRow))),
+    element("p", {}, span("key", "leads to"), " ", place, differs && [" ", span("was", placeText(before))]),
   ];
+}
+
+function entryRow({ name, address, entry }) {
+  const [word, meaning] = entry === null ? ["not in RAM", ""] : [hex(entry), entryText(entry)];
+  return element("tr", {},
+    element("th", { scope: "row" }, name),
+    element("td", {}, link({ address }, hex(address))),
+    element("td", { class: "code" }, word),
+    element("td", { class: "quiet" }, meaning));
 }
 
 function placeText(line) {
   if (!line) return "no page";
   const [address, level, rights] = line.split(" ");
-  return level === "-" ? `${address}, translation off` : `${address} (level ${level}, user / supervisor ${ACCESS_RIGHTS[Number(rights)]})`;
+  if (level === "-") return `${address}, translation off`;
+  return `${address} (level ${level}, user / supervisor ${ACCESS_RIGHTS[Number(rights)]})`;
 }
 
 const SHIFTS = [24, 18, 12];
@@ -109,17 +138,29 @@ async function entryAt(ask, n, address) {
 }
 
 function devices(now, before) {
+  const differs = now.waiting !== before.waiting;
+  const waiting = span(classes(differs && "now"), `${now.waiting} bytes wait`);
   return element("dl", {},
     row("Timer", value("count", now.timer, before.timer), " ", value("reload", now.reload, before.reload)),
-    row("Console", span(classes(now.waiting !== before.waiting && "now"), `${now.waiting} bytes wait`), now.waiting !== before.waiting && span("was", String(before.waiting))));
+    row("Console", waiting, differs && span("was", String(before.waiting))));
 }
 
 /** The pending levels; each is a button that requests it at the shown step. */
 function pending(now, before) {
-  const made = LEVELS.map((level) => {
-    const [is, was] = [now, before].map((it) => (it.pending >>> level) & 1);
-    const told = `Level ${level}, ${is ? "pending" : "not pending"}${is === was ? "" : ", other than in before"}: request it at this step`;
-    return element("button", { type: "button", class: classes("flag", is && "on", is !== was && "differs"), "data-level": String(level), title: told, "aria-label": told }, String(level));
-  });
-  return element("div", { class: "pending", role: "group", "aria-label": "Interrupt levels" }, span("key", "Pending"), made);
+  const made = LEVELS.map((level) => levelButton(level, bit(now.pending, level), bit(before.pending, level)));
+  const attributes = { class: "pending", role: "group", "aria-label": "Interrupt levels" };
+  return element("div", attributes, span("key", "Pending"), made);
+}
+
+function levelButton(level, is, was) {
+  const state = `${is ? "pending" : "not pending"}${is === was ? "" : ", other than in before"}`;
+  const told = `Level ${level}, ${state}: request it at this step`;
+  const attributes = {
+    type: "button",
+    class: classes("flag", is && "on", is !== was && "differs"),
+    "data-level": String(level),
+    title: told,
+    "aria-label": told,
+  };
+  return element("button", attributes, String(level));
 }

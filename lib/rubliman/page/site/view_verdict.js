@@ -5,6 +5,8 @@ import { happenings, link, pair, stepLink, textOf } from "./telling.js";
 import { counted, several, statement, typed } from "./text.js";
 import { LAST_STEP, MOST_DIFFERENCES, registersThatDiffer } from "./view.js";
 
+const AS_BEFORE =
+  "Now is as before. Change a line, a word of memory, the input or an interrupt, and see here what that changes.";
 const FEW = 6;
 const MOST_OUTPUT = 60;
 
@@ -20,9 +22,9 @@ export function show(bench) {
 
 function first(bench) {
   if (bench.isSame) {
-    return [span("quiet", "Now is as before. Change a line, a word of memory, the input or an interrupt, and see here what that changes.")];
+    return [span("quiet", AS_BEFORE)];
   }
-  if (bench.part === null) return [noDifference(bench)];
+  if (bench.cause === null) return [noDifference(bench)];
   const { n, now, before, registers } = bench.cause;
   return [
     span("strong", "step ", stepLink(n)),
@@ -33,7 +35,8 @@ function first(bench) {
 
 function noDifference(bench) {
   if (bench.partUpTo < LAST_STEP) return span("quiet", `None up to step ${counted(bench.partUpTo)}; looking further …`);
-  return span("", span("strong good", "None"), span("quiet", " in 1,000,000 steps, as far as the processor and the MMU show."));
+  const within = " in 1,000,000 steps, as far as the processor and the MMU show.";
+  return span("", span("strong good", "None"), span("quiet", within));
 }
 
 /** The lines of before and of now at a step, once where both are the same. */
@@ -48,7 +51,8 @@ function bothLines(bench, before, now) {
 function told(listing, it) {
   if (!it) return [span("quiet", "nothing")];
   const line = listing.lineAt(it.at);
-  const where = line ? [span("quiet", `line ${line} `), span("code", listing.statement(line))] : [span("quiet", "no line of the source")];
+  const place = [span("quiet", `line ${line} `), span("code", listing.statement(line))];
+  const where = line ? place : [span("quiet", "no line of the source")];
   const what = happenings(it);
   return what.length > 0 ? [...where, " ", ...what] : where;
 }
@@ -108,7 +112,8 @@ function here(bench) {
 }
 
 function wordsLink(words) {
-  const count = words.length >= MOST_DIFFERENCES ? `${counted(MOST_DIFFERENCES)} words or more` : several(words.length, "word");
+  const isMore = words.length >= MOST_DIFFERENCES;
+  const count = isMore ? `${counted(MOST_DIFFERENCES)} words or more` : several(words.length, "word");
   return link({ address: words[0].address }, `${count} of memory`);
 }
 

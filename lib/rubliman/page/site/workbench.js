@@ -115,8 +115,8 @@ export class Workbench extends Looking {
   /** Tells what went wrong. */
   #failed(problem) {
     if (problem instanceof Ended) this.#ended(this.connection);
-    this.onSay(problem instanceof Ended && problem.isSlow ? `${problem.message}, and was ended.` : problem.message, true);
-    this.onChange();
+    this.onSay(problem.isSlow ? `${problem.message}, and was ended.` : problem.message, true);
+    this.changed();
   }
 
   // ---- what-ifs
@@ -134,7 +134,7 @@ export class Workbench extends Looking {
     const between = places.commandsBetween(this.set, wanted, this.past);
     const refused = await this.#changed(between, wanted);
     if (refused === null) for (const it of this.past.whatIfs) Object.assign(it, { isOn: isOn(it), refused: null });
-    this.onChange();
+    this.changed();
     return refused;
   }
 
@@ -144,7 +144,7 @@ export class Workbench extends Looking {
       const isOn = !whatIf.isOn;
       const rivals = isOn ? this.past.rivals(whatIf) : [];
       whatIf.refused = await this.#switched((it) => (it === whatIf ? isOn : it.isOn && !rivals.includes(it)));
-      this.onChange();
+      this.changed();
     });
   }
 
@@ -162,13 +162,13 @@ export class Workbench extends Looking {
       const refused = whatIf.isOn ? await this.#switched((it) => it !== whatIf && it.isOn) : null;
       if (refused === null) this.past.drop(whatIf);
       else whatIf.refused = refused;
-      this.onChange();
+      this.changed();
     });
   }
 
   /**
-   * Gives values to places, as a what-if of their own, or in those that are on and have them. Gives what that is refused
-   * with, and then all stays as it was.
+   * Gives values to places, as a what-if of their own, or in those that are on and have them. Gives what that is
+   * refused with, and then all stays as it was.
    */
   give(values) {
     return this.queue.deed(async () => {
@@ -187,7 +187,7 @@ export class Workbench extends Looking {
         this.past.whatIfs = old.map(({ it, values: kept, isOn }) => Object.assign(it, { values: kept, isOn }));
       }
       this.past.whatIfs = this.past.whatIfs.filter((it) => it.values.size > 0);
-      this.onChange();
+      this.changed();
       return refused;
     });
   }
@@ -209,7 +209,7 @@ export class Workbench extends Looking {
   async #changed(between, wanted = this.set) {
     const isSame = wanted.size === 0;
     const { low, high } = this.asked;
-    const shows = isSame ? [] : ["list", "names", ...runs.questions(low, high), `part 0 ${high}`];
+    const shows = isSame ? [] : ["list", "names", `part 0 ${high}`, ...runs.questions(low, high)];
     const given = await this.ask([...between.map((it) => it.command), ...shows]);
     const refused = given.findIndex((it, at) => at < between.length && it.refused !== null);
     if (refused >= 0) {
@@ -225,10 +225,10 @@ export class Workbench extends Looking {
   }
 
   /** Takes in what was told behind a change. */
-  #read([list, names, steps, output, part]) {
+  #read([list, names, part, ...run]) {
     const { low, high } = this.asked;
     this.listing = new Listing(list.lines, names.lines);
-    this.run = runs.told(low, high, [steps, output]);
+    this.run = runs.told(low, high, run);
     this.#readPart(part, high);
   }
 
@@ -248,13 +248,11 @@ export class Workbench extends Looking {
 
   /** Completes a change: the rest of a long strip, what fits, the cause, the view. */
   async #settle() {
-    await this.complete(this.run, "");
-    if (this.runBefore !== this.run) await this.complete(this.runBefore, "before ");
+    await this.complete();
     this.placeOfLine = this.isSame ? null : places.linesWith(this.set, this.past).map((it) => it.place);
     this.layRuns();
     if (this.isFit) this.fitted();
-    await this.#findCause();
-    await this.look(this.step);
+    this.#readCause(await this.look(this.step, this.#causeQuestions()));
     if (this.partUpTo < LAST_STEP) this.queue.spare(() => this.#partFurther());
   }
 
@@ -270,19 +268,24 @@ export class Workbench extends Looking {
       this.queue.spare(() => this.#partFurther(isQuick ? 4 * count : Math.max(FIRST_STRETCH, count >> 1)));
       return;
     }
-    await this.#findCause();
-    this.onChange();
+    this.#readCause(await this.ask(this.#causeQuestions()));
+    this.changed();
   }
 
-  /** What happened in front of the first step that differs, and what differs there. */
-  async #findCause() {
-    this.cause = null;
-    if (this.part === null) return;
+  /** What is asked of the first step that differs: what happened in front of it, and both machines there. */
+  #causeQuestions() {
+    if (this.part === null) return [];
     const n = Math.max(0, this.part - 1);
     const range = `${n} ${n + 1} 1`;
-    const asked = [`steps ${range}`, `before steps ${range}`, `regs ${this.part}`, `before regs ${this.part}`];
-    const [now, before, machine, machineBefore] = (await this.ask(asked)).map((it) => it.lines);
-    const registers = views.registersThatDiffer(answers.machine(machineBefore), answers.machine(machine), registerName);
-    this.cause = { n, now: now[0] && answers.step(now[0]), before: before[0] && answers.step(before[0]), registers };
+    return [`steps ${range}`, `before steps ${range}`, `regs ${this.part}`, `before regs ${this.part}`];
+  }
+
+  #readCause(given) {
+    this.cause = null;
+    if (given.length === 0) return;
+    const [now, before] = given.slice(0, 2).map(({ lines }) => lines.map(answers.step).at(0));
+    const [machine, machineBefore] = given.slice(2).map(({ lines }) => answers.machine(lines));
+    const registers = views.registersThatDiffer(machineBefore, machine, registerName);
+    this.cause = { n: Math.max(0, this.part - 1), now, before, registers };
   }
 }

@@ -48,7 +48,8 @@ static inline void sparc8_set_level(unsigned level)
     __asm__ volatile("mov %0, %%psr; nop; nop; nop" : : "r"((psr & ~0xF00u) | level << 8) : "memory");
 }
 
-/* The registers of the memory management unit: 0x000 control, 0x100 table of contexts, 0x200 context, 0x300 fault status, 0x400 its address. */
+/* The registers of the memory management unit: 0x000 control, 0x100 table of contexts, 0x200 context, 0x300 fault
+   status, 0x400 its address. */
 static inline unsigned sparc8_mmu_load(unsigned number)
 {
     unsigned value;

@@ -1,6 +1,8 @@
-use Rattle.std.proofs.Common.{◌≤◌, ◌∙◌, ap, refl, arith, add-one, subst}
+use Rattle.std.proofs.Common.{◌≡◌, ◌≤◌, ◌∙◌, ap, refl, sym, arith, add-one, subst}
 use Rattle.sv8_time.specs.Schedule.{bytes_below}
 use Rattle.sv8_cpu.specs.Work.{counted}
+use Rattle.sv8_trace.specs.declared.interval.Interval.{Interval}
+use Rattle.sv8_trace.specs.Recorder.{IsRecorded}
 use Rattle.sv8_trace.proofs.Recorded.{recorded_none, up_to_one, one_more}
 use Rattle.sv8_trace.proofs.recorder.record.Goals as goal
 
@@ -20,7 +22,7 @@ returns-in_err-machine-clause-raised g c =
 pub loop-offset-preserved : goal.loop-offset-preserved
 loop-offset-preserved g c =
     let inv = c.loop-offset.invariant in
-    let both = one_more g.row.NW g.row.PAGES c.args.timeline.now c.args.n c.args.machine c.loop-offset.machine c.in_ok-machine.machine c.loop-offset.offset c.loop-offset.draft c.record_step.new.interval inv.state c.in_ok-machine.ensures.state inv.recorded c.in_ok-machine.ensures.gained c.in_ok-machine.ensures.kept in
+    let both = one_more g.row.NW g.row.PAGES c.args.timeline.now c.args.n c.args.machine c.loop-offset.machine c.in_ok-machine.machine c.loop-offset.offset c.loop-offset.draft c.record_step.new.interval inv.state c.in_ok-machine.ensures.state inv.recorded c.in_ok-machine.ensures.gained c.in_ok-machine.ensures.kept c.in_ok-machine.ensures.translated in
     record {
       state = both.0;
       delivered = subst (λ x. c.in_ok-machine.machine.memory.taken ≤ bytes_below x c.args.timeline.now.inputs) (omega arith) c.in_ok-machine.ensures.delivered;
@@ -33,3 +35,9 @@ returns-clause-raised g c = (c.loop-offset.offset, omega (arith, c.loop-offset.a
 
 pub returns-in_err-copy-clause-raised : goal.returns-in_err-copy-clause-raised
 returns-in_err-copy-clause-raised g c = (c.loop-offset.offset, omega (arith, c.loop-offset.auto.offset-end), c.loop-offset.invariant.counted)
+
+pub returns-clause-recorded : goal.returns-clause-recorded
+returns-clause-recorded g c =
+    let whole : c.loop-offset.offset ≡ c.args.count = omega (arith, c.loop-offset.auto.offset-end, c.loop-offset-test.false) in
+    subst (λ (i : Interval). IsRecorded g.row.NW g.row.PAGES c.args.timeline.now c.args.n c.args.machine c.args.count i) (sym c.in_ok-copy.ensures)
+    (subst (λ x. IsRecorded g.row.NW g.row.PAGES c.args.timeline.now c.args.n c.args.machine x c.loop-offset.draft) whole c.loop-offset.invariant.recorded)

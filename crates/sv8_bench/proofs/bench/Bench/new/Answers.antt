@@ -15,6 +15,6 @@ invariant_of-result g c = (
   record {
     events = search rules;
     sound = search rules;
-    trace = fresh_is g.row.NW g.row.PAGES g.row.K (omega (arith, c.requires.some_steps)) _ _ (search rules);
+    record_is = fresh_is g.row.NW g.row.PAGES g.row.K (omega (arith, c.requires.some_steps)) _ _ (search rules);
   },
 )

@@ -7,13 +7,17 @@ use Rattle.sv8_source.specs.Image.{image_bytes}
 use Rattle.sv8_source.specs.declared.image.Change.{Change}
 use Rattle.sv8_cpu.specs.State.{State, reset_state}
 use Rattle.sv8_edits.specs.Changes.{image_changes}
+use Rattle.sv8_edits.specs.EditLaws.{Edits}
 use Rattle.sv8_edits.proofs.Common.{image_edits}
 use Rattle.sv8_trace.specs.Patch.{changes_of}
 use Rattle.sv8_trace.specs.Recording.{recorded}
+use Rattle.sv8_bench.specs.Alike.{StaysAlike}
 use Rattle.sv8_bench.specs.Kept.{edited}
-use Rattle.sv8_bench.specs.Workbench.{IsRun, IsEdited}
+use Rattle.sv8_bench.specs.Workbench.{Workbench, IsEdited}
 use Rattle.sv8_bench.proofs.ImageWords.{changes_inside}
-use Rattle.sv8_bench.proofs.Edited.{old, can, edited_run, edited_is}
+use Rattle.sv8_bench.proofs.Edited.{AfterEdit, can, after_edit}
+use Rattle.sv8_bench.proofs.bench.Bench.replace_lines.Given.{Over}
+use Rattle.sv8_bench.proofs.bench.Bench.replace_lines.Goals.{After-commit-2}
 use Rattle.sv8_bench.proofs.bench.Bench.replace_lines.Goals as goal
 
 -- the bytes of the image of a state after reset
@@ -28,21 +32,48 @@ image_patches-requires g c =
     let e = c.changes.ensures ∙ c.in_ok-plan.ensures.changed in
     (omega arith, (inv.1, (inv.3, subst (All (λ (w : Change). w.address + 4 ≤ ram_size g.row.PAGES)) (sym e) (changes_inside g.row.PAGES s.source c.in_ok-plan.plan.to inv.6))))
 
-pub invariant_of-self : goal.invariant_of-self
-invariant_of-self g c =
+-- the workbench before the edit, and after it
+abbrev before : (g : Over) → After-commit-2 g → Workbench
+before g c =
+    let s = c.self.inside in
+    record { kept = record { windows = g.row.NW; pages = g.row.PAGES; source = s.source; timeline = s.timeline }; recording = s.trace; worked = s.work }
+
+abbrev after : (g : Over) → After-commit-2 g → Workbench
+after g c =
+    let s = c.self.inside in
+    record { kept = record { windows = g.row.NW; pages = g.row.PAGES; source = c.commit.new.self; timeline = s.timeline }; recording = c.commit-2.new.self; worked = s.work }
+
+-- the workbench with the edit that was asked for
+abbrev IsDone : (g : Over) → After-commit-2 g → Workbench → Workbench → Type 0
+IsDone g c w new =
+    IsEdited g.row.K (edited c.args.first c.args.last (texts c.args.lines.now) w.kept) w new
+    (image_changes w.kept.windows w.kept.pages w.kept.source (replaced c.args.first c.args.last (texts c.args.lines.now) w.kept.source) w.kept.timeline)
+
+edit : (g : Over) (c : After-commit-2 g) → AfterEdit g.row.K (before g c) (after g c) (IsDone g c (before g c) (after g c))
+edit g c =
     let inv = c.self.invariant in
     let k = g.row.K in
     let s = c.self.inside in
     let next = c.in_ok-plan.plan.to in
-    let bound = c.recorded-recorded.ensures.bound in
-    let steps = c.recorded-recorded.ensures.steps in
-    let few : recorded k s.trace ≤ 1000000 = omega (arith, bound, steps) in
+    let to = c.in_ok-plan.ensures.to in
+    let few : recorded k s.trace ≤ 1000000 = omega (arith, c.recorded-recorded.ensures.bound, c.recorded-recorded.ensures.steps) in
     let reset = c.in_ok-reset.ensures ∙ ap (reset_state g.row.NW g.row.PAGES) c.source.ensures in
     let contents : AreContents g.row.PAGES (reset_state g.row.NW g.row.PAGES next).memory = subst (λ (m : State). AreContents g.row.PAGES m.memory) reset c.ram_size-size.ensures.contents in
-    let law = image_edits g.row.NW g.row.PAGES s.source next s.timeline (can g.row.NW g.row.PAGES k inv.4 s.source s.timeline s.trace s.work inv.8 inv.3 c.limit-limit.ensures.timeline inv.7) (bytes_below g.row.NW g.row.PAGES next contents) in
+    let runs = can g.row.NW g.row.PAGES k inv.4 s.source s.timeline s.trace s.work inv.8 inv.3 c.limit-limit.ensures.timeline inv.7 in
+    let law = image_edits g.row.NW g.row.PAGES s.source next s.timeline runs (bytes_below g.row.NW g.row.PAGES next contents) in
     let shown : c.deref.result.now ≡ c.in_ok-patches.patches.items = search rules in
     let words = c.changes.ensures ∙ c.in_ok-plan.ensures.changed in
-    let made = ap (changes_of g.row.NW g.row.PAGES) shown ∙ c.in_ok-patches.ensures.changes s.source next inv.6 words reset inv.8.sound in (
+    let made = ap (changes_of g.row.NW g.row.PAGES) shown ∙ c.in_ok-patches.ensures.changes s.source next inv.6 words reset inv.8.sound in
+    after_edit g.row.NW g.row.PAGES k inv.4 s.source s.timeline s.trace s.work inv.8 inv.3 c.limit-limit.ensures.timeline inv.7 few c.commit.new.self s.timeline
+    (image_changes g.row.NW g.row.PAGES s.source (replaced c.args.first c.args.last (texts c.args.lines.now) s.source) s.timeline)
+    (subst (λ t. Edits g.row.NW g.row.PAGES (image_changes g.row.NW g.row.PAGES s.source t s.timeline) s.source s.timeline c.commit.new.self s.timeline runs) to
+    (subst (λ t. Edits g.row.NW g.row.PAGES (image_changes g.row.NW g.row.PAGES s.source next s.timeline) s.source s.timeline t s.timeline runs) (sym c.commit.ensures) law))
+    c.deref.result.now (made ∙ ap (λ t. image_changes g.row.NW g.row.PAGES s.source t s.timeline) to) c.in_ok-prepared.prepared c.commit-2.new.self c.in_ok-prepared.ensures.prepared c.commit-2.ensures
+    _ (ap (λ t. record (before g c).kept { source = t }) (c.commit.ensures ∙ to))
+
+pub invariant_of-self : goal.invariant_of-self
+invariant_of-self g c =
+    let inv = c.self.invariant in (
       inv.0,
       inv.1,
       inv.2,
@@ -51,32 +82,15 @@ invariant_of-self g c =
       inv.5,
       ap (λ (t : Text). t.limit) (c.commit.ensures ∙ c.in_ok-plan.ensures.to) ∙ inv.6,
       inv.7,
-      subst (λ x. IsRun k (record { kept = record { windows = g.row.NW; pages = g.row.PAGES; source = x; timeline = s.timeline }; recording = c.commit-2.new.self; worked = s.work })) (sym c.commit.ensures)
-          (edited_run g.row.NW g.row.PAGES k inv.4 s.source s.timeline s.trace s.work inv.8 inv.3 c.limit-limit.ensures.timeline inv.7 few next s.timeline (image_changes g.row.NW g.row.PAGES s.source next s.timeline) law
-          c.deref.result.now made c.in_ok-prepared.prepared c.commit-2.new.self c.in_ok-prepared.ensures.prepared c.commit-2.ensures),
+      (edit g (goal.at.invariant_of-self g c).After-commit-2).run,
     )
 
 pub returns-clause-edited : goal.returns-clause-edited
 returns-clause-edited g c =
-    let inv = c.self.invariant in
-    let k = g.row.K in
-    let s = c.self.inside in
-    let next = c.in_ok-plan.plan.to in
-    let bound = c.recorded-recorded.ensures.bound in
-    let steps = c.recorded-recorded.ensures.steps in
-    let few : recorded k s.trace ≤ 1000000 = omega (arith, bound, steps) in
-    let reset = c.in_ok-reset.ensures ∙ ap (reset_state g.row.NW g.row.PAGES) c.source.ensures in
-    let contents : AreContents g.row.PAGES (reset_state g.row.NW g.row.PAGES next).memory = subst (λ (m : State). AreContents g.row.PAGES m.memory) reset c.ram_size-size.ensures.contents in
-    let law = image_edits g.row.NW g.row.PAGES s.source next s.timeline (can g.row.NW g.row.PAGES k inv.4 s.source s.timeline s.trace s.work inv.8 inv.3 c.limit-limit.ensures.timeline inv.7) (bytes_below g.row.NW g.row.PAGES next contents) in
-    let shown : c.deref.result.now ≡ c.in_ok-patches.patches.items = search rules in
-    let words = c.changes.ensures ∙ c.in_ok-plan.ensures.changed in
-    let made = ap (changes_of g.row.NW g.row.PAGES) shown ∙ c.in_ok-patches.ensures.changes s.source next inv.6 words reset inv.8.sound in
-    subst (λ w. IsEdited k (edited c.args.first c.args.last (texts c.args.lines.now) w.kept) w
-    (record { kept = record { windows = g.row.NW; pages = g.row.PAGES; source = c.commit.new.self; timeline = s.timeline }; recording = c.commit-2.new.self; worked = s.work })
-    (image_changes w.kept.windows w.kept.pages w.kept.source (replaced c.args.first c.args.last (texts c.args.lines.now) w.kept.source) w.kept.timeline)) c.self.view_is
-    (subst (λ x. IsEdited k (record { windows = g.row.NW; pages = g.row.PAGES; source = x; timeline = s.timeline }) (old g.row.NW g.row.PAGES k inv.4 s.source s.timeline s.trace s.work)
-    (record { kept = record { windows = g.row.NW; pages = g.row.PAGES; source = c.commit.new.self; timeline = s.timeline }; recording = c.commit-2.new.self; worked = s.work }) (image_changes g.row.NW g.row.PAGES s.source x s.timeline)) c.in_ok-plan.ensures.to
-    (subst (λ y. IsEdited k (record { windows = g.row.NW; pages = g.row.PAGES; source = next; timeline = s.timeline }) (old g.row.NW g.row.PAGES k inv.4 s.source s.timeline s.trace s.work)
-    (record { kept = record { windows = g.row.NW; pages = g.row.PAGES; source = y; timeline = s.timeline }; recording = c.commit-2.new.self; worked = s.work }) (image_changes g.row.NW g.row.PAGES s.source next s.timeline)) (sym c.commit.ensures)
-    (edited_is g.row.NW g.row.PAGES k inv.4 s.source s.timeline s.trace s.work inv.8 inv.3 c.limit-limit.ensures.timeline inv.7 few next s.timeline (image_changes g.row.NW g.row.PAGES s.source next s.timeline) law
-    c.deref.result.now made c.in_ok-prepared.prepared c.commit-2.new.self c.in_ok-prepared.ensures.prepared c.commit-2.ensures)))
+    let d = (goal.at.returns-clause-edited g c).After-commit-2 in
+    subst (λ (w : Workbench). IsDone g d w (after g d)) c.self.view_is (edit g d).done
+
+pub returns-clause-alike : goal.returns-clause-alike
+returns-clause-alike g c =
+    let d = (goal.at.returns-clause-alike g c).After-commit-2 in
+    subst (λ (w : Workbench). StaysAlike g.row.K w (after g d)) c.self.view_is (edit g d).alike

@@ -1,8 +1,8 @@
 use Rattle.std.proofs.Common.{◌≡◌, ◌∙◌, ◌+◌, ◌-◌, ◌*◌, ◌/◌, ◌<◌, ◌≤◌, length, refl, sym, ap, arith, subst}
-use Rattle.sv8_history.specs.Trace.{IsTraceOf}
-use Rattle.sv8_cpu.specs.Recorded.{machine, event_at}
+use Rattle.sv8_cpu.specs.Recorded.{event_at}
 use Rattle.sv8_trace.specs.Recorder.{counted_by}
-use Rattle.sv8_trace.specs.Recording.{Recording, recorded, trace_of}
+use Rattle.sv8_trace.specs.Recording.{Recording, recorded}
+use Rattle.sv8_bench.specs.Workbench.{IsRecordOf}
 use Rattle.sv8_bench.proofs.Queried.{counted_more, raised_more, room, all_recorded, all_counted, interval_more, interval_few, extended_keeps}
 use Rattle.sv8_bench.proofs.bench.queries.record_up_to.Goals as goal
 
@@ -70,7 +70,7 @@ pub returns-in_err-extend-clause-run : goal.returns-in_err-extend-clause-run
 returns-in_err-extend-clause-run g c = λ start valid h.
     subst
     (λ (r : Recording).
-    IsTraceOf (machine g.row.NW g.row.PAGES) g.row.K (record { start = start; events = event_at c.args.timeline.now; valid = valid }) (trace_of g.row.NW g.row.PAGES g.row.K r))
+    IsRecordOf g.row.NW g.row.PAGES g.row.K (record { start = start; events = event_at c.args.timeline.now; valid = valid }) r)
     (sym c.in_err-extend.ensures.refused) (c.loop-alloc.invariant.run start valid h)
 
 pub returns-clause-raised : goal.returns-clause-raised

@@ -1,10 +1,10 @@
 use Rattle.std.proofs.Common.{◌≡◌, ◌-◌, ◌*◌, ◌/◌, ◌≤◌, max, length}
 use Rattle.sv8_time.specs.Schedule.{bytes_below}
 use Rattle.sv8_cpu.specs.State.{State}
-use Rattle.sv8_cpu.specs.Recorded.{machine, event_at, AreEvents}
-use Rattle.sv8_history.specs.Trace.{IsTraceOf}
+use Rattle.sv8_cpu.specs.Recorded.{event_at, AreEvents}
 use Rattle.sv8_trace.specs.Recorder.{counted_by}
-use Rattle.sv8_trace.specs.Recording.{last_point, recorded, trace_of}
+use Rattle.sv8_trace.specs.Recording.{last_point, recorded}
+use Rattle.sv8_bench.specs.Workbench.{IsRecordOf}
 use Rattle.sv8_bench.proofs.bench.queries.record_up_to.Given as goal
 
 abbrev pub invariant-loop-alloc : goal.invariant-loop-alloc
@@ -14,8 +14,8 @@ invariant-loop-alloc g l = record {
   delivered : (last_point l.trace).memory.taken ≤ bytes_below (recorded g.row.K l.trace) l.timeline.inputs;
   counted : l.work ≡ counted_by (g.row.K * (length l.trace.intervals - length l.fn.trace.intervals)) l.fn.work;
   run : (start : State) (valid : AreEvents g.row.PAGES l.timeline)
-      → IsTraceOf (machine g.row.NW g.row.PAGES) g.row.K (record { start = start; events = event_at l.timeline; valid = valid }) (trace_of g.row.NW g.row.PAGES g.row.K l.fn.trace)
-      → IsTraceOf (machine g.row.NW g.row.PAGES) g.row.K (record { start = start; events = event_at l.timeline; valid = valid }) (trace_of g.row.NW g.row.PAGES g.row.K l.trace);
+      → IsRecordOf g.row.NW g.row.PAGES g.row.K (record { start = start; events = event_at l.timeline; valid = valid }) l.fn.trace
+      → IsRecordOf g.row.NW g.row.PAGES g.row.K (record { start = start; events = event_at l.timeline; valid = valid }) l.trace;
 }
 
 -- the steps that are left

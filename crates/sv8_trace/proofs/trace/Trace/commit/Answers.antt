@@ -1,10 +1,8 @@
 use Rattle.std.proofs.Common.{ap, sym, subst, arith}
-use Rattle.sv8_history.specs.Trace.{Agrees}
-use Rattle.sv8_cpu.specs.Recorded.{machine}
 use Rattle.sv8_trace.specs.declared.prepared.Staged.{Staged}
-use Rattle.sv8_trace.specs.Recording.{Recording, trace_of}
-use Rattle.sv8_trace.specs.Prepared.{prepared_trace, IsPreparedFor}
-use Rattle.sv8_trace.proofs.Committing.{committed, count_left, full_pages, full_levels}
+use Rattle.sv8_trace.specs.Recording.{Recording}
+use Rattle.sv8_trace.specs.Prepared.{IsPreparedFor, IsPlaced}
+use Rattle.sv8_trace.proofs.Committing.{placed_is, count_left, full_pages, full_levels}
 use Rattle.sv8_trace.proofs.trace.Trace.commit.Goals as goal
 
 pub place-requires : goal.place-requires
@@ -26,8 +24,8 @@ returns g c =
     let fits = subst (IsPreparedFor g.row.PAGES c.args.self.now) (sym c.prepared.view_is) c.requires in
     let last = c.place.new.self in
     let lists = c.place_lists.new.intervals.items in
-    subst (λ s. Agrees (machine g.row.NW g.row.PAGES) g.row.K (prepared_trace g.row.NW g.row.PAGES g.row.K c.args.self.now s) (trace_of g.row.NW g.row.PAGES g.row.K (record { points = last; intervals = lists }))) c.prepared.view_is
-    (committed g.row.NW g.row.PAGES g.row.K inv.3 c.args.self.now staged fits
+    subst (λ s. IsPlaced g.row.NW g.row.PAGES g.row.K c.args.self.now s (record { points = last; intervals = lists })) c.prepared.view_is
+    (placed_is g.row.NW g.row.PAGES g.row.K inv.3 c.args.self.now staged fits
     c.self.inside.points c.truncate.new.self last c.self.inside.intervals.items c.truncate-2.new.self.items lists
     points intervals inv.5 c.truncate.ensures.first c.truncate-2.ensures.items
     c.place.ensures.length c.place.ensures.placed c.place_lists.ensures.length c.place_lists.ensures.lists)

@@ -12,4 +12,4 @@ returns-clause-ok g c =
     let m = machine g.row.NW g.row.PAGES in
     let v = history.cut m k (trace_of g.row.NW g.row.PAGES k c.args.self.now) (c.args.steps / k) in
     let p = prepared_trace g.row.NW g.row.PAGES k c.args.self.now c.in_ok-prepared.prepared in
-    agrees_along m k v p (trace_of g.row.NW g.row.PAGES k c.commit.new.self) (near_agrees m k p v c.in_ok-prepared.ensures.prepared) c.commit.ensures
+    agrees_along m k v p (trace_of g.row.NW g.row.PAGES k c.commit.new.self) (near_agrees m k p v c.in_ok-prepared.ensures.prepared) c.commit.ensures.agrees

@@ -28,4 +28,4 @@ returns-clause-ok g c =
     near_along m k p (patch_all m k (cut m k v (length r.intervals)) cs) (patch_all m k v cs)
     (subst (λ x. Near m k p (patch_all m k (cut m k v x) cs)) count c.in_ok-prepared.ensures.prepared)
     (near_all m k pos cs (cut m k v (length r.intervals)) v (uncut g.row.NW g.row.PAGES k pos r)) in
-    agrees_along m k (patch_all m k v cs) p (trace_of g.row.NW g.row.PAGES k c.commit.new.self) (near_agrees m k p (patch_all m k v cs) near) c.commit.ensures
+    agrees_along m k (patch_all m k v cs) p (trace_of g.row.NW g.row.PAGES k c.commit.new.self) (near_agrees m k p (patch_all m k v cs) near) c.commit.ensures.agrees

@@ -1,7 +1,7 @@
 use Rattle.sv8_phys.specs.Memory.{ram_size}
 use Rattle.std.proofs.Common.{◌∙◌, arith, sym}
 use Rattle.sv8_monitor.proofs.Passed.{inside_span, none_spared}
-use Rattle.sv8_monitor.proofs.search.shows_none.Goals as goal
+use Rattle.sv8_monitor.proofs.search.touches_none.Goals as goal
 
 pub returns-in-Some-clause-none : goal.returns-in-Some-clause-none
 returns-in-Some-clause-none g c = λ e.

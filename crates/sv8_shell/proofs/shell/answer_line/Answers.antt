@@ -1,0 +1,15 @@
+use Rattle.std.proofs.Common.{refl}
+use Rattle.sv8_shell.specs.declared.effect.Effect.TheVariants.{Unchanged}
+use Rattle.sv8_shell.specs.Order.{bad}
+use Rattle.sv8_shell.proofs.AnswerLemmas.{reply-bad}
+use Rattle.sv8_shell.proofs.EffectLemmas.{puts-effect, if-unchanged}
+use Rattle.sv8_shell.proofs.OrderLemmas.{reply-order}
+use Rattle.sv8_shell.proofs.shell.answer_line.Goals as goal
+
+pub returns-in-Err-clause-replies : goal.returns-in-Err-clause-replies
+returns-in-Err-clause-replies g c = λ all h.
+    let put = puts-effect c.refuse.result c.with_effect.result Unchanged _ _ _ c.with_effect.ensures (rw c.bad_command.ensures.value at c.refuse.ensures) in
+    rw c.in-Err.ensures (reply-order c.with_effect.result _ _ c.args.bench.now.kept _ bad (reply-bad c.with_effect.result _ _ c.args.bench.now.kept put))
+
+pub returns-in-Err-clause-unchanged : goal.returns-in-Err-clause-unchanged
+returns-in-Err-clause-unchanged g c = if-unchanged c.with_effect.result _ refl
