@@ -162,8 +162,8 @@ fn add<const NW: usize, const PAGES: usize>(
     found: &mut Vec<Found>,
     step: MadeStep<'_, NW, PAGES>,
 ) -> Result<(), AllocError>
-    ensures { OnOk result ((before : State) → IsBefore before step.before
-        → found.new.items ≡ found.old.items ++ record { step = step.n; happening = happening_of before step } ∷ []) }
+    ensures { OnOk result ((before : State) → IsBefore before step.entry.before
+        → found.new.items ≡ found.old.items ++ (record { step = step.entry.n; happening = happening_of before step.entry }) ∷ []) }
 {
     found.push(Found {
         step: step.n,
@@ -274,7 +274,9 @@ fn search_up<const NW: usize, const PAGES: usize, const K: u32>(
     look_at_old(&mut old, conditions, walk.machine())?;
     let mut left = most;
     while walk.step() < to && left > 0 {
-        left = look(bench, &mut walk, &mut watch, conditions, &mut old, found, left)?;
+        left = look(
+            bench, &mut walk, &mut watch, conditions, &mut old, found, left,
+        )?;
     }
     Ok(())
 }
