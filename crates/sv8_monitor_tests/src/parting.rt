@@ -5,7 +5,8 @@ use std::test::Fail;
 use sv8_bench::Bench;
 use sv8_monitor::{Monitor, run};
 
-/// A monitor of a machine with one page of RAM, and with a checkpoint every 250 steps, so that one stands at the last step.
+/// A monitor of a machine with one page of RAM, and with a checkpoint every 250 steps, so that one stands at the last
+/// step.
 type Small = Monitor<8, 1, 250>;
 
 /// Lines of a script, with what they come to.
@@ -68,8 +69,14 @@ const DEEDS: &[Deed] = &[
     },
     // What is refused, and what asks, changes nothing, though no more than 250 steps are recorded.
     Deed {
-        script: b"keep\npoke 1 3 5\nnothing\nunpoke 5 200\nnames\nbefore names\npart 0 1000000\n",
-        answer: b"ok\nrefused 14 BadAddress\nrefused 18 BadCommand\nrefused 16 NothingThere\n00000000 label again\nok\n00000000 label again\nok\nok\n",
+        script: b"keep\npoke 1 3 5\nnothing\nunpoke 5 200\npart 0 1000000\n",
+        answer: b"ok\nrefused 14 BadAddress\nrefused 18 BadCommand\nrefused 16 NothingThere\nok\n",
+        worked: (1_000_104, 1_000_104),
+        common: 1_000_000,
+    },
+    Deed {
+        script: b"names\nbefore names\npart 0 1000000\n",
+        answer: b"00000000 label again\nok\n00000000 label again\nok\nok\n",
         worked: (1_000_104, 1_000_104),
         common: 1_000_000,
     },
