@@ -175,6 +175,15 @@ abbrev pub left_behind : {A : Type 0} → Option A → ℕ → ℕ
 left_behind None left = left
 left_behind (Some x) left = left - 1
 
+-- what was found, where it is wanted
+abbrev pub found_if : Bool → Found → Option Found
+found_if wanted x = if wanted then Some x else None
+
+-- what was found, if anything, was added, and so many more may follow
+pub record IsAdded (found : Option Found) (left : ℕ) (before after : List Found) (rest : ℕ) : Type 0 where
+  pub items : after ≡ before ++ list_of found
+  pub room : rest ≡ left_behind found left
+
 -- where the interval below a step begins in a search down to another one: at the checkpoint below it, or there
 pub record IsStart (k to end start : ℕ) : Type 0 where
   pub low : to ≤ start

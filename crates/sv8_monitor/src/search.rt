@@ -12,7 +12,7 @@ ghost use Rattle.sv8_watch.specs.Watched.{IsBefore, happening_of};
 ghost use Rattle.sv8_bench.specs.Shown.{machine_state};
 ghost use Rattle.sv8_bench.specs.Walks.{IsWalk, IsMade, IsUnmade};
 ghost use Rattle.sv8_bench.specs.Workbench.{checkpoints};
-ghost use Rattle.sv8_monitor.specs.Search.{old_of, olds_of, old_count, olds_count, is_inside, are_inside, any_met, found_at, is_wanted, wanted_found, list_of, left_behind, rising, looked_to, falling, sought_to, steps_told, IsSearched, IsPassedOrSearched, IsSought, IsTried, IsAbandoned, IsStart};
+ghost use Rattle.sv8_monitor.specs.Search.{old_of, olds_of, old_count, olds_count, is_inside, are_inside, any_met, found_at, found_if, is_wanted, wanted_found, rising, looked_to, falling, sought_to, steps_told, IsSearched, IsAdded, IsPassedOrSearched, IsSought, IsTried, IsAbandoned, IsStart};
 
 use crate::found::Found;
 use std::alloc::AllocError;
@@ -156,40 +156,49 @@ fn is_wanted<const NW: usize, const PAGES: usize>(
     }
 }
 
-/// A step with what happened in it.
+/// Adds a step with what happened in it.
 #[inline(never)]
-fn found<const NW: usize, const PAGES: usize>(step: &MadeStep<'_, NW, PAGES>) -> Found
-    ensures { (before : State) → IsBefore before step.now.before → result ≡ record { step = step.now.n; happening = happening_of before step.now } }
+fn add<const NW: usize, const PAGES: usize>(
+    found: &mut Vec<Found>,
+    step: MadeStep<'_, NW, PAGES>,
+) -> Result<(), AllocError>
+    ensures { OnOk result ((before : State) → IsBefore before step.entry.before
+        → found.new.items ≡ found.old.items ++ (record { step = step.entry.n; happening = happening_of before step.entry }) ∷ []) }
 {
-    Found {
+    found.push(Found {
         step: step.n,
         happening: step.happening(),
-    }
+    })?;
+    Ok(())
 }
 
-/// The same, where it is wanted.
+/// The same, where it is wanted; answers how many more may follow, of so many.
 #[inline(always)]
-fn found_in<const NW: usize, const PAGES: usize>(
+fn add_wanted<const NW: usize, const PAGES: usize>(
+    found: &mut Vec<Found>,
     step: &MadeStep<'_, NW, PAGES>,
     conditions: &[Condition],
     old: &[u8],
-) -> Option<Found>
+    left: u32,
+) -> Result<u32, AllocError>
     requires few_windows { NW ≤ 32 }
     requires few_pages { PAGES ≤ 65536 }
+    requires some { 0 < left }
     requires inside { are_inside (ram_size PAGES) conditions.now ≡ true }
     requires count { length old.now ≡ olds_count conditions.now }
-    ensures { (before : State) → IsBefore before step.now.before → old.now ≡ olds_of conditions.now before.memory.ram
-        → result ≡ if any_met step.now.n before step.now.after.now (happening_of before step.now) step.now.watch.now.touches conditions.now
-        then Some (record { step = step.now.n; happening = happening_of before step.now }) else None }
+    ensures { IfOk result (λ rest. (before : State) → IsBefore before step.now.before → old.now ≡ olds_of conditions.now before.memory.ram
+        → IsAdded (found_if (any_met step.now.n before step.now.after.now (happening_of before step.now) step.now.watch.now.touches conditions.now)
+        (record { step = step.now.n; happening = happening_of before step.now })) left found.old.items found.new.items rest) }
 {
-    if is_wanted(step, conditions, old) {
-        Some(found(step))
-    } else {
-        None
+    if !is_wanted(step, conditions, old) {
+        return Ok(left);
     }
+    add(found, *step)?;
+    Ok(left - 1)
 }
 
-/// Makes the next step of a walk, and looks at it. `old` are the bytes that the conditions compare, before and afterwards.
+/// Makes the next step of a walk, and adds it where it is wanted; answers how many more may follow, of so many. `old` are the
+/// bytes that the conditions compare, before and afterwards.
 ///
 /// # Errors
 ///
@@ -201,17 +210,20 @@ fn look<const NW: usize, const PAGES: usize, const K: u32>(
     watch: &mut Watch,
     conditions: &[Condition],
     old: &mut Vec<u8>,
-) -> Result<Option<Found>, AllocError>
+    found: &mut Vec<Found>,
+    left: u32,
+) -> Result<u32, AllocError>
     requires few_windows { NW ≤ 32 }
     requires few_pages { PAGES ≤ 65536 }
     requires walk { IsWalk K bench.old walk.old }
     requires within { walk.old.step < 1000000 }
+    requires some { 0 < left }
     requires inside { are_inside (ram_size PAGES) conditions.now ≡ true }
     requires bytes { old.old.items ≡ olds_of conditions.now (machine_state bench.old.kept walk.old.step).memory.ram }
     requires count { length old.old.items ≡ olds_count conditions.now }
     ensures walk { OnOk result (IsWalk K bench.new walk.new) }
     ensures step { OnOk result (walk.new.step ≡ walk.old.step + 1) }
-    ensures found { IfOk result (λ r. r ≡ wanted_found bench.old.kept conditions.now walk.old.step) }
+    ensures added { IfOk result (λ rest. IsAdded (wanted_found bench.old.kept conditions.now walk.old.step) left found.old.items found.new.items rest) }
     ensures made { OnOk result (IsMade K walk.old.step bench.old bench.new) }
     ensures bytes { OnOk result (old.new.items ≡ olds_of conditions.now (machine_state bench.old.kept (walk.old.step + 1)).memory.ram) }
     ensures count { OnOk result (length old.new.items ≡ olds_count conditions.now) }
@@ -227,24 +239,9 @@ fn look<const NW: usize, const PAGES: usize, const K: u32>(
         after: walk.machine(),
         watch,
     };
-    let next = found_in(&step, conditions, old.as_slice());
+    let rest = add_wanted(found, &step, conditions, old.as_slice(), left)?;
     look_again(old, conditions, walk.machine())?;
-    Ok(next)
-}
-
-/// Adds a step that was found, if one was; answers how many more may follow, of so many.
-fn add_found(found: &mut Vec<Found>, next: Option<Found>, left: u32) -> Result<u32, AllocError>
-    requires { 0 < left }
-    ensures found { OnOk result (found.new.items ≡ found.old.items ++ list_of next) }
-    ensures left { IfOk result (λ rest. rest ≡ left_behind next left) }
-{
-    match next {
-        Some(next) => {
-            found.push(next)?;
-            Ok(left - 1)
-        }
-        None => Ok(left),
-    }
+    Ok(rest)
 }
 
 /// Adds the steps from one on and below another that meet a condition, and at most so many of them. It looks at no step
@@ -277,8 +274,9 @@ fn search_up<const NW: usize, const PAGES: usize, const K: u32>(
     look_at_old(&mut old, conditions, walk.machine())?;
     let mut left = most;
     while walk.step() < to && left > 0 {
-        let seen = look(bench, &mut walk, &mut watch, conditions, &mut old)?;
-        left = add_found(found, seen, left)?;
+        left = look(
+            bench, &mut walk, &mut watch, conditions, &mut old, found, left,
+        )?;
     }
     Ok(())
 }

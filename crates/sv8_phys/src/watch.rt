@@ -36,11 +36,13 @@ impl Touches for Watch {
 
     ghost noted = { λ w. w };
 
+    #[inline(always)]
     fn note(&mut self, touch: Touch) -> Result<(), AllocError> {
         self.touches.push(touch)?;
         Ok(())
     }
 
+    #[inline(always)]
     fn observe(&mut self, observation: Observation) -> Result<(), AllocError> {
         self.observations.push(observation)?;
         Ok(())

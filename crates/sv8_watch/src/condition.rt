@@ -198,7 +198,7 @@ impl Condition {
             Condition::Change { address, .. } => differ(old, address, step.after),
             Condition::Trap => step.outcome().is_trap(),
             Condition::TrapType(tt) => step.outcome().is_trap_of(tt),
-            Condition::Error => step.outcome().is_error(),
+            Condition::Error => !step.after.is_running() && step.outcome().is_error(),
             Condition::Input => step.taken().is_some(),
             Condition::Output => step.put().is_some(),
             Condition::Event => step.has_event(),

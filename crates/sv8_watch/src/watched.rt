@@ -75,16 +75,18 @@ fn access_in(observations: &[Observation]) -> Option<Access>
 }
 
 /// The type of the trap that was seen.
+#[inline(always)]
 fn trap_in(observations: &[Observation]) -> Option<u8>
     ensures { result ≡ trap_in observations.now }
 {
-    match observations {
-        [] => None,
-        [first, rest @ ..] => match *first {
-            Observation::Trap(tt) => Some(tt),
-            _ => trap_in(rest),
-        },
+    let mut rest = observations;
+    while let [first, after @ ..] = rest {
+        if let Observation::Trap(tt) = *first {
+            return Some(tt);
+        }
+        rest = after;
     }
+    None
 }
 
 fn outcome_of(before: Before, runs: bool, trap: Option<u8>) -> Outcome

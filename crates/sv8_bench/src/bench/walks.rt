@@ -89,10 +89,24 @@ impl<const NW: usize, const PAGES: usize, const K: u32> Bench<NW, PAGES, K> {
         self.make_next::<false>(walk, watch)
     }
 
-    /// Has a walk stand where its next step can be made: on the record of the steps since the last checkpoint, where the
+    /// Whether a walk stands where its next step can be made: on the record of the steps since the last checkpoint, where the
     /// step is above that and another checkpoint can follow, else on the machine alone.
     #[inline(always)]
-    fn make_ready(&self, walk: &mut Walk<NW, PAGES>) -> Result<(), AllocError>
+    fn is_ready(&self, walk: &Walk<NW, PAGES>) -> bool
+        requires walk { IsWalk K self.now walk.now }
+        ensures { result ≡ true → IsReady K self.now walk.now.step walk.now.place }
+    {
+        let recorded = self.trace.recorded();
+        let has_room = recorded + K <= LAST_STEP;
+        match &walk.place {
+            Place::Restored(_) => walk.step < recorded || !has_room,
+            Place::Drafted(_) => has_room,
+        }
+    }
+
+    /// Has a walk stand there. Few steps need it.
+    #[inline(never)]
+    fn place(&self, walk: &mut Walk<NW, PAGES>) -> Result<(), AllocError>
         requires walk { IsWalk K self.now walk.old }
         ensures walk { OnOk result (IsWalk K self.now walk.new) }
         ensures step { OnOk result (walk.new.step ≡ walk.old.step) }
@@ -116,6 +130,21 @@ impl<const NW: usize, const PAGES: usize, const K: u32> Bench<NW, PAGES, K> {
                 walk.place = Place::Restored(machine);
             }
         }
+        Ok(())
+    }
+
+    /// The same, where it does not stand there.
+    #[inline(always)]
+    fn make_ready(&self, walk: &mut Walk<NW, PAGES>) -> Result<(), AllocError>
+        requires walk { IsWalk K self.now walk.old }
+        ensures walk { OnOk result (IsWalk K self.now walk.new) }
+        ensures step { OnOk result (walk.new.step ≡ walk.old.step) }
+        ensures ready { OnOk result (IsReady K self.now walk.new.step walk.new.place) }
+    {
+        if self.is_ready(walk) {
+            return Ok(());
+        }
+        self.place(walk)?;
         Ok(())
     }
 

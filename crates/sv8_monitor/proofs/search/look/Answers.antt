@@ -1,14 +1,16 @@
-use Rattle.std.proofs.Common.{◌≡◌, ◌∙◌, ◌+◌, ap, subst}
+use Rattle.std.proofs.Common.{◌≡◌, ◌∙◌, ◌+◌, Option, refl, ap, subst}
 use Rattle.sv8_cpu.specs.State.{State}
 use Rattle.sv8_watch.specs.Watched.{IsBefore}
 use Rattle.sv8_bench.specs.Kept.{Kept}
 use Rattle.sv8_bench.specs.Shown.{machine_state}
 use Rattle.sv8_bench.specs.Walks.{state_in}
+use Rattle.sv8_monitor.specs.declared.found.Found.{Found}
+use Rattle.sv8_monitor.specs.Search.{IsAdded}
 use Rattle.sv8_monitor.proofs.Searching.{looked_found}
 use Rattle.sv8_monitor.proofs.search.look.Goals as goal
 
-pub returns-clause-found : goal.returns-clause-found
-returns-clause-found g c =
+pub returns-clause-added : goal.returns-clause-added
+returns-clause-added g c =
     let kept = c.args.bench.now.kept in
     let n = c.args.walk.now.step in
     let s = machine_state kept n in
@@ -18,7 +20,8 @@ returns-clause-found g c =
     let walk = c.in_ok-walk_on.ensures.walk in
     let there : state_in c.walk_on.new.walk.place ≡ machine_state kept (n + 1) =
     walk.state ∙ ap (λ (k : Kept). machine_state k c.walk_on.new.walk.step) made.kept ∙ ap (machine_state kept) c.in_ok-walk_on.ensures.step in
-    looked_found kept n c.step-n.result c.timeline.result.now c.machine-2.result.now c.walk_on.new.watch.observations c.walk_on.new.watch.touches
-    c.args.conditions.now c.found_in-next.result c.step-n.ensures (c.timeline.ensures ∙ ap (λ (k : Kept). k.timeline) made.kept)
-    (c.machine-2.ensures ∙ there) c.in_ok-walk_on.ensures.observations c.in_ok-walk_on.ensures.touches
-    (c.found_in-next.ensures s before (c.as_slice.ensures.value ∙ c.requires.bytes))
+    let added = c.in_ok-rest.ensures s before (c.as_slice.ensures.value ∙ c.requires.bytes) in
+    subst (λ (o : Option Found). IsAdded o c.args.left c.args.found.now.items c.add_wanted.new.found.items c.in_ok-rest.rest)
+    (looked_found kept n c.step-n.result c.timeline.result.now c.machine-2.result.now c.walk_on.new.watch.observations c.walk_on.new.watch.touches
+    c.args.conditions.now _ c.step-n.ensures (c.timeline.ensures ∙ ap (λ (k : Kept). k.timeline) made.kept)
+    (c.machine-2.ensures ∙ there) c.in_ok-walk_on.ensures.observations c.in_ok-walk_on.ensures.touches refl) added

@@ -6,7 +6,7 @@ use Rattle.sv8_bench.specs.Shown.{machine_state}
 use Rattle.sv8_bench.specs.Workbench.{Workbench}
 use Rattle.sv8_bench.proofs.Queried.{last_is}
 use Rattle.sv8_bench.proofs.Walking.{placed_restored, at_the_last}
-use Rattle.sv8_bench.proofs.bench.Bench.make_ready.Goals as goal
+use Rattle.sv8_bench.proofs.bench.Bench.place.Goals as goal
 
 pub returns-in_ok-draft-in-Restored-clause-walk : goal.returns-in_ok-draft-in-Restored-clause-walk
 returns-in_ok-draft-in-Restored-clause-walk g c =
