@@ -1,7 +1,7 @@
 #!/usr/bin/env python3
-"""Writes crates/sv8_alu/src/table.rt: results of the integer arithmetic of SPARC V8 at the edges of the words.
+"""Writes crates/sv8_part_tests/src/table.rt: results of the integer arithmetic of SPARC V8 at the edges of the words.
 
-Usage: python3 tools/alu_table.py >crates/sv8_alu/src/table.rt, and then rt fmt in crates/sv8_alu.
+Usage: python3 tools/alu_table.py >crates/sv8_part_tests/src/table.rt, and then rt fmt in crates/sv8_part_tests.
 
 Nothing here is taken from the crate. The condition codes of sums and differences are the manual's formulas on bits 31
 (Appendix B.13 and B.15), where the crate's definitions speak of whole numbers; products and quotients are computed on

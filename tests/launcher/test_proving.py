@@ -56,10 +56,26 @@ class Proving(InRepository):
         self.fake(PROVES)
         first = self.sparc8("--windows", "4", given="list\n")
         self.assertEqual((first.returncode, first.stdout), (0, "words --windows 4\nlist\n"))
-        self.assertIn("crate 5 of 5, sparc8_monitor: proved, 15 functions; 0 minutes gone", first.stderr)
+        self.assertIn("crate 4 of 4, sparc8: proved, 12 functions; 0 minutes gone", first.stderr)
         again = self.sparc8("--windows", "4", given="list\n")
         self.assertEqual((again.returncode, again.stdout, again.stderr), (0, first.stdout, ""))
         self.assertEqual(self.calls(), ["ci"])
+        self.assert_nothing_left()
+
+    def test_each_program_is_proved_when_it_is_wanted(self) -> None:
+        self.fake(f"cat crates.txt >>{self.room}/listed\n{PROVES}")
+        self.sparc8(given="list\n")
+        self.assertIn("sparc8_monitor is not proved yet", self.sparc8("--check").stdout)
+        done = self.sparc8("-x", command=self.top / "sparc8_monitor")
+        self.assertEqual(done.returncode, 2)
+        done = self.sparc8(given="names\n", command=self.top / "sparc8_monitor")
+        self.assertEqual((done.returncode, done.stdout), (0, "words \nnames\n"))
+        self.assertIn("crate 3 of 3, sparc8_monitor: proved", done.stderr)
+        self.assertEqual(self.sparc8("--program").stderr, "")
+        self.assertNotIn("not proved yet", self.sparc8("--check").stdout)
+        workbench = "low: \nhigh: low\nside: \nsparc8: high side\n"
+        listed = (self.room / "listed").read_text(encoding="utf-8")
+        self.assertEqual(listed, workbench + "low: \nhigh: low\nsparc8_monitor: high\n")
         self.assert_nothing_left()
 
     def test_the_help_of_the_program_comes_first(self) -> None:

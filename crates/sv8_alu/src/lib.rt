@@ -11,10 +11,6 @@ mod division;
 mod families;
 mod laws;
 mod multiplication;
-#[cfg(test)]
-mod table;
-#[cfg(test)]
-mod tests;
 mod words;
 
 pub use addition::{add, sub, tagged_add, tagged_sub};

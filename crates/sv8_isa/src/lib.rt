@@ -5,8 +5,6 @@
 mod codec;
 mod instr;
 pub mod laws;
-#[cfg(test)]
-mod tests;
 mod word;
 
 pub use codec::{

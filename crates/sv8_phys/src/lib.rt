@@ -11,8 +11,6 @@ mod phys;
 mod ram;
 mod size;
 mod step_touches;
-#[cfg(test)]
-mod tests;
 mod timer;
 mod touch;
 mod watch;

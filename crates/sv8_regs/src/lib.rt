@@ -4,8 +4,6 @@
 
 mod laws;
 mod pil;
-#[cfg(test)]
-mod tests;
 
 ghost use Rattle.std.specs.Prelude.{◌≡◌, ◌≢◌, ◌<◌, ◌≤◌, ◌^◌, MatchBool};
 ghost use Rattle.sv8_model.specs.Words.{bit, digit};

@@ -12,8 +12,6 @@ mod pokes;
 mod refusal;
 mod requests;
 mod starts;
-#[cfg(test)]
-mod tests;
 mod timeline;
 mod words;
 

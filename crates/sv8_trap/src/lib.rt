@@ -6,8 +6,6 @@ mod entry;
 mod laws;
 mod processor;
 mod table;
-#[cfg(test)]
-mod tests;
 
 pub use entry::highest_level;
 pub use laws::{the_first_is_taken, worked_interrupts, worked_table, worked_traps};

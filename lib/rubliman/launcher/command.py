@@ -8,10 +8,14 @@ import subprocess
 import sys
 from collections.abc import Callable, Sequence
 from pathlib import Path
+from typing import TYPE_CHECKING
 
 from . import places
 from .problem import Interrupted, Problem, say
-from .sources import MONITOR, WORKBENCH
+from .sources import MONITOR, PROGRAMS, WORKBENCH
+
+if TYPE_CHECKING:
+    from .kept import Kept
 
 CANNOT_OPEN, READ_FAULT, FAULT = "cannot open script", "read fault", 3
 
@@ -99,7 +103,7 @@ def _kept_program(program: str = WORKBENCH) -> Path | None:
     from . import standing
 
     found = standing.now().kept
-    return found.program(program) if found else None
+    return found.program(program) if found and found.has([program]) else None
 
 
 def _proved_program(program: str = WORKBENCH) -> Path:
@@ -109,7 +113,15 @@ def _proved_program(program: str = WORKBENCH) -> Path:
         return found
     from . import standing
 
-    return standing.prove().program(program)
+    return standing.prove([program]).program(program)
+
+
+def _all_programs() -> Kept:
+    """All proved programs, proved and built now where need be."""
+    from . import standing
+
+    found = standing.now().kept
+    return found if found and found.has(PROGRAMS) else standing.prove()
 
 
 def _become(program: Path, words: Sequence[str]) -> int:
@@ -272,9 +284,9 @@ def _install(words: Sequence[str]) -> int:
     _in_repository("--install")
     if len(words) != 1 or words[0].startswith("-"):
         raise Problem("--install takes one word behind it, the folder to install below, as /usr/local", 2)
-    from . import installing, standing
+    from . import installing
 
-    installing.install(standing.now().kept or standing.prove(), Path(words[0]))
+    installing.install(_all_programs(), Path(words[0]))
     return 0
 
 
@@ -290,5 +302,5 @@ def _check(words: Sequence[str]) -> int:
 def _program(words: Sequence[str]) -> int:
     """Tells where the proved program is."""
     _no_more("--program", words)
-    print(_proved_program())
+    print(_all_programs().program())
     return 0

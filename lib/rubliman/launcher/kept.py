@@ -10,8 +10,8 @@ import json
 import os
 import shutil
 import tempfile
-from collections.abc import Mapping
-from dataclasses import asdict, dataclass
+from collections.abc import Iterable, Mapping
+from dataclasses import asdict, dataclass, replace
 from pathlib import Path
 
 from . import places
@@ -42,6 +42,10 @@ class Kept:
     def program(self, name: str = "sparc8") -> Path:
         """The path of a program."""
         return self.folder / name
+
+    def has(self, programs: Iterable[str]) -> bool:
+        """Whether these programs are among those that were kept."""
+        return all(it in self.record.programs for it in programs)
 
 
 def sum_of(path: Path) -> str:
@@ -80,9 +84,13 @@ def find(sources: str, toolchain: str | None) -> Kept | None:
 
 
 def keep(programs: Mapping[str, Path], record: Record) -> Kept:
-    """Keeps programs under their record, and lets the oldest of others go."""
+    """Keeps programs under their record, with those that were kept of the same sources, and lets the oldest of others go."""
     folder = _folder()
     folder.mkdir(parents=True, exist_ok=True)
+    before = find(record.sources, record.toolchain)
+    if before is not None:
+        programs = {it: before.program(it) for it in before.record.programs} | dict(programs)
+        record = replace(record, programs=before.record.programs | record.programs)
     with tempfile.TemporaryDirectory(prefix="new-", dir=folder) as room:
         made = Path(room) / "made"
         write(programs, record, made)

@@ -15,7 +15,7 @@ import os
 import re
 import shutil
 import tempfile
-from collections.abc import Callable, Iterator
+from collections.abc import Callable, Iterable, Iterator
 from dataclasses import dataclass
 from pathlib import Path
 
@@ -36,8 +36,9 @@ _KEPT = re.compile(r"rt: \w+ is kept: .*")
 
 @dataclass(frozen=True)
 class Asked:
-    """What is to be proved: the sources as they stand, their number, and the toolchain."""
+    """What is to be proved: the programs, their sources as they stand, the number of all sources, and the toolchain."""
 
+    programs: tuple[str, ...]
     sources: Sources
     fingerprint: str
     rt: str
@@ -57,7 +58,7 @@ def prove(asked: Asked) -> Kept:
     try:
         with running.interruptible(), _alone() as had_to_wait:
             found = kept.find(asked.fingerprint, asked.toolchain) if had_to_wait else None
-            return found or _prove(asked)
+            return found if found and found.has(asked.programs) else _prove(asked)
     except Interrupted:
         say("interrupted: what was proved so far is kept, and the next ./sparc8 goes on from there")
         raise
@@ -85,7 +86,7 @@ def _prove(asked: Asked) -> Kept:
     cores = len(os.sched_getaffinity(0))
     progress, way = Progress(tasks, cores), BY_GATE
     say(
-        f"proving and building the program: {progress.whole()} on {cores} processors, "
+        f"proving and building {' and '.join(asked.programs)}: {progress.whole()} on {cores} processors, "
         f"where nothing of it was proved on this machine"
     )
     with tempfile.TemporaryDirectory(prefix="work-", dir=places.cache(), ignore_cleanup_errors=True) as room:
@@ -164,7 +165,7 @@ def _by_gate(asked: Asked, room: Path, progress: Progress) -> dict[str, Path]:
                 raise
             # The proof is all that a run needs. That a test fails, say, is for the gate to judge.
             say("\n".join(["every crate is proved, but the toolchain refuses something else; it said:", *refused.said]))
-    return built(copy)
+    return built(copy, asked.programs)
 
 
 def write_copy(sources: Sources, copy: Path) -> None:
@@ -191,12 +192,12 @@ def _by_run(asked: Asked, top: Path, progress: Progress) -> dict[str, Path]:
     The toolchain reads the sources themselves, so they may not be touched meanwhile, not even to what they were.
     """
     times = _touched(asked.sources)
-    for name in PROGRAMS:
+    for name in asked.programs:
         _ran([asked.rt, "run"], top / "crates" / name, toolchain.environment(), progress, progress.tick)
     _stop_where_changed(asked)
     if _touched(asked.sources) != times:
         raise Problem("a source was touched while it was being proved: run this again")
-    return built(top)
+    return built(top, asked.programs)
 
 
 def _touched(sources: Sources) -> dict[str, tuple[int, int]]:
@@ -205,9 +206,9 @@ def _touched(sources: Sources) -> dict[str, tuple[int, int]]:
     return {path: (it.st_ctime_ns, it.st_ino) for path, it in found.items()}
 
 
-def built(top: Path) -> dict[str, Path]:
+def built(top: Path, programs: Iterable[str] = PROGRAMS) -> dict[str, Path]:
     """The programs that the toolchain has built below a folder."""
-    made = {name: top / "crates" / name / "out" / name for name in PROGRAMS}
+    made = {name: top / "crates" / name / "out" / name for name in programs}
     for name, path in made.items():
         if not path.is_file():
             raise Problem(f"the toolchain ended well, but built no {name}")

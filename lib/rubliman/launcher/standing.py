@@ -1,13 +1,14 @@
 """What stands here: which sources, by which toolchain, and whether they are proved."""
 from __future__ import annotations
 
+from collections.abc import Sequence
 from dataclasses import dataclass
 
 from . import kept, places, proving, toolchain
 from .kept import Kept
 from .problem import Problem
 from .proving import Asked
-from .sources import Sources, read_sources
+from .sources import PROGRAMS, Sources, read_sources
 
 
 @dataclass(frozen=True)
@@ -37,6 +38,7 @@ class Standing:
             record = self.kept.record
             lines.append(f"proved     yes, by {record.proved_by} of {record.toolchain}, at {record.proved_at}")
             lines += [f"program    {self.kept.program(name)}" for name in record.programs]
+            lines += [f"program    {it} is not proved yet" for it in PROGRAMS if it not in record.programs]
         return "\n".join(lines) + "\n"
 
 
@@ -62,8 +64,9 @@ def _toolchain() -> str | None:
         return None
 
 
-def prove() -> Kept:
-    """Proves what stands here, and keeps it. Raises `Problem` where the toolchain is not there."""
+def prove(programs: Sequence[str] = PROGRAMS) -> Kept:
+    """Proves these programs as they stand here, and keeps them. Raises `Problem` where the toolchain is not there."""
     rt = toolchain.wanted("the program has yet to be proved and built")
-    sources = read_sources(places.TOP)
-    return proving.prove(Asked(sources, sources.fingerprint(), rt, toolchain.identity(rt)))
+    fingerprint = read_sources(places.TOP).fingerprint()
+    asked = Asked(tuple(programs), read_sources(places.TOP, programs), fingerprint, rt, toolchain.identity(rt))
+    return proving.prove(asked)

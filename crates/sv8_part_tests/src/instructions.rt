@@ -1,22 +1,24 @@
 //! Words whose meaning comes from GNU as 2.40 (`-32 -Av8`) and from the manual's Appendix B.
 
-use crate::ArithOp::{Add, Addx, And, Andn, Or, Orn, Sdiv, Smul, Sub, Subx, Udiv, Umul, Xnor, Xor};
-use crate::Cond::{
+use std::test::Fail;
+use sv8_isa::ArithOp::{
+    Add, Addx, And, Andn, Or, Orn, Sdiv, Smul, Sub, Subx, Udiv, Umul, Xnor, Xor,
+};
+use sv8_isa::Cond::{
     Always, CarryClear, CarrySet, Equal, Greater, GreaterOrEqual, GreaterUnsigned, Less,
     LessOrEqual, LessOrEqualUnsigned, Negative, Never, NotEqual, OverflowClear, OverflowSet,
     Positive,
 };
-use crate::Instr::{AltImm, Cp, Fp, Illegal};
-use crate::MemoryOp::{Ld, Ldd, Ldsb, Ldsh, Ldstub, Ldub, Lduh, St, Stb, Std, Sth, Swap};
-use crate::Operand::{Immediate, Register};
-use crate::ShiftOp::{Sll, Sra, Srl};
-use crate::StateRegister::{Psr, Tbr, Wim, Y};
-use crate::TaggedOp::{TaddCc, TaddCcTv, TsubCc, TsubCcTv};
-use crate::{
+use sv8_isa::Instr::{AltImm, Cp, Fp, Illegal};
+use sv8_isa::MemoryOp::{Ld, Ldd, Ldsb, Ldsh, Ldstub, Ldub, Lduh, St, Stb, Std, Sth, Swap};
+use sv8_isa::Operand::{Immediate, Register};
+use sv8_isa::ShiftOp::{Sll, Sra, Srl};
+use sv8_isa::StateRegister::{Psr, Tbr, Wim, Y};
+use sv8_isa::TaggedOp::{TaddCc, TaddCcTv, TsubCc, TsubCcTv};
+use sv8_isa::{
     Instr, decode, decode_arithmetic, decode_call, decode_format_2, decode_memory,
     decode_three_fields, encode,
 };
-use std::test::Fail;
 
 /// An instruction, from its fields in the order of `Instr`.
 macro_rules! instruction {

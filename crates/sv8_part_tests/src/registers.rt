@@ -2,7 +2,7 @@
 
 ghost use Rattle.std.specs.Prelude.{◌<◌, ◌≤◌};
 
-use super::*;
+use sv8_regs::{Pil, Psr, Regs};
 
 /// Whether each in is the out of the window above, once every out and local holds a number of its own.
 fn ring_overlaps<const NW: usize>() -> bool

@@ -1,7 +1,7 @@
 //! The choice among traps.
 
-use super::*;
 use std::test::Fail;
+use sv8_trap::{Trap, select};
 
 #[test]
 fn the_lowest_priority_number_is_taken(rt: HostRuntime) -> Result<(), Fail> {

@@ -3,9 +3,9 @@
 ghost use Rattle.std.specs.Prelude.{◌≡◌, ◌%◌};
 ghost use Rattle.sv8_phys.specs.Memory.{bytes_in};
 
-use super::*;
 use std::alloc::{AllocError, Global};
 use std::test::Fail;
+use sv8_phys::*;
 use sv8_time::Timeline;
 
 /// Keeps what a step tells.

@@ -1,7 +1,7 @@
 //! Timelines at their bounds, with answers worked out by hand.
 
-use super::*;
 use std::alloc::Global;
+use sv8_time::{TimeFault, Timeline};
 
 /// An edit of a timeline.
 #[derive(Clone, Copy)]

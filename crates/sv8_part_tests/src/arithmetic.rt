@@ -1,7 +1,7 @@
 //! Every operation at the edges, against a table that another program made from the manual's text.
 
-use super::*;
 use crate::table::{LOGIC, PRODUCTS, QUOTIENTS, SHIFTS, STEPS, SUMS, TAGGED};
+use sv8_alu::*;
 
 /// The icc field as a number, with N the highest of its four bits.
 fn field(icc: Icc) -> u32 {
