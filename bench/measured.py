@@ -2,6 +2,7 @@
 import os
 import subprocess
 import sys
+import threading
 import time
 from pathlib import Path
 
@@ -87,6 +88,19 @@ class Workbench:
                 sys.exit(f"{lines.splitlines()[0]}: {answer.decode()}")
             if answer == b"ok\n":
                 return (time.perf_counter() - begin) * 1000
+
+    def ask_all(self, commands):
+        """The milliseconds until each of several commands, which are sent at once, has its answer."""
+        text = "".join(f"{it}\n" for it in commands).encode()
+        begin = time.perf_counter()
+        sender = threading.Thread(target=lambda: (self.process.stdin.write(text), self.process.stdin.flush()))
+        sender.start()
+        for _ in commands:
+            while (answer := self.process.stdout.readline()) != b"ok\n":
+                if not answer or answer.startswith(b"refused"):
+                    sys.exit(f"{commands[0].splitlines()[0]}, ..: {answer.decode()}")
+        sender.join()
+        return (time.perf_counter() - begin) * 1000
 
     def told(self, line):
         """The lines of an answer."""

@@ -3,24 +3,22 @@ from __future__ import annotations
 
 import re
 import unittest
-from pathlib import Path
 
-TOP = Path(__file__).resolve().parents[2]
+from docs.support import TOP, rows, words_of
+
 SECTION = re.compile(r"^### ((?:\w+, )*\w+): .*?$(.*?)(?=^##|\Z)", re.MULTILINE | re.DOTALL)
 NAME = re.compile(r"`([A-Za-z_][\w:]*)`")
 
 
-def words_of(crate: str) -> set[str]:
+def words_of_crate(crate: str) -> set[str]:
     """Every word of a crate's code and definitions."""
     folder = TOP / "crates" / crate
-    files = [*folder.glob("src/**/*.rt"), *folder.glob("specs/**/*.antt")]
-    return {word for file in files for word in re.findall(r"\w+", file.read_text())}
+    return words_of([*folder.glob("src/**/*.rt"), *folder.glob("specs/**/*.antt")])
 
 
 def carriers(section: str) -> set[str]:
     """The names in the last column of a section's table, a method's without its type."""
-    rows = [line for line in section.splitlines() if line.startswith("| ")]
-    return {name.rpartition("::")[2] for row in rows for name in NAME.findall(row.rstrip(" |").rpartition(" | ")[2])}
+    return {name.rpartition("::")[2] for row in rows(section) for name in NAME.findall(row[-1])}
 
 
 class Proved(unittest.TestCase):
@@ -28,7 +26,7 @@ class Proved(unittest.TestCase):
         sections = SECTION.findall((TOP / "docs/PROVED.md").read_text())
         self.assertGreater(len(sections), 15)
         for head, section in sections:
-            names, words = carriers(section), set().union(*(words_of(crate) for crate in head.split(", ")))
+            names, words = carriers(section), set().union(*(words_of_crate(crate) for crate in head.split(", ")))
             with self.subTest(crates=head):
                 strange = (name for name in names - words if not name.startswith("sv8_"))
                 self.assertEqual(sorted(strange), [])

@@ -212,7 +212,7 @@ class Proving(InRepository):
         self.assertIn("names no toolchain", done.stderr)
 
     def test_the_page_that_is_named_is_there(self) -> None:
-        self.assertIn("**What it needs.**", (TOP / "README.md").read_text(encoding="utf-8"))
+        self.assertIn("## What it needs", (TOP / "README.md").read_text(encoding="utf-8"))
 
     def test_a_second_one_waits_and_takes_what_the_first_proved(self) -> None:
         begun, go = self.room / "begun", self.room / "go"
