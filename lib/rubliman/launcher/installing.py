@@ -58,7 +58,7 @@ def _install_pages(share: Path) -> None:
     """The manual pages, each in its section's folder, and the user's guide."""
     for page in sorted(MANUAL.glob("*.[1-9]")):
         _put(page, share / "man" / f"man{page.suffix[1:]}" / page.name, 0o644)
-    for name in ("COMMANDS.md", "MONITOR.md", "PAGE.md", "GDB.md", "ASSEMBLER.md", "IMPORT.md"):
+    for name in ("COMMANDS.md", "MONITOR.md", "PAGE.md", "GDB.md", "ASSEMBLER.md", "IMPORT.md", "LIMITS.md"):
         _put(places.TOP / "docs" / name, share / "doc" / "rubliman" / name, 0o644)
 
 
