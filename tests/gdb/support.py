@@ -5,17 +5,15 @@ import os
 import re
 import select
 import shlex
-import shutil
 import subprocess
 import sys
 import tempfile
-import textwrap
 import time
-from collections.abc import Sequence
 from collections.abc import Sequence
 from pathlib import Path
 from types import TracebackType
 
+from docs.blocks import Kind, blocks
 from rubliman.gdb.command import words_of_gdb
 from rubliman.launcher.words import read
 
@@ -135,12 +133,10 @@ class Packets:
 
 def build(folder: Path) -> None:
     """Builds the C program in a folder, and imports it, by the commands of the guide."""
-    for it in ("lib", "sparc8"):
+    for it in ("lib", "sparc8", "tests"):
         (folder / it).symlink_to(TOP / it)
-    shutil.copy(PROGRAMS / f"{C_PROGRAM}.c", folder)
-    blocks = GUIDE.read_text(encoding="utf-8").split("\n\n")
-    block = next(it for it in blocks if f"--import {C_PROGRAM}.elf" in it)
-    *commands, last = textwrap.dedent(block).splitlines()
+    block = next(it for it in blocks(GUIDE, Kind.SH) if f"--import {C_PROGRAM}.elf" in it.text)
+    *commands, last = block.lines
     assert last == f"./sparc8 --gdb {C_PROGRAM}.txt -- {C_PROGRAM}.elf", last
     subprocess.run(["sh", "-ec", "\n".join(commands)], cwd=folder, check=True, stderr=subprocess.DEVNULL)
 

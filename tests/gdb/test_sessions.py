@@ -12,6 +12,7 @@ import unittest
 from collections.abc import Callable
 from pathlib import Path
 
+from docs.blocks import Kind, blocks
 from gdb.support import C_PROGRAM, GUIDE, PROMPT, build, session
 
 SESSIONS = Path(__file__).with_name("sessions")
@@ -37,9 +38,10 @@ class Sessions(unittest.TestCase):
     maxDiff = None
 
     def test_the_guide_has_the_same_ones(self) -> None:
-        lines = [it.removeprefix("    ") for it in GUIDE.read_text(encoding="utf-8").splitlines()]
+        found = [it.text for it in blocks(GUIDE, Kind.GDB)]
         for name in IN_GUIDE:
-            self.assertIn((SESSIONS / f"{name}.txt").read_text(encoding="utf-8"), "\n".join(lines))
+            with self.subTest(session=name):
+                self.assertIn((SESSIONS / f"{name}.txt").read_text(encoding="utf-8"), found)
 
 
 def compared(file: Path) -> Callable[[Sessions], None]:
