@@ -11,6 +11,17 @@ from .problem import Problem, say
 from .sources import PROGRAMS
 
 MANUAL = places.TOP / "docs" / "man"
+# The pages of the user's guide. They link to each other.
+GUIDE = (
+    "TUTORIAL.md",
+    "COMMANDS.md",
+    "ASSEMBLER.md",
+    "MONITOR.md",
+    "PAGE.md",
+    "GDB.md",
+    "IMPORT.md",
+    "LIMITS.md",
+)
 _LEFT_OUT = shutil.ignore_patterns("__pycache__", "*.pyc")
 
 
@@ -58,7 +69,7 @@ def _install_pages(share: Path) -> None:
     """The manual pages, each in its section's folder, and the user's guide."""
     for page in sorted(MANUAL.glob("*.[1-9]")):
         _put(page, share / "man" / f"man{page.suffix[1:]}" / page.name, 0o644)
-    for name in ("COMMANDS.md", "MONITOR.md", "PAGE.md", "GDB.md", "ASSEMBLER.md", "IMPORT.md", "LIMITS.md"):
+    for name in GUIDE:
         _put(places.TOP / "docs" / name, share / "doc" / "rubliman" / name, 0o644)
 
 
