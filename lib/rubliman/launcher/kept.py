@@ -84,7 +84,7 @@ def find(sources: str, toolchain: str | None) -> Kept | None:
 
 
 def keep(programs: Mapping[str, Path], record: Record) -> Kept:
-    """Keeps programs under their record, with those that were kept of the same sources, and lets the oldest of others go."""
+    """Keeps programs with those that were kept of the same sources, and lets the oldest of others go."""
     folder = _folder()
     folder.mkdir(parents=True, exist_ok=True)
     before = find(record.sources, record.toolchain)
