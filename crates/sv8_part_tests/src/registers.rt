@@ -240,7 +240,7 @@ fn each_field_counts(base: &Regs<3>) -> bool {
     let mut holds = true;
     for word in words {
         let mut changed = base.copy();
-        changed.set_psr(unpacked(word));
+        changed.set_psr_word(word);
         holds = holds && is_seen(base, &changed);
     }
     holds
