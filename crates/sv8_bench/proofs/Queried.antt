@@ -1,7 +1,7 @@
 -- Queries: how the record grows, the steps behind its last checkpoint, and how many of both are made.
 use Rattle.std.proofs.Common.{◌≡◌, ◌∙◌, [], ◌∷◌, le-ltb, ℕ, zero, suc, ◌+◌, ◌-◌, ◌*◌, ◌/◌, ◌%◌, ◌<◌, ◌≤◌, ◌⊎◌, inl, inr, min, max, length, get_or, refl, sym, ap, arith, subst}
 use Rattle.std.proofs.lemmas.Bool.{cases_lt}
-use Rattle.std.proofs.Math.Nat.{div-lt_iff_lt-mul, le-div_iff_mul-le, mul_comm, mul-le-mul_left, add-zero, add-suc, mul-div_cancel_left, div-add-mod}
+use Rattle.std.proofs.Math.Nat.{div-lt_iff_lt-mul, le-div_iff_mul-le, mul_comm, mul-le-mul_left, add-zero, add-suc, mul-div_cancel_left, div-add-mod, div-le_of_le-mul}
 use Rattle.sv8_time.specs.Schedule.{Schedule, bytes_below}
 use Rattle.sv8_history.specs.Machine.{Run, state_at}
 use Rattle.sv8_history.specs.Growing.{extended, restored, steps_from}
@@ -161,6 +161,17 @@ module _ (k : ℕ) (pos : 0 < k) (kept : Kept) where
     -- a checkpoint is the state of its step
     pub point_is : (i : ℕ) → i ≤ length recording.intervals → (trace_of kept.windows kept.pages k recording).point (k * i) ≡ machine_state kept (k * i)
     point_is i h = run.record_is.trace.points i h ∙ state_is kept.windows kept.pages kept.source kept.timeline run.events (k * i)
+
+    -- so is the one from which a query of its own step goes on
+    pub point_at : (n : ℕ) → n ≤ k * length recording.intervals → n % k ≡ 0
+        → (trace_of kept.windows kept.pages k recording).point (restored k (length recording.intervals) n) ≡ machine_state kept n
+    point_at n within whole =
+        let count = length recording.intervals in
+        let least : n / k ≤ count = div-le_of_le-mul k within in
+        let parts = div-add-mod n k in
+        let here : min count (n / k) ≡ n / k = omega (arith, least) in
+        point_is (min count (n / k)) (omega arith) ∙ ap (λ (i : ℕ). machine_state kept (k * i)) here
+        ∙ ap (machine_state kept) (omega (arith, parts, whole))
 
     -- so is the last one
     pub last_is : last_point recording ≡ machine_state kept (recorded k recording)

@@ -15,3 +15,4 @@ pub mod Faults
 pub mod ConditionLemmas
 pub mod Poked
 pub mod Counted
+pub mod Running

@@ -66,7 +66,7 @@ module _ (k : Kept) (cs : List Condition) where
 -- ---- what is seen of a step
 
 -- the state behind it
-next_state : (kept : Kept) (n : ℕ) → machine_state kept (n + 1) ≡ step kept.windows kept.pages kept.timeline n (machine_state kept n)
+pub next_state : (kept : Kept) (n : ℕ) → machine_state kept (n + 1) ≡ step kept.windows kept.pages kept.timeline n (machine_state kept n)
 unfolding steps
 next_state kept n =
     let more : n + 1 ≡ suc n = omega arith in

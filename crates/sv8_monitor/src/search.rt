@@ -4,10 +4,12 @@ ghost use Rattle.std.specs.Prelude.{◌≡◌, ◌⊎◌, ℕ, ◌+◌, ◌-◌,
 ghost use Rattle.std.specs.List.{list_any};
 ghost use Rattle.sv8_bench.specs.Faults.{IsQueryFault};
 ghost use Rattle.sv8_monitor.specs.Answers.{steps_refusal};
+ghost use Rattle.sv8_model.specs.Footprint.{expires};
 ghost use Rattle.sv8_phys.specs.Memory.{ram_size};
 ghost use Rattle.sv8_cpu.specs.State.{State};
 ghost use Rattle.sv8_watch.specs.declared.condition.Condition.TheVariants as condition;
 ghost use Rattle.sv8_watch.specs.Conditions.{is_met, meets, bytes_from};
+ghost use Rattle.sv8_watch.specs.Happening.{happened};
 ghost use Rattle.sv8_watch.specs.Watched.{IsBefore, happening_of};
 ghost use Rattle.sv8_bench.specs.Shown.{machine_state};
 ghost use Rattle.sv8_bench.specs.Walks.{IsWalk, IsMade, IsUnmade};
@@ -19,6 +21,7 @@ use std::alloc::AllocError;
 use sv8_bench::{Bench, BenchFault, LAST_STEP, Walk};
 use sv8_cpu::Machine;
 use sv8_phys::Watch;
+use sv8_time::Timeline;
 use sv8_watch::{Before, Condition, MadeStep};
 
 /// How many bytes a condition compares.
@@ -91,6 +94,7 @@ fn look_at_old<const NW: usize, const PAGES: usize>(
 }
 
 /// The same after a step. Conditions that compare no bytes are not looked at.
+#[inline(always)]
 fn look_again<const NW: usize, const PAGES: usize>(
     old: &mut Vec<u8>,
     conditions: &[Condition],
@@ -111,6 +115,7 @@ fn look_again<const NW: usize, const PAGES: usize>(
 }
 
 /// Whether a step meets one of some conditions. `old` are the bytes that they compare with those of the machine behind it.
+#[inline(always)]
 fn is_any_met<const NW: usize, const PAGES: usize>(
     step: &MadeStep<'_, NW, PAGES>,
     conditions: &[Condition],
@@ -172,11 +177,18 @@ fn add<const NW: usize, const PAGES: usize>(
     Ok(())
 }
 
-/// The same, where it is wanted; answers how many more may follow, of so many.
-#[inline(always)]
+/// The same, where it is wanted; answers how many more may follow, of so many. Step n was made under the timeline from the
+/// machine of which `before` was kept, led to the machine `after`, and has its notes in `watch`.
+///
+/// It is a function of its own, and the step is put together in it, so that no large value stands in the loop of a search.
+#[inline(never)]
 fn add_wanted<const NW: usize, const PAGES: usize>(
     found: &mut Vec<Found>,
-    step: &MadeStep<'_, NW, PAGES>,
+    n: u32,
+    timeline: &Timeline,
+    before: &Before,
+    after: &Machine<NW, PAGES>,
+    watch: &Watch,
     conditions: &[Condition],
     old: &[u8],
     left: u32,
@@ -186,14 +198,21 @@ fn add_wanted<const NW: usize, const PAGES: usize>(
     requires some { 0 < left }
     requires inside { are_inside (ram_size PAGES) conditions.now ≡ true }
     requires count { length old.now ≡ olds_count conditions.now }
-    ensures { IfOk result (λ rest. (before : State) → IsBefore before step.now.before → old.now ≡ olds_of conditions.now before.memory.ram
-        → IsAdded (found_if (any_met step.now.n before step.now.after.now (happening_of before step.now) step.now.watch.now.touches conditions.now)
-        (record { step = step.now.n; happening = happening_of before step.now })) left found.old.items found.new.items rest) }
+    ensures { IfOk result (λ rest. (s : State) → IsBefore s before.now → old.now ≡ olds_of conditions.now s.memory.ram
+        → IsAdded (found_if (any_met n s after.now (happened timeline.now n s after.now watch.now.observations (expires watch.now.touches)) watch.now.touches conditions.now)
+        (record { step = n; happening = happened timeline.now n s after.now watch.now.observations (expires watch.now.touches) })) left found.old.items found.new.items rest) }
 {
-    if !is_wanted(step, conditions, old) {
+    let step = MadeStep {
+        n,
+        timeline,
+        before: *before,
+        after,
+        watch,
+    };
+    if !is_wanted(&step, conditions, old) {
         return Ok(left);
     }
-    add(found, *step)?;
+    add(found, step)?;
     Ok(left - 1)
 }
 
@@ -232,14 +251,17 @@ fn look<const NW: usize, const PAGES: usize, const K: u32>(
     let n = walk.step();
     let before = Before::of(walk.machine());
     bench.walk_on(walk, watch)?;
-    let step = MadeStep {
+    let rest = add_wanted(
+        found,
         n,
-        timeline: bench.timeline(),
-        before,
-        after: walk.machine(),
+        bench.timeline(),
+        &before,
+        walk.machine(),
         watch,
-    };
-    let rest = add_wanted(found, &step, conditions, old.as_slice(), left)?;
+        conditions,
+        old.as_slice(),
+        left,
+    )?;
     look_again(old, conditions, walk.machine())?;
     Ok(rest)
 }
@@ -332,6 +354,18 @@ fn touches_none<const NW: usize, const PAGES: usize, const K: u32>(
     }
 }
 
+/// Whether the record shows that no step of a range leads to error mode: the machine runs at its end.
+fn errs_none<const NW: usize, const PAGES: usize, const K: u32>(
+    bench: &Bench<NW, PAGES, K>,
+    to: u32,
+) -> bool
+    ensures none { result ≡ true → (n : ℕ) → n < to
+        → meets bench.now.kept.windows bench.now.kept.pages bench.now.kept.timeline n (machine_state bench.now.kept n) condition.Error ≡ false }
+    ensures recorded { result ≡ true → to / K ≤ checkpoints bench.now }
+{
+    bench.is_running_at(to)
+}
+
 /// Whether the recorded run shows that no step of a range meets a condition.
 fn shows_none<const NW: usize, const PAGES: usize, const K: u32>(
     bench: &Bench<NW, PAGES, K>,
@@ -346,6 +380,7 @@ fn shows_none<const NW: usize, const PAGES: usize, const K: u32>(
 {
     match condition {
         Condition::Pc(address) => reaches_none(bench, address, from, to),
+        Condition::Error => errs_none(bench, to),
         _ => touches_none(bench, condition, from, to),
     }
 }

@@ -336,6 +336,10 @@ there ps ls ms points i is h = let n = ap length is in omega (arith, n, length-o
 pub in_taken : (ms : List (Rc State Global)) (i : ℕ) → i < length ms → i < length (taken ms)
 in_taken ms i h = omega (arith, h, taken_long ms)
 
+-- no edit of a checkpoint changes whether its machine runs
+pub runs_overlaid : (ps : Pages) (ls : Levels) (ms : List State) (i : ℕ) → i < length ms → (get_or ms i blank).processor.running ≡ (get_or (all_overlaid ps ls 0 ms) i blank).processor.running
+runs_overlaid ps ls ms i h = ap (λ (s : State). s.processor.running) (sym (get-overlaid ps ls ms i h))
+
 -- ---- what is seen of a checkpoint
 
 pub all_but_first : {X : Type 0} (xs ys : List X) → xs ≡ ys → take (length xs - 1) (drop 1 xs) ≡ drop 1 ys

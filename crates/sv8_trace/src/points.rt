@@ -123,6 +123,14 @@ impl<const NW: usize, const PAGES: usize> Points<NW, PAGES> {
         byte_under(column, index, taken, address)
     }
 
+    /// Whether the machine of a checkpoint runs.
+    pub(crate) fn is_running(&self, index: usize) -> bool
+        requires { index < length self.now }
+        ensures { result ≡ (slice_index_or self.now index blank).processor.running }
+    {
+        self.machines[index].is_running()
+    }
+
     /// Whether a level is pending in a checkpoint.
     pub(crate) fn is_pending(&self, index: usize, level: Level) -> bool
         requires { index < length self.now }

@@ -106,6 +106,15 @@ impl<const NW: usize, const PAGES: usize, const K: u32> Trace<NW, PAGES, K> {
         Ok(machine)
     }
 
+    /// Whether the machine of the last checkpoint that is not above a step runs.
+    pub fn is_running(&self, step: u32) -> bool
+        ensures { result ≡ ((trace_of NW PAGES K self.now).point (restored K (length self.now.intervals) step)).processor.running }
+    {
+        let count = self.intervals.len();
+        let index = count.min((step / K) as usize);
+        self.points.is_running(index)
+    }
+
     /// Makes the next `K` steps from the last checkpoint, under a timeline, and records them. `work` counts them.
     ///
     /// # Errors

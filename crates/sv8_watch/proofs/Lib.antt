@@ -1,3 +1,4 @@
 pub mod Places
 pub mod Standing
 pub mod Sparing
+pub mod Running

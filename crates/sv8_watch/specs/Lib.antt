@@ -2,3 +2,4 @@ pub mod Happening
 pub mod Conditions
 pub mod Watched
 pub mod Touching
+pub mod Running

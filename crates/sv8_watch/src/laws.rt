@@ -1,5 +1,6 @@
 //! Laws of the conditions, each a function that does nothing and whose contract is the law.
 
+ghost use Rattle.sv8_watch.specs.Running.{RunningStepsMiss};
 ghost use Rattle.sv8_watch.specs.Touching.{SparedStepsMiss, SparedPcsMiss};
 
 /// A step that touches no word of the bytes of a condition, and whose events poke none of them, does not meet it: an access in RAM
@@ -14,4 +15,11 @@ pub fn spared_steps_miss()
 /// state before it.
 pub fn spared_pcs_miss()
     ensures { SparedPcsMiss }
+{}
+
+/// Where the machine runs after a step, it ran before it, and the step does not lead to error mode.
+///
+/// So a search for `Error` may pass over all steps up to one before which the machine runs.
+pub fn running_steps_miss()
+    ensures { RunningStepsMiss }
 {}

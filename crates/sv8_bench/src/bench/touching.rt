@@ -1,11 +1,13 @@
-//! Whether recorded steps leave bytes of RAM alone, or reach no instruction there.
+//! What the recorded run shows of a range of its steps, without making one of them.
 
-ghost use Rattle.std.specs.Prelude.{◌≡◌, ◌+◌, ◌≤◌, MatchBool};
+ghost use Rattle.std.specs.Prelude.{◌≡◌, ◌+◌, ◌/◌, ◌≤◌, true, MatchBool};
 ghost use Rattle.sv8_time.specs.Words.{poked_bytes, bytes_of_words};
 ghost use Rattle.sv8_cpu.specs.Touching.{is_within, pokes_any};
 ghost use Rattle.sv8_trace.specs.Touching.{NoneTouches};
 ghost use Rattle.sv8_trace.specs.Translating.{NoneTranslates};
+ghost use Rattle.sv8_bench.specs.Shown.{machine_state};
 ghost use Rattle.sv8_bench.specs.Touching.{NonePokes, IsUntouched, IsUnreached};
+ghost use Rattle.sv8_bench.specs.Workbench.{checkpoints};
 
 use crate::bench::Bench;
 use sv8_time::{Timeline, WordPoke};
@@ -90,5 +92,18 @@ impl<const NW: usize, const PAGES: usize, const K: u32> Bench<NW, PAGES, K> {
     {
         self.is_untouched(address, INSTRUCTION_SIZE, from, to)
             && self.trace.is_untranslated(from, to)
+    }
+
+    /// Whether the record shows that the machine runs at a step; it shows it of checkpoints. It makes no step.
+    ///
+    /// No step below then leads to error mode (`running_steps_miss` of `sv8_watch`).
+    pub fn is_running_at(&self, step: u32) -> bool
+        ensures running { result ≡ true → (machine_state self.now.kept step).processor.running ≡ true }
+        ensures recorded { result ≡ true → step / K ≤ checkpoints self.now }
+    {
+        if self.trace.recorded() < step {
+            return false;
+        }
+        step % K == 0 && self.trace.is_running(step)
     }
 }
