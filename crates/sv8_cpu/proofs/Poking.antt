@@ -3,10 +3,11 @@ use Rattle.std.proofs.Common.{◌≡◌, ◌∙◌, ℕ, ◌+◌, ◌%◌, List,
 use Rattle.std.specs.List.{slice_index_or}
 use Rattle.sv8_time.specs.declared.words.WordPoke.{WordPoke}
 use Rattle.sv8_time.specs.Order.{Each}
-use Rattle.sv8_time.specs.Schedule.{BytePoke}
+use Rattle.sv8_time.specs.Schedule.{BytePoke, Schedule, pokes_of_step, requests_of_step}
 use Rattle.sv8_time.specs.Words.{IsWordIn, poked_from, poked_bytes, bytes_of_words}
+use Rattle.sv8_phys.specs.Contents.{Contents}
 use Rattle.sv8_phys.specs.Memory.{ram_size}
-use Rattle.sv8_cpu.specs.Events.{poked}
+use Rattle.sv8_cpu.specs.Events.{poked, marked, with_events}
 use Rattle.sv8_cpu.specs.WordPokes.{byte_poked, word_poked, words_poked, AreInside}
 
 poked_append : (ps qs : List BytePoke) (ram : List ℕ) → poked (ps ++ qs) ram ≡ poked qs (poked ps ram)
@@ -48,3 +49,10 @@ whole pages = omega arith
 pub are_inside : (pages : ℕ) (ws : List WordPoke) → Each (IsWordIn (ram_size pages)) ws → AreInside (ram_size pages) ws
 are_inside pages [] h = tt
 are_inside pages (w ∷ ws) h = (h.0.word_inside (whole pages), are_inside pages ws h.1)
+
+-- Nothing happens at a step without pokes and requests.
+pub quiet : (s : Schedule) (n : ℕ) (m : Contents) → pokes_of_step n s.pokes ≡ [] → requests_of_step n s.requests ≡ [] → m ≡ with_events s n m
+unfolding with_events
+quiet s n m pokes requests =
+    ap (λ ps. record m { ram = poked ps m.ram; pending = marked [] m.pending }) (sym pokes)
+    ∙ ap (λ rs. record m { ram = poked (pokes_of_step n s.pokes) m.ram; pending = marked rs m.pending }) (sym requests)

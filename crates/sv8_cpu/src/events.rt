@@ -93,14 +93,10 @@ fn poke_events<const PAGES: usize>(
     }
 }
 
-/// Makes the events of step n happen in memory.
-///
-/// # Errors
-///
-/// `AllocError` where memory for a page that is shared cannot be had; some events may have happened then.
-#[inline(always)]
+/// Makes the events of step n happen in memory, where there may be some.
+#[inline(never)]
 #[tactic(auto, using(crate::proofs::Poking::are_inside, crate::proofs::Poking::poked_words), unfolding(crate::specs::Events::with_events))]
-pub fn happen<const PAGES: usize>(
+fn happen_at<const PAGES: usize>(
     phys: &mut Phys<PAGES>,
     buffer: &mut Buffer,
     n: u32,
@@ -116,13 +112,36 @@ pub fn happen<const PAGES: usize>(
     Ok(())
 }
 
+/// Makes the events of step n happen in memory.
+///
+/// # Errors
+///
+/// `AllocError` where memory for a page that is shared cannot be had; some events may have happened then.
+#[inline(always)]
+#[tactic(auto, using(crate::proofs::Poking::quiet), unfolding(crate::specs::Events::with_events))]
+pub fn happen<const PAGES: usize>(
+    phys: &mut Phys<PAGES>,
+    buffer: &mut Buffer,
+    n: u32,
+    timeline: &Timeline,
+) -> Result<(), AllocError>
+    requires { timeline.now.limit ≡ ram_size PAGES }
+    ensures happened { OnOk result (phys.new ≡ with_events timeline.now n phys.old) }
+    ensures stand { (table_pointer : ℕ) → AllStand (ram_size PAGES) phys.old.ram table_pointer buffer.old → AllStand (ram_size PAGES) phys.new.ram table_pointer buffer.new }
+{
+    if !timeline.may_have_events(n) {
+        return Ok(());
+    }
+    happen_at(phys, buffer, n, timeline)?;
+    Ok(())
+}
+
 /// The step up to which input bytes have arrived when step n does what it does.
 #[inline(always)]
 pub fn end_of(n: u32, timeline: &Timeline) -> u32
     ensures arrived { arrived result timeline.now ≡ arrived (n + 1) timeline.now }
     ensures below { bytes_below result timeline.now.inputs ≡ bytes_below (n + 1) timeline.now.inputs }
 {
-    // What this says of every timeline is used here. At a step that never had an event it looks at a flag.
-    let _events = timeline.events(n);
+    timeline.bounds();
     if n < u32::MAX { n + 1 } else { n }
 }

@@ -241,8 +241,7 @@ impl<const NW: usize, const PAGES: usize> Machine<NW, PAGES> {
         ensures uncounted { OnErr result (work.new ≡ work.old) }
     {
         let mut machine = self;
-        machine.advance(n, timeline, notes)?;
-        work.raise();
+        machine.step_in_place(n, timeline, notes, work)?;
         Ok(machine)
     }
 
@@ -295,25 +294,33 @@ impl<const NW: usize, const PAGES: usize> Machine<NW, PAGES> {
         Ok(())
     }
 
-    /// Step n.
+    /// Step n, as `step` makes it. The machine is changed where it stands.
+    ///
+    /// # Errors
+    ///
+    /// Those of `watch`.
     #[inline(always)]
-    fn advance<T: Touches>(
+    pub fn step_in_place<T: Touches>(
         &mut self,
         n: u32,
         timeline: &Timeline,
         notes: &mut T,
+        work: &mut Work,
     ) -> Result<(), AllocError>
         requires limit { timeline.now.limit ≡ ram_size PAGES }
         requires delivered { self.old.memory.taken ≤ bytes_below n timeline.now.inputs }
         ensures ok { OnOk result (self.new ≡ step NW PAGES timeline.now n self.old) }
         ensures delivered { OnOk result (self.new.memory.taken ≤ bytes_below (n + 1) timeline.now.inputs) }
         ensures noted { OnOk result (T.noted notes.new ≡ noting (keeping T.KEEPS T.OBSERVES) (T.noted notes.old) (told (footprint NW PAGES timeline.now n self.old)) []) }
+        ensures counted { OnOk result (work.new ≡ counted work.old) }
+        ensures uncounted { OnErr result (work.new ≡ work.old) }
     {
         if T::KEEPS {
             step_noted(&mut self.parts, &mut self.touches, n, timeline, notes)?;
         } else {
             step_unnoted(&mut self.parts, n, timeline)?;
         }
+        work.raise();
         Ok(())
     }
 }

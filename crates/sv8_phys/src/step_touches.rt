@@ -40,8 +40,10 @@ impl Touches for StepTouches {
 
     ghost noted = { λ s. touching s };
 
+    #[inline(always)]
     fn note(&mut self, touch: Touch) -> Result<(), AllocError> {
-        self.notes.push(touch)?;
+        self.notes.reserve(1)?;
+        self.notes.push_reserved(touch);
         Ok(())
     }
 

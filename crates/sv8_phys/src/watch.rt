@@ -38,13 +38,15 @@ impl Touches for Watch {
 
     #[inline(always)]
     fn note(&mut self, touch: Touch) -> Result<(), AllocError> {
-        self.touches.push(touch)?;
+        self.touches.reserve(1)?;
+        self.touches.push_reserved(touch);
         Ok(())
     }
 
     #[inline(always)]
     fn observe(&mut self, observation: Observation) -> Result<(), AllocError> {
-        self.observations.push(observation)?;
+        self.observations.reserve(1)?;
+        self.observations.push_reserved(observation);
         Ok(())
     }
 }

@@ -163,6 +163,16 @@ fn are_in(notes: &[WordNote], low: u32, last: u32, from: u32, end: u32) -> bool
     false
 }
 
+/// Takes a note of a word.
+#[inline(always)]
+fn note_word(notes: &mut Vec<WordNote>, address: u32, offset: u32) -> Result<(), AllocError>
+    ensures { OnOk result (notes.new.items ≡ notes.old.items ++ record { address = address; offset = offset } ∷ []) }
+{
+    notes.reserve(1)?;
+    notes.push_reserved(WordNote { address, offset });
+    Ok(())
+}
+
 /// Marks the words of notes with a number, unless their marks are greater.
 fn mark_all(
     alloc: Global,
@@ -280,8 +290,8 @@ impl Notes {
         ensures { OnOk result (Gains offset (touch ∷ []) self.old self.new) }
     {
         match touch {
-            Touch::Read(address) => self.reads.push(WordNote { address, offset })?,
-            Touch::Write(address) => self.writes.push(WordNote { address, offset })?,
+            Touch::Read(address) => note_word(&mut self.reads, address, offset)?,
+            Touch::Write(address) => note_word(&mut self.writes, address, offset)?,
             Touch::Input => self.inputs.push(offset)?,
             Touch::Levels(levels) => self.note_levels(levels, offset)?,
             Touch::Expiry => self.expiries.push(offset)?,

@@ -107,9 +107,10 @@ fn keep_levels<const NW: usize, const PAGES: usize>(
     Ok(())
 }
 
-/// Keeps what stands in the cells that the events of step n are about to set.
+/// Keeps what stands in the cells that the events of step n are about to set, where there may be some.
+#[inline(never)]
 #[tactic(auto, using(sv8_cpu::proofs::Common::are_inside))]
-fn keep_below<const NW: usize, const PAGES: usize>(
+fn keep_events<const NW: usize, const PAGES: usize>(
     kept: &mut KeptList,
     machine: &Machine<NW, PAGES>,
     timeline: &Timeline,
@@ -129,6 +130,29 @@ fn keep_below<const NW: usize, const PAGES: usize>(
     Ok(())
 }
 
+/// Keeps what stands in the cells that the events of step n are about to set.
+#[inline(always)]
+fn keep_below<const NW: usize, const PAGES: usize>(
+    kept: &mut KeptList,
+    machine: &Machine<NW, PAGES>,
+    timeline: &Timeline,
+    n: u32,
+    offset: u32,
+) -> Result<(), AllocError>
+    requires few_windows { NW ≤ 32 }
+    requires few_pages { PAGES ≤ 65536 }
+    requires limit { timeline.now.limit ≡ ram_size PAGES }
+    requires free { (c : model.Cell) → kept_in offset c kept.old ≡ None }
+    ensures { OnOk result ((j : ℕ) (c : model.Cell) → kept_in j c kept.new
+        ≡ cond (j == offset && is_some (poke_of c (event_at timeline.now n))) (Some (get c machine.now)) (kept_in j c kept.old)) }
+{
+    if !timeline.may_have_events(n) {
+        return Ok(());
+    }
+    keep_events(kept, machine, timeline, n, offset)?;
+    Ok(())
+}
+
 /// Notes whether addresses are translated in the state before a step.
 fn note_translation<const NW: usize, const PAGES: usize>(
     translated: &mut bool,
@@ -141,38 +165,39 @@ fn note_translation<const NW: usize, const PAGES: usize>(
 }
 
 /// Makes step n and records it, as the step with this offset in its interval. `touches` is a place for what it touches.
+#[inline(always)]
 fn record_step<const NW: usize, const PAGES: usize>(
-    machine: Machine<NW, PAGES>,
+    machine: &mut Machine<NW, PAGES>,
     timeline: &Timeline,
     n: u32,
     offset: u32,
     touches: &mut StepNotes,
     interval: &mut Interval,
     work: &mut Work,
-) -> Result<Machine<NW, PAGES>, AllocError>
+) -> Result<(), AllocError>
     requires few_windows { NW ≤ 32 }
     requires few_pages { PAGES ≤ 65536 }
     requires limit { timeline.now.limit ≡ ram_size PAGES }
-    requires delivered { machine.memory.taken ≤ bytes_below n timeline.now.inputs }
+    requires delivered { machine.old.memory.taken ≤ bytes_below n timeline.now.inputs }
     requires offset { offset < 1000000 }
     requires free { (c : model.Cell) → kept_in offset c interval.old.kept ≡ None }
-    ensures state { IfOk result (λ m. m ≡ step NW PAGES timeline.now n machine.entry) }
-    ensures delivered { IfOk result (λ m. m.memory.taken ≤ bytes_below (n + 1) timeline.now.inputs) }
-    ensures gained { OnOk result (Gains offset (told (footprint NW PAGES timeline.now n machine.entry)) interval.old.notes interval.new.notes) }
+    ensures state { OnOk result (machine.new ≡ step NW PAGES timeline.now n machine.old) }
+    ensures delivered { OnOk result (machine.new.memory.taken ≤ bytes_below (n + 1) timeline.now.inputs) }
+    ensures gained { OnOk result (Gains offset (told (footprint NW PAGES timeline.now n machine.old)) interval.old.notes interval.new.notes) }
     ensures kept { OnOk result ((j : ℕ) (c : model.Cell) → kept_in j c interval.new.kept
-        ≡ cond (is_touched (told (footprint NW PAGES timeline.now n machine.entry)) c) None
-        (cond (j == offset && is_some (poke_of c (event_at timeline.now n))) (Some (get c machine.entry)) (kept_in j c interval.old.kept))) }
-    ensures translated { OnOk result (interval.new.translated ≡ (interval.old.translated || translates machine.entry.mmu)) }
+        ≡ cond (is_touched (told (footprint NW PAGES timeline.now n machine.old)) c) None
+        (cond (j == offset && is_some (poke_of c (event_at timeline.now n))) (Some (get c machine.old)) (kept_in j c interval.old.kept))) }
+    ensures translated { OnOk result (interval.new.translated ≡ (interval.old.translated || translates machine.old.mmu)) }
     ensures counted { OnOk result (work.new ≡ counted work.old) }
     ensures uncounted { OnErr result (work.new ≡ work.old ⊎ work.new ≡ counted work.old) }
 {
     touches.clear();
-    note_translation(&mut interval.translated, &machine);
-    keep_below(&mut interval.kept, &machine, timeline, n, offset)?;
-    let machine = machine.step(n, timeline, touches, work)?;
+    note_translation(&mut interval.translated, machine);
+    keep_below(&mut interval.kept, machine, timeline, n, offset)?;
+    machine.step_in_place(n, timeline, touches, work)?;
     interval.notes.note_step(touches.touches(), offset)?;
     interval.kept.forget(touches.touches());
-    Ok(machine)
+    Ok(())
 }
 
 /// The same, where the machine stands, and `watch` has the notes of the step.
@@ -244,7 +269,15 @@ pub(crate) fn record<const NW: usize, const PAGES: usize>(
     draft.clear();
     let mut machine = machine;
     for offset in 0..count {
-        machine = record_step(machine, timeline, n + offset, offset, touches, draft, work)?;
+        record_step(
+            &mut machine,
+            timeline,
+            n + offset,
+            offset,
+            touches,
+            draft,
+            work,
+        )?;
     }
     Ok((machine, draft.copy()?))
 }

@@ -40,8 +40,10 @@ impl Touches for StepNotes {
 
     ghost noted = { λ n. touching n };
 
+    #[inline(always)]
     fn note(&mut self, touch: Touch) -> Result<(), AllocError> {
-        self.touches.push(touch)?;
+        self.touches.reserve(1)?;
+        self.touches.push_reserved(touch);
         Ok(())
     }
 

@@ -176,8 +176,13 @@ impl<const NW: usize, const PAGES: usize, const K: u32> Bench<NW, PAGES, K> {
         Ok(())
     }
 
-    /// Makes the steps of a walk up to another one, all of them below the next checkpoint.
-    fn walk_to(
+    /// Makes the steps of a walk up to another one, which is recorded up to its last checkpoint, with nothing seen of
+    /// them. `watch` is a place for notes, which mean nothing afterwards.
+    ///
+    /// # Errors
+    ///
+    /// Those of `walk_on`.
+    pub fn walk_to(
         &mut self,
         walk: &mut Walk<NW, PAGES>,
         step: u32,

@@ -15,19 +15,19 @@ loop-offset-init g c =
       counted = refl;
     }
 
-pub returns-in_err-machine-clause-raised : goal.returns-in_err-machine-clause-raised
-returns-in_err-machine-clause-raised g c =
-    up_to_one c.loop-offset.offset c.args.count c.args.work.now c.loop-offset.work c.record_step.new.work c.loop-offset-test.true c.loop-offset.invariant.counted c.in_err-machine.ensures.uncounted
+pub returns-in_err-record_step-clause-raised : goal.returns-in_err-record_step-clause-raised
+returns-in_err-record_step-clause-raised g c =
+    up_to_one c.loop-offset.offset c.args.count c.args.work.now c.loop-offset.work c.record_step.new.work c.loop-offset-test.true c.loop-offset.invariant.counted c.in_err-record_step.ensures.uncounted
 
 pub loop-offset-preserved : goal.loop-offset-preserved
 loop-offset-preserved g c =
     let inv = c.loop-offset.invariant in
-    let both = one_more g.row.NW g.row.PAGES c.args.timeline.now c.args.n c.args.machine c.loop-offset.machine c.in_ok-machine.machine c.loop-offset.offset c.loop-offset.draft c.record_step.new.interval inv.state c.in_ok-machine.ensures.state inv.recorded c.in_ok-machine.ensures.gained c.in_ok-machine.ensures.kept c.in_ok-machine.ensures.translated in
+    let both = one_more g.row.NW g.row.PAGES c.args.timeline.now c.args.n c.args.machine c.loop-offset.machine c.record_step.new.machine c.loop-offset.offset c.loop-offset.draft c.record_step.new.interval inv.state c.in_ok-record_step.ensures.state inv.recorded c.in_ok-record_step.ensures.gained c.in_ok-record_step.ensures.kept c.in_ok-record_step.ensures.translated in
     record {
       state = both.0;
-      delivered = subst (λ x. c.in_ok-machine.machine.memory.taken ≤ bytes_below x c.args.timeline.now.inputs) (omega arith) c.in_ok-machine.ensures.delivered;
+      delivered = subst (λ x. c.record_step.new.machine.memory.taken ≤ bytes_below x c.args.timeline.now.inputs) (omega arith) c.in_ok-record_step.ensures.delivered;
       recorded = both.1;
-      counted = rw add-one (c.in_ok-machine.ensures.counted ∙ ap counted inv.counted);
+      counted = rw add-one (c.in_ok-record_step.ensures.counted ∙ ap counted inv.counted);
     }
 
 pub returns-clause-raised : goal.returns-clause-raised

@@ -3,7 +3,7 @@ use Rattle.sv8_cpu.specs.Recorded.{event_at}
 use Rattle.sv8_trace.specs.Kept.{kept_in}
 use Rattle.sv8_trace.specs.Recorder.{below_requests}
 use Rattle.sv8_trace.proofs.Below.{below_is}
-use Rattle.sv8_trace.proofs.recorder.keep_below.Goals as goal
+use Rattle.sv8_trace.proofs.recorder.keep_events.Goals as goal
 
 pub returns : goal.returns
 returns g c = λ j cell.
