@@ -3,6 +3,7 @@ pub mod Compared
 pub mod Turned
 pub mod Falling
 pub mod Passed
+pub mod Passing
 pub mod Sought
 pub mod Differing
 pub mod Parting

@@ -13,11 +13,12 @@ use Rattle.sv8_bench.specs.Shown.{machine_state}
 use Rattle.sv8_bench.specs.Walks.{IsMade, IsUnmade}
 use Rattle.sv8_bench.specs.Workbench.{Workbench, checkpoints, IsAnswered, IsGivenUp}
 use Rattle.sv8_bench.proofs.Walking.{step_counted, raised_tried}
+use Rattle.sv8_bench.proofs.Queried.{counted_more, raised_more}
 use Rattle.sv8_watch.specs.declared.condition.Condition.{Condition}
 use Rattle.sv8_watch.specs.declared.happening.Happening.{Happening}
 use Rattle.sv8_watch.specs.Happening.{happened, happening}
 use Rattle.sv8_monitor.specs.declared.found.Found.{Found}
-use Rattle.sv8_monitor.specs.Search.{any_met, found_at, is_wanted, wanted_found, list_of, left_behind, rising, looked_to, IsSearched, IsTried, IsAbandoned}
+use Rattle.sv8_monitor.specs.Search.{any_met, found_at, is_wanted, wanted_found, list_of, left_behind, rising, looked_to, IsSearched, IsTried, IsWalked, IsStopped, IsAbandoned}
 use Rattle.sv8_monitor.proofs.Sought.{divided}
 
 -- ---- what is told
@@ -141,6 +142,20 @@ module _ (k : ℕ) (pos : 0 < k) (from : ℕ) where
         worked = step_counted n (restored k (checkpoints old) from) old.worked now.worked new.worked (omega (arith, least, low)) s.worked m.worked;
       }
 
+  -- .. or several
+  pub searched_further : (n m : ℕ) (old now new : Workbench) → from ≤ n → n ≤ m → IsSearched k from n old now → IsWalked k n m now new → IsSearched k from m old new
+  searched_further n m old now new low up s w =
+      let least = restored_low (checkpoints old) from in
+      let below : n / k ≤ m / k = divided k n m pos up in
+      let before = s.recorded in
+      let after = w.recorded in
+      let first = restored k (checkpoints old) from in
+      record {
+        kept = w.kept ∙ s.kept;
+        recorded = omega (arith, before, after, below);
+        worked = counted_more (m - n) (n - first) (m - first) old.worked now.worked new.worked s.worked w.worked (omega (arith, least, low, up));
+      }
+
   -- a search that is given up at a step
   pub searched_tried : (n to : ℕ) (old now new : Workbench) → from ≤ n → n < to → IsSearched k from n old now → IsTried k n now new → IsAbandoned k from to old new
   searched_tried n to old now new low high s t =
@@ -155,6 +170,22 @@ module _ (k : ℕ) (pos : 0 < k) (from : ℕ) where
         fewest = omega (arith, before, fewest);
         most = omega (arith, before, most, below, below_next);
         worked = raised_tried n (restored k (checkpoints old) from) to old.worked now.worked new.worked (omega (arith, least, low)) high s.worked t.worked;
+      }
+
+  -- .. or among several
+  pub searched_stopped : (n to : ℕ) (old now new : Workbench) → from ≤ n → n ≤ to → IsSearched k from n old now → IsStopped k n to now new → IsAbandoned k from to old new
+  searched_stopped n to old now new low high s t =
+      let least = restored_low (checkpoints old) from in
+      let below : n / k ≤ to / k = divided k n to pos high in
+      let before = s.recorded in
+      let fewest = t.fewest in
+      let most = t.most in
+      let first = restored k (checkpoints old) from in
+      record {
+        kept = t.kept ∙ s.kept;
+        fewest = omega (arith, before, fewest);
+        most = omega (arith, before, most, below);
+        worked = raised_more (n - first) (to - n) (to - first) old.worked now.worked new.worked s.worked t.worked (omega (arith, least, low, high));
       }
 
   -- .. or behind one

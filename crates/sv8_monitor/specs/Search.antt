@@ -114,6 +114,19 @@ pub record IsTried (k n : ℕ) (old new : Workbench) : Type 0 where
   pub most : checkpoints new ≤ max (checkpoints old) ((n + 1) / k)
   pub worked : (new.worked ≡ old.worked) ⊎ (new.worked ≡ counted old.worked)
 
+-- The steps from n on and below m were made, one after the other, and are recorded as far as they lead to a checkpoint.
+pub record IsWalked (k n m : ℕ) (old new : Workbench) : Type 0 where
+  pub kept : new.kept ≡ old.kept
+  pub recorded : checkpoints new ≡ max (checkpoints old) (m / k)
+  pub worked : new.worked ≡ counted_by (m - n) old.worked
+
+-- Some of them were, or none, and the walk may have been given up.
+pub record IsStopped (k n m : ℕ) (old new : Workbench) : Type 0 where
+  pub kept : new.kept ≡ old.kept
+  pub fewest : checkpoints old ≤ checkpoints new
+  pub most : checkpoints new ≤ max (checkpoints old) (m / k)
+  pub worked : RaisedUpTo (m - n) old.worked new.worked
+
 -- A search from one step on and below another was given up for want of memory.
 pub record IsAbandoned (k from to : ℕ) (old new : Workbench) : Type 0 where
   pub kept : new.kept ≡ old.kept

@@ -14,7 +14,7 @@ ghost use Rattle.sv8_watch.specs.Watched.{IsBefore, happening_of};
 ghost use Rattle.sv8_bench.specs.Shown.{machine_state};
 ghost use Rattle.sv8_bench.specs.Walks.{IsWalk, IsMade, IsUnmade};
 ghost use Rattle.sv8_bench.specs.Workbench.{checkpoints};
-ghost use Rattle.sv8_monitor.specs.Search.{old_of, olds_of, old_count, olds_count, is_inside, are_inside, any_met, found_at, found_if, is_wanted, wanted_found, rising, looked_to, falling, sought_to, steps_told, IsSearched, IsAdded, IsPassedOrSearched, IsSought, IsTried, IsAbandoned, IsStart};
+ghost use Rattle.sv8_monitor.specs.Search.{old_of, olds_of, old_count, olds_count, is_inside, are_inside, any_met, found_at, found_if, is_wanted, wanted_found, rising, looked_to, falling, sought_to, steps_told, IsSearched, IsAdded, IsPassedOrSearched, IsSought, IsTried, IsWalked, IsStopped, IsAbandoned, IsStart};
 
 use crate::found::Found;
 use std::alloc::AllocError;
@@ -266,6 +266,139 @@ fn look<const NW: usize, const PAGES: usize, const K: u32>(
     Ok(rest)
 }
 
+/// Up to which step the record shows that none is wanted, from one on with which an interval begins; the step itself
+/// where it does not.
+#[inline(never)]
+fn shown_to<const NW: usize, const PAGES: usize, const K: u32>(
+    bench: &Bench<NW, PAGES, K>,
+    conditions: &[Condition],
+    step: u32,
+    to: u32,
+) -> u32
+    requires below { step < to }
+    requires within { to ≤ 1000000 }
+    requires inside { are_inside (ram_size PAGES) conditions.now ≡ true }
+    ensures none { (n : ℕ) → step ≤ n → n < result → is_wanted bench.now.kept conditions.now n ≡ false }
+    ensures ordered { step ≤ result }
+    ensures end { result ≤ to }
+    ensures recorded { step < result → result / K ≤ checkpoints bench.now }
+{
+    bench.sizes();
+    let end = to.min(step + K);
+    if show_none(bench, conditions, step, end) {
+        return end;
+    }
+    step
+}
+
+/// The same for any step. Of one with which no interval begins it answers the step itself, and looks no further.
+#[inline(always)]
+fn passable<const NW: usize, const PAGES: usize, const K: u32>(
+    bench: &Bench<NW, PAGES, K>,
+    conditions: &[Condition],
+    step: u32,
+    to: u32,
+) -> u32
+    requires below { step < to }
+    requires within { to ≤ 1000000 }
+    requires inside { are_inside (ram_size PAGES) conditions.now ≡ true }
+    ensures none { (n : ℕ) → step ≤ n → n < result → is_wanted bench.now.kept conditions.now n ≡ false }
+    ensures ordered { step ≤ result }
+    ensures end { result ≤ to }
+    ensures recorded { step < result → result / K ≤ checkpoints bench.now }
+{
+    bench.sizes();
+    if step % K == 0 {
+        return shown_to(bench, conditions, step, to);
+    }
+    step
+}
+
+/// Makes the steps of a walk up to another one, which is recorded up to its last checkpoint, with nothing seen of them.
+/// `old` are the bytes that the conditions compare, before and afterwards.
+///
+/// # Errors
+///
+/// `AllocError` where memory for them cannot be had.
+#[inline(never)]
+fn pass_over<const NW: usize, const PAGES: usize, const K: u32>(
+    bench: &mut Bench<NW, PAGES, K>,
+    walk: &mut Walk<NW, PAGES>,
+    watch: &mut Watch,
+    conditions: &[Condition],
+    old: &mut Vec<u8>,
+    end: u32,
+) -> Result<(), AllocError>
+    requires few_windows { NW ≤ 32 }
+    requires few_pages { PAGES ≤ 65536 }
+    requires walk { IsWalk K bench.old walk.old }
+    requires ordered { walk.old.step ≤ end }
+    requires within { end ≤ 1000000 }
+    requires recorded { end / K ≤ checkpoints bench.old }
+    requires inside { are_inside (ram_size PAGES) conditions.now ≡ true }
+    requires count { length old.old.items ≡ olds_count conditions.now }
+    ensures walk { OnOk result (IsWalk K bench.new walk.new) }
+    ensures step { OnOk result (walk.new.step ≡ end) }
+    ensures walked { OnOk result (IsWalked K walk.old.step end bench.old bench.new) }
+    ensures bytes { OnOk result (old.new.items ≡ olds_of conditions.now (machine_state bench.old.kept end).memory.ram) }
+    ensures count { OnOk result (length old.new.items ≡ olds_count conditions.now) }
+    ensures stopped { IsStopped K walk.old.step end bench.old bench.new }
+{
+    bench.walk_to(walk, end, watch)?;
+    look_again(old, conditions, walk.machine())?;
+    Ok(())
+}
+
+/// Makes the next step of a walk below another step, and adds it where it is wanted, or passes over those of an interval
+/// of which the record shows that none is; answers how many more may follow, of so many. `old` are the bytes that the
+/// conditions compare, before and afterwards.
+///
+/// # Errors
+///
+/// `AllocError` where memory for it cannot be had.
+#[inline(always)]
+fn go_on<const NW: usize, const PAGES: usize, const K: u32>(
+    bench: &mut Bench<NW, PAGES, K>,
+    walk: &mut Walk<NW, PAGES>,
+    watch: &mut Watch,
+    conditions: &[Condition],
+    old: &mut Vec<u8>,
+    found: &mut Vec<Found>,
+    to: u32,
+    left: u32,
+) -> Result<u32, AllocError>
+    requires few_windows { NW ≤ 32 }
+    requires few_pages { PAGES ≤ 65536 }
+    requires walk { IsWalk K bench.old walk.old }
+    requires below { walk.old.step < to }
+    requires within { to ≤ 1000000 }
+    requires some { 0 < left }
+    requires inside { are_inside (ram_size PAGES) conditions.now ≡ true }
+    requires bytes { old.old.items ≡ olds_of conditions.now (machine_state bench.old.kept walk.old.step).memory.ram }
+    requires count { length old.old.items ≡ olds_count conditions.now }
+    ensures walk { OnOk result (IsWalk K bench.new walk.new) }
+    ensures further { OnOk result (walk.old.step < walk.new.step) }
+    ensures end { OnOk result (walk.new.step ≤ to) }
+    ensures walked { OnOk result (IsWalked K walk.old.step walk.new.step bench.old bench.new) }
+    ensures found { IfOk result (λ rest. found.new.items ++ map (found_at bench.old.kept) (rising (is_wanted bench.old.kept conditions.now) walk.new.step (to - walk.new.step) rest)
+        ≡ found.old.items ++ map (found_at bench.old.kept) (rising (is_wanted bench.old.kept conditions.now) walk.old.step (to - walk.old.step) left)) }
+    ensures looked { IfOk result (λ rest. looked_to (is_wanted bench.old.kept conditions.now) walk.new.step (to - walk.new.step) rest
+        ≡ looked_to (is_wanted bench.old.kept conditions.now) walk.old.step (to - walk.old.step) left) }
+    ensures bytes { OnOk result (old.new.items ≡ olds_of conditions.now (machine_state bench.old.kept walk.new.step).memory.ram) }
+    ensures count { OnOk result (length old.new.items ≡ olds_count conditions.now) }
+    ensures stopped { OnErr result (IsStopped K walk.old.step to bench.old bench.new) }
+{
+    bench.sizes();
+    let step = walk.step();
+    let end = passable(bench, conditions, step, to);
+    if step < end {
+        pass_over(bench, walk, watch, conditions, old, end)?;
+        return Ok(left);
+    }
+    let rest = look(bench, walk, watch, conditions, old, found, left)?;
+    Ok(rest)
+}
+
 /// Adds the steps from one on and below another that meet a condition, and at most so many of them. It looks at no step
 /// behind the last one that it adds, if it adds so many.
 ///
@@ -296,8 +429,8 @@ fn search_up<const NW: usize, const PAGES: usize, const K: u32>(
     look_at_old(&mut old, conditions, walk.machine())?;
     let mut left = most;
     while walk.step() < to && left > 0 {
-        left = look(
-            bench, &mut walk, &mut watch, conditions, &mut old, found, left,
+        left = go_on(
+            bench, &mut walk, &mut watch, conditions, &mut old, found, to, left,
         )?;
     }
     Ok(())

@@ -1,17 +1,17 @@
-use Rattle.std.proofs.Common.{◌-◌, ◌≡◌, ◌∙◌, ◌+◌, ◌++◌, ◌<◌, ◌≤◌, ◌⊎◌, inl, inr, ℕ, map, sym, ap, arith}
+use Rattle.std.proofs.Common.{◌-◌, ◌≡◌, ◌∙◌, ◌++◌, ◌≤◌, ◌⊎◌, inl, inr, map, sym, ap, arith}
 use Rattle.sv8_bench.specs.Kept.{Kept}
 use Rattle.sv8_bench.specs.Shown.{machine_state}
-use Rattle.sv8_monitor.specs.Search.{olds_of, found_at, is_wanted, wanted_found, rising, looked_to}
-use Rattle.sv8_monitor.proofs.Searching.{found_next, looked_next, all_risen, looked_end, searched_more, searched_tried, searched_abandoned, searched_at}
+use Rattle.sv8_monitor.specs.Search.{olds_of, found_at, is_wanted, rising, looked_to}
+use Rattle.sv8_monitor.proofs.Passing.{found_on, looked_on}
+use Rattle.sv8_monitor.proofs.Searching.{all_risen, looked_end, searched_further, searched_stopped, searched_abandoned, searched_at}
 use Rattle.sv8_monitor.proofs.search.search_up.Goals as goal
 use Rattle.sv8_monitor.proofs.search.search_up.Goals.{then-loop-bench-test+else-left-gt0, else-loop-bench-test}
 
 pub returns-in_err-left-clause-given_up : goal.returns-in_err-left-clause-given_up
 returns-in_err-left-clause-given_up g c =
     let inv = c.loop-bench.invariant in
-    let below : c.loop-bench.walk.step < c.args.to = omega (arith, c.loop-bench-test.true, c.step.ensures) in
-    searched_tried g.row.K c.sizes.ensures.some_steps c.args.from c.loop-bench.walk.step c.args.to c.args.bench.now c.loop-bench.bench c.look.new.bench inv.begun below inv.searched
-    c.in_err-left.ensures.unmade
+    searched_stopped g.row.K c.sizes.ensures.some_steps c.args.from c.loop-bench.walk.step c.args.to c.args.bench.now c.loop-bench.bench c.go_on.new.bench inv.begun inv.below inv.searched
+    c.in_err-left.ensures.stopped
 
 pub loop-bench-preserved : goal.loop-bench-preserved
 loop-bench-preserved g c =
@@ -21,28 +21,21 @@ loop-bench-preserved g c =
     let n = c.loop-bench.walk.step in
     let to = c.args.to in
     let left = c.loop-bench.left in
-    let later = c.look.new.walk.step in
+    let later = c.go_on.new.walk.step in
     let next = c.in_ok-left.left in
-    let seen = wanted_found c.loop-bench.bench.kept cs n in
-    let made = c.in_ok-left.ensures.made in
-    let at : later ≡ n + 1 = c.in_ok-left.ensures.step in
-    let below : n < to = omega (arith, c.loop-bench-test.true, c.step.ensures) in
-    let some = c.if-left-gt0.true in
-    let is : seen ≡ wanted_found kept cs n = ap (λ (k : Kept). wanted_found k cs n) inv.searched.kept in
-    let added = c.in_ok-left.ensures.added in
-    let rest = added.room in
+    let further = c.in_ok-left.ensures.further in
     let all = c.args.found.now.items ++ map (found_at kept) (rising (is_wanted kept cs) c.args.from (to - c.args.from) c.args.most) in
+    let end = looked_to (is_wanted kept cs) c.args.from (to - c.args.from) c.args.most in
     record {
       walk = c.in_ok-left.ensures.walk;
-      begun = omega (arith, inv.begun, at);
-      below = omega (arith, below, at);
-      searched = searched_at g.row.K c.args.from (n + 1) later c.args.bench.now c.look.new.bench (sym at)
-          (searched_more g.row.K c.sizes.ensures.some_steps c.args.from n c.args.bench.now c.loop-bench.bench c.look.new.bench inv.begun inv.searched made);
-      bytes = c.in_ok-left.ensures.bytes ∙ ap (λ (k : Kept). olds_of cs (machine_state k (n + 1)).memory.ram) inv.searched.kept
-          ∙ ap (λ (m : ℕ). olds_of cs (machine_state kept m).memory.ram) (sym at);
+      begun = omega (arith, inv.begun, further);
+      below = c.in_ok-left.ensures.end;
+      searched = searched_further g.row.K c.sizes.ensures.some_steps c.args.from n later c.args.bench.now c.loop-bench.bench c.go_on.new.bench inv.begun (omega (arith, further)) inv.searched
+          c.in_ok-left.ensures.walked;
+      bytes = c.in_ok-left.ensures.bytes ∙ ap (λ (k : Kept). olds_of cs (machine_state k later).memory.ram) inv.searched.kept;
       count = c.in_ok-left.ensures.count;
-      found = found_next kept cs n to left later next seen below some at is rest c.loop-bench.found.items c.look.new.found.items all added.items inv.found;
-      looked = looked_next kept cs n to left later next seen below some at is rest ∙ inv.looked;
+      found = found_on c.loop-bench.bench.kept kept cs inv.searched.kept n later to left next c.loop-bench.found.items c.go_on.new.found.items all c.in_ok-left.ensures.found inv.found;
+      looked = looked_on c.loop-bench.bench.kept kept cs inv.searched.kept n later to left next end c.in_ok-left.ensures.looked inv.looked;
     }
 
 pub returns-clause-found : goal.returns-clause-found
