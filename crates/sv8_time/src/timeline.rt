@@ -288,7 +288,8 @@ impl Timeline {
 }
 
 impl Timeline {
-    /// Whether something may happen at a step; a step that never had an event answers false. It is the read of one flag.
+    /// Whether something may happen at a step: where the answer is false, nothing does. It reads one flag. That the answer
+    /// is false wherever it could be is no part of the contract: true costs time alone.
     #[tactic(auto, using(crate::proofs::SoundEvents::no_pokes, crate::proofs::SoundEvents::no_bytes, crate::proofs::SoundEvents::no_requests))]
     #[inline(always)]
     pub fn may_have_events(&self, step: u32) -> bool

@@ -94,9 +94,10 @@ impl<const NW: usize, const PAGES: usize, const K: u32> Bench<NW, PAGES, K> {
             && self.trace.is_untranslated(from, to)
     }
 
-    /// Whether the record shows that the machine runs at a step; it shows it of checkpoints. It makes no step.
+    /// Whether the record shows that the machine runs at a step. It is asked of checkpoints; of any other step, and of one
+    /// that is not recorded, it shows nothing, and the answer is false. It makes no step.
     ///
-    /// No step below then leads to error mode (`running_steps_miss` of `sv8_watch`).
+    /// Where the answer is true, no step below leads to error mode (`running_steps_miss` of `sv8_watch`).
     pub fn is_running_at(&self, step: u32) -> bool
         ensures running { result ≡ true → (machine_state self.now.kept step).processor.running ≡ true }
         ensures recorded { result ≡ true → step / K ≤ checkpoints self.now }
