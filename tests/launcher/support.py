@@ -27,8 +27,9 @@ PAGE = """| Crate | Proof | Tests |
 PROGRAM = '#!/bin/sh\ncase "$1" in --help) echo "the help";; *) echo "words $*"; cat;; esac\n'
 FAKE = """#!/bin/sh
 echo "$*: $PWD" >>{log}
-case "$1" in
-  version) echo "{identity}"; exit 0;;
+case "$1:$2" in
+  version:*) echo "{identity}"; exit 0;;
+  ci:?*) {ahead}; exit;;
 esac
 {does}
 """
@@ -77,9 +78,10 @@ class InRepository(unittest.TestCase):
             (self.top / "crates" / name / "src/lib.rt").write_text(f"// {name}\n" * 10, encoding="utf-8")
         (self.room / "program").write_text(PROGRAM, encoding="utf-8")
 
-    def fake(self, does: str, identity: str = "kit-1") -> None:
-        """Puts an `rt` on the PATH that notes each call and does this."""
-        text = FAKE.format(log=self.log, identity=identity, does=does.replace("{program}", str(self.room / "program")))
+    def fake(self, does: str, identity: str = "kit-1", ahead: str = "true") -> None:
+        """Puts an `rt` on the PATH that notes each call and does this, and `ahead` where it is asked for one crate."""
+        does = does.replace("{program}", str(self.room / "program"))
+        text = FAKE.format(log=self.log, identity=identity, does=does, ahead=ahead)
         made = self.room / "rt.new"
         made.write_text(text, encoding="utf-8")
         made.chmod(0o755)
@@ -111,6 +113,10 @@ class InRepository(unittest.TestCase):
         )
 
     def calls(self) -> list[str]:
+        """What the fake was called with, but for the question of its version, and for single crates ahead of all."""
+        return [it for it in self.all_calls() if not it.startswith("ci ")]
+
+    def all_calls(self) -> list[str]:
         """What the fake was called with, but for the question of its version."""
         return [
             it.partition(":")[0]

@@ -6,7 +6,7 @@ import io
 import unittest
 
 from rubliman.launcher.progress import Progress
-from rubliman.launcher.schedule import minutes_left, minutes_of, tasks_of
+from rubliman.launcher.schedule import longest_first, minutes_left, minutes_of, tasks_of
 from rubliman.launcher.sources import WORKBENCH, Sources, crates_of
 
 from .support import CRATES, PAGE
@@ -36,6 +36,13 @@ class Schedule(unittest.TestCase):
     def test_the_longest_way_with_many_processors(self) -> None:
         # `low` has one of three, so 4; then `high` with four jobs 6 / 2.2, then the program with four 1 / 2.2.
         self.assertAlmostEqual(minutes_left(self.tasks, (), 4), 4 + 6 / 2.2 + 1 / 2.2)
+
+    def test_two_side_by_side_with_two_processors_each(self) -> None:
+        # `low`, `high` and the program one after the other, each with two jobs; `side` and the tests beside them.
+        self.assertAlmostEqual(minutes_left(self.tasks, (), 4, 2), (4 + 6 + 1) / 1.5)
+
+    def test_the_longest_way_comes_first(self) -> None:
+        self.assertEqual(longest_first(self.tasks), ["low", "high", "side", "sparc8"])
 
     def test_what_is_proved_is_not_counted(self) -> None:
         self.assertAlmostEqual(minutes_left(self.tasks, ("low", "side", "high"), 1), 1.0)

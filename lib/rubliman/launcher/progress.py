@@ -24,12 +24,17 @@ class Progress:
     """Crate by crate: how many of how many, the functions that were proved, and the minutes gone and to come."""
 
     def __init__(
-        self, tasks: list[Task], cores: int, foretells: bool = True, clock: Callable[[], float] = time.monotonic
+        self,
+        tasks: list[Task],
+        cores: int,
+        lanes: int = 0,
+        foretells: bool = True,
+        clock: Callable[[], float] = time.monotonic,
     ) -> None:
-        self._tasks, self._cores, self._foretells, self._clock = tasks, cores, foretells, clock
+        self._tasks, self._cores, self._lanes, self._foretells, self._clock = tasks, cores, lanes, foretells, clock
         self._names = list(dict.fromkeys(it.crate for it in tasks))
         self._begun = self._told = self._ended = clock()
-        self._whole = schedule.minutes_left(tasks, (), cores)
+        self._whole = schedule.minutes_left(tasks, (), cores, lanes)
         self._pace = times.measured().get("pace", 1.0)
         self._functions, self._of_crate, self._within, self._current = 0, 0, "", ""
         self.proved: list[str] = []
@@ -46,7 +51,7 @@ class Progress:
 
     def minutes_to_come(self) -> float:
         """The minutes that are left at the pace of this run, or of an earlier one where this one has just begun."""
-        left = schedule.minutes_left(self._tasks, self.proved, self._cores)
+        left = schedule.minutes_left(self._tasks, self.proved, self._cores, self._lanes)
         return max(left * self._pace_so_far(left) - self.seconds_at_work() / 60, min(left, _LEAST_MINUTES))
 
     def _pace_so_far(self, left: float) -> float:

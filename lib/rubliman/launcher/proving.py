@@ -1,10 +1,10 @@
 """Proves and builds the programs where nothing kept serves.
 
 Two ways lead there, both the toolchain's own. `rt ci`, on a copy of the needed crates without their must-fail edits,
-proves crates side by side from nothing, and shares what it proves with every `rt ci` on this machine: what the gate
-proved is taken in seconds, and the gate takes what was proved here. `rt run`, in the checkout, proves over what
-`rt check` kept, so it is quicker where most was checked and a little was changed since. The first is begun; where much
-is left of it after some seconds, and checks have kept their work, the second takes over.
+proves crates side by side from nothing (`ahead` says how), and shares what it proves with every `rt ci` on this
+machine: what the gate proved is taken in seconds, and the gate takes what was proved here. `rt run`, in the checkout,
+proves over what `rt check` kept, so it is quicker where most was checked and a little was changed since. The first is
+begun; where much is left of it after some seconds, and checks have kept their work, the second takes over.
 """
 from __future__ import annotations
 
@@ -19,15 +19,19 @@ from collections.abc import Callable, Iterable, Iterator
 from dataclasses import dataclass
 from pathlib import Path
 
-from . import kept, places, running, schedule, toolchain
+from . import ahead, kept, places, running, schedule, toolchain
+from .ahead import Ahead
 from .kept import Kept, Record
 from .problem import Interrupted, Problem, say
 from .progress import Progress
+from .schedule import Task
 from .sources import PROGRAMS, Sources, read_sources
 
 BY_GATE, BY_RUN = "rt ci", "rt run"
 # Where so many seconds go by with no crate, `rt ci` proves and takes no more, and more than so many minutes are much.
 PATIENCE_SECONDS, MUCH_MINUTES = 15, 5
+# A crate that is kept is taken in less.
+TAKEN_SECONDS = 8
 _SHOWN_LINES = 400
 _HEAD = re.compile(r"== (.*)")
 _PROVED = re.compile(r"rt: (\w+(?:: its tests are)?) proved")
@@ -84,14 +88,15 @@ def _prove(asked: Asked) -> Kept:
     page = places.TOP / "docs" / "PROVING.md"
     tasks = schedule.tasks_of(asked.sources, page.read_text(encoding="utf-8") if page.is_file() else "")
     cores = len(os.sched_getaffinity(0))
-    progress, way = Progress(tasks, cores), BY_GATE
+    lanes = ahead.lanes(cores, ahead.free_memory())
+    progress, way = Progress(tasks, cores, lanes), BY_GATE
     say(
         f"proving and building {' and '.join(asked.programs)}: {progress.whole()} on {cores} processors, "
         f"where nothing of it was proved on this machine"
     )
     with tempfile.TemporaryDirectory(prefix="work-", dir=places.cache(), ignore_cleanup_errors=True) as room:
         try:
-            made = _by_gate(asked, Path(room), progress)
+            made = _by_gate(asked, Path(room), tasks, lanes, progress)
         except _Lags:
             say("going on by rt run, over what rt check kept of most crates on this machine")
             progress, way = Progress(tasks, cores, foretells=False), BY_RUN
@@ -127,6 +132,22 @@ class _Lags(Exception):
     """Much is left, and there is kept work to go on from."""
 
 
+class _Proves(Exception):
+    """Not all libraries were taken as they are kept: some have to be proved."""
+
+
+def _until_it_proves(libraries: list[Task], progress: Progress, tick: Callable[[], None]) -> Callable[[], None]:
+    """Gives what is called each second until a library takes longer than one that is kept."""
+    wanted = {it.crate for it in libraries}
+
+    def look() -> None:
+        tick()
+        if progress.seconds_at_work() >= TAKEN_SECONDS and not wanted <= set(progress.proved):
+            raise _Proves
+
+    return look
+
+
 def _checks_have_most(asked: Asked) -> bool:
     """Whether checks, here or in other checkouts, have kept their work on most of the crates, by lines."""
     crates, elsewhere = places.TOP / "crates", toolchain.checked_elsewhere(asked.rt)
@@ -150,7 +171,7 @@ def _watch(asked: Asked, progress: Progress) -> Callable[[], None]:
     return tick
 
 
-def _by_gate(asked: Asked, room: Path, progress: Progress) -> dict[str, Path]:
+def _by_gate(asked: Asked, room: Path, tasks: list[Task], lanes: int, progress: Progress) -> dict[str, Path]:
     """Proves by `rt ci` on a copy that is removed again. The toolchain keeps each crate that passes."""
     copy = room / "copy"
     write_copy(asked.sources, copy)
@@ -159,7 +180,14 @@ def _by_gate(asked: Asked, room: Path, progress: Progress) -> dict[str, Path]:
         os.chmod(temporary, 0o711)
         try:
             environment = {**toolchain.environment(), "TMPDIR": temporary}
-            _ran([asked.rt, "ci"], copy, environment, progress, _watch(asked, progress))
+            tick = _watch(asked, progress)
+            libraries = [it for it in tasks if it.crate not in asked.programs]
+            try:
+                first = _until_it_proves(libraries, progress, tick) if lanes else tick
+                _ran([asked.rt, "ci"], copy, environment, progress, first)
+            except _Proves:
+                Ahead(libraries, asked.rt, copy, environment, progress).prove(lanes, tick)
+                _ran([asked.rt, "ci"], copy, environment, progress, tick)
         except Refused as refused:
             if not progress.is_all_proved():
                 raise

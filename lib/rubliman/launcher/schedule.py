@@ -46,8 +46,18 @@ def tasks_of(sources: Sources, page: str) -> list[Task]:
     return tasks
 
 
-def minutes_left(tasks: Iterable[Task], proved: Iterable[str], cores: int) -> float:
-    """The minutes by the clock from where these crates are proved, the longest way first."""
+def longest_first(tasks: Iterable[Task]) -> list[str]:
+    """The crates, those with the longest way above them first."""
+    proofs = [it for it in tasks if not it.of_tests]
+    ways = _ways(proofs)
+    return sorted((it.crate for it in proofs), key=lambda it: -ways[it])
+
+
+def minutes_left(tasks: Iterable[Task], proved: Iterable[str], cores: int, lanes: int = 0) -> float:
+    """The minutes by the clock from where these crates are proved, the longest way first.
+
+    In lanes each crate has half of the processors, and four at most; with none, those that no other crate waits for.
+    """
     done = set(proved)
     left = [it for it in tasks if it.crate not in done]
     behind = _ways(left)
@@ -58,9 +68,9 @@ def minutes_left(tasks: Iterable[Task], proved: Iterable[str], cores: int) -> fl
         ready = [it for it in left if done.issuperset(it.below)]
         for at, task in enumerate(ready):
             idle = cores - sum(it[3] for it in running)
-            if idle < 1:
+            if idle < 1 or 0 < lanes <= len(running):
                 break
-            jobs = max(1, min(4, idle // (len(ready) - at)))
+            jobs = max(1, min(4, cores // 2 if lanes else idle // (len(ready) - at)))
             left.remove(task)
             number += 1
             heapq.heappush(running, (now + task.minutes / _SPEED[jobs], number, task, jobs))

@@ -1,0 +1,92 @@
+"""How the launcher proves crates one by one ahead of all, by a fake of the toolchain."""
+from __future__ import annotations
+
+import contextlib
+import io
+import os
+import unittest
+from collections.abc import Sequence
+
+from rubliman.launcher import ahead
+from rubliman.launcher.progress import Progress
+from rubliman.launcher.schedule import tasks_of
+from rubliman.launcher.sources import WORKBENCH, Sources, crates_of
+
+from .support import CRATES, PAGE, PROVES, InRepository, processes_in
+
+GIB = 1 << 30
+TEXT = "".join(f"{name}: {uses}\n" for name, uses in CRATES.items())
+# What `rt ci NAME` says where all goes well: of libraries that were proved before, and of the crate.
+SAYS = 'echo "rt: low is kept: an earlier run"; echo "== $2"; echo "logic=proved functions=3"; echo "rt: $2 proved"'
+
+
+class Ahead(InRepository):
+    """`low` takes 4 minutes and its tests 1, `side` 2, `high` 6 on `low`; the program stands on `high` and `side`."""
+
+    def prove(self, says: str, lanes: int = 2, taken: Sequence[str] = ()) -> str:
+        """Proves the crates below the program, by a toolchain that does this for each. Gives what is shown."""
+        self.fake("exit 9", ahead=says)
+        crates = crates_of(TEXT, [WORKBENCH])
+        tasks = tasks_of(Sources(crates, {f"crates/{it.name}/src/lib.rt": b"\n" * 100 for it in crates}), PAGE)
+        progress = Progress(tasks, 4, lanes)
+        progress.proved += taken
+        libraries = [it for it in tasks if it.crate != WORKBENCH]
+        with contextlib.redirect_stderr(io.StringIO()) as shown:
+            rt = str(self.bin / "rt")
+            ahead.Ahead(libraries, rt, self.top, self.environment(), progress).prove(lanes, progress.tick)
+        self.assertEqual(processes_in(self.top), [])
+        return shown.getvalue()
+
+    def test_how_many_side_by_side(self) -> None:
+        for cores, memory, due in ((1, 64, 0), (2, 64, 0), (4, 24, 2), (4, 8, 0), (8, 24, 2), (16, 64, 4), (16, 19, 0)):
+            with self.subTest(cores=cores, memory=memory):
+                self.assertEqual(ahead.lanes(cores, memory * GIB), due)
+        self.assertGreater(ahead.free_memory(), 0)
+
+    def test_each_crate_behind_those_that_it_stands_on(self) -> None:
+        shown = self.prove(SAYS, lanes=1)
+        self.assertEqual(self.all_calls(), ["ci low", "ci high", "ci side"])
+        self.assertIn("crate 3 of 4, side: proved, 6 functions", shown)
+
+    def test_two_side_by_side(self) -> None:
+        # `low` waits for `side`, which can only come where both are under way; `high` waits for `low`.
+        waits = f'[ "$2" = low ] && until grep -q "ci side" {self.log}; do sleep 0.1; done; {SAYS}'
+        self.prove(waits)
+        self.assertEqual(sorted(self.all_calls()), ["ci high", "ci low", "ci side"])
+        self.assertEqual(self.all_calls()[2], "ci high")
+
+    def test_what_was_taken_is_not_asked_for(self) -> None:
+        self.prove(SAYS, taken=["low"])
+        self.assertEqual(sorted(self.all_calls()), ["ci high", "ci side"])
+
+    def test_the_launcher_asks_once_something_is_to_be_proved(self) -> None:
+        if not ahead.lanes(len(os.sched_getaffinity(0)), ahead.free_memory()):
+            self.skipTest("crates are not proved side by side here")
+        again = self.room / "again"
+        self.fake(f"if ! [ -e {again} ]; then touch {again}; sleep 100 & wait $!; fi; {PROVES}", ahead=SAYS)
+        done = self.sparc8(given="list\n")
+        self.assertEqual((done.returncode, done.stdout), (0, "words \nlist\n"))
+        calls = self.all_calls()
+        self.assertEqual((calls[0], sorted(calls[1:4]), calls[4:]), ("ci", ["ci high", "ci low", "ci side"], ["ci"]))
+        self.assert_nothing_left()
+
+    def test_one_that_fails_ends_all(self) -> None:
+        shown = self.prove('[ "$2" = low ] && exit 1; sleep 100')
+        self.assertEqual((sorted(self.all_calls()), shown), (["ci low", "ci side"], ""))
+
+    def test_the_launcher_ends_what_is_under_way(self) -> None:
+        if not ahead.lanes(4, ahead.free_memory()):
+            self.skipTest("there is no memory for crates side by side")
+        begun = self.room / "begun"
+        self.fake("sleep 100 & wait $!", ahead=f"touch {begun}; sleep 100 & wait $!")
+        with self.begun("--program") as process:
+            self.wait_for(begun)
+            process.terminate()
+            _, said = process.communicate(timeout=60)
+        self.assertEqual(process.returncode, 143)
+        self.assertIn("interrupted", said)
+        self.assert_nothing_left()
+
+
+if __name__ == "__main__":
+    unittest.main()
