@@ -20,10 +20,10 @@ use Rattle.sv8_edits.specs.EditLaws.{CanRun, Edits, Refeeds}
 use Rattle.sv8_edits.proofs.Common.{standing_inputs}
 use Rattle.sv8_trace.specs.declared.patch.Patch.{Patch}
 use Rattle.sv8_trace.specs.Patch.{changes_of}
-use Rattle.sv8_trace.specs.Recording.{Recording, is_translated, recorded, trace_of}
+use Rattle.sv8_trace.specs.Recording.{Recording, signs_of, recorded, trace_of}
 use Rattle.sv8_trace.specs.Prepared.{prepared_trace, IsPlaced, Near, Preparation}
-use Rattle.sv8_trace.specs.Recorder.{translates_among}
-use Rattle.sv8_trace.proofs.Common.{near_agrees, agrees_along, translates_alike}
+use Rattle.sv8_trace.specs.Signs.{signs_among}
+use Rattle.sv8_trace.proofs.Common.{near_agrees, agrees_along, signs_alike}
 use Rattle.sv8_bench.specs.Kept.{Kept, with_timeline}
 use Rattle.sv8_bench.specs.Alike.{StaysAlike}
 use Rattle.sv8_bench.specs.Workbench.{Workbench, IsRecordOf, IsRun, IsEdited, IsRefed}
@@ -42,16 +42,16 @@ module _ (windows pages k : ℕ) (pos : 0 < k) where
   of_any source s valid other trace is =
       later_keeps (machine windows pages) k pos (run_of windows pages source s valid) (run_of windows pages source s other) trace is refl (λ n h. refl)
 
-  -- the flags stay right where the registers of the memory management unit do
-  flags_stay : (old new : Run (machine windows pages)) (r r' : Recording) → length r'.intervals ≤ length r.intervals → IsRecordOf windows pages k old r
-      → ((i : ℕ) → i < length r'.intervals → is_translated r' i ≡ is_translated r i)
+  -- the signs stay right where the processors do
+  signs_stay : (old new : Run (machine windows pages)) (r r' : Recording) → length r'.intervals ≤ length r.intervals → IsRecordOf windows pages k old r
+      → ((i : ℕ) → i < length r'.intervals → signs_of r' i ≡ signs_of r i)
       → ((n : ℕ) → n ≤ recorded k r' → IsSameProcessor (state_at (machine windows pages) old n) (state_at (machine windows pages) new n))
-      → (i : ℕ) → i < length r'.intervals → is_translated r' i ≡ translates_among (λ j. state_at (machine windows pages) new (k * i + j)) k
-  flags_stay old new r r' fewer record_is flags same i l =
+      → (i : ℕ) → i < length r'.intervals → signs_of r' i ≡ signs_among (λ j. state_at (machine windows pages) new (k * i + j)) k
+  signs_stay old new r r' fewer record_is signs same i l =
       let within : k * (i + 1) ≤ k * length r'.intervals = mul-le-mul_left k (omega arith) in
-      flags i l ∙ record_is.flags i (omega (arith, l, fewer))
-      ∙ translates_alike (λ j. state_at (machine windows pages) old (k * i + j)) (λ j. state_at (machine windows pages) new (k * i + j)) k
-      (λ j below. (same (k * i + j) (omega (arith, within, below))).mmu)
+      signs i l ∙ record_is.signs i (omega (arith, l, fewer))
+      ∙ signs_alike (λ j. state_at (machine windows pages) old (k * i + j)) (λ j. state_at (machine windows pages) new (k * i + j)) k
+      (λ j below. same (k * i + j) (omega (arith, within, below)))
 
   module _ (source : Text) (s : Schedule) (r : Recording) (worked : ℕ) where
     abbrev pub old : Workbench
@@ -104,7 +104,7 @@ module _ (windows pages k : ℕ) (pos : 0 < k) where
             trace = agrees_keeps (machine windows pages) k (run_of windows pages source' s' edits.events) (history.edited (machine windows pages) k (trace_of windows pages k r) cs) (trace_of windows pages k r') same
                 (edit_keeps (machine windows pages) (framed windows pages) k pos (run_of windows pages source s run.events) (run_of windows pages source' s' edits.events) (trace_of windows pages k r) cs run.record_is.trace
                 (edits.planned (k * length r.intervals) steps) edits.edited);
-            flags = flags_stay (run_of windows pages source s run.events) (run_of windows pages source' s' edits.events) r r' (edited_is.recorded run.events).fewer run.record_is placed.flags states_alike;
+            signs = signs_stay (run_of windows pages source s run.events) (run_of windows pages source' s' edits.events) r r' (edited_is.recorded run.events).fewer run.record_is placed.signs states_alike;
           };
         }
 
@@ -149,7 +149,7 @@ module _ (windows pages k : ℕ) (pos : 0 < k) where
           record_is = record {
             trace = agrees_keeps (machine windows pages) k (run_of windows pages source s' refeeds.events) (history_input.edited_input (machine windows pages) k (trace_of windows pages k r) step) (trace_of windows pages k r') fed_same
                 (input_edit_keeps (machine windows pages) (framed windows pages) k pos (run_of windows pages source s run.events) (run_of windows pages source s' refeeds.events) (trace_of windows pages k r) step run.record_is.trace refeeds.refed);
-            flags = flags_stay (run_of windows pages source s run.events) (run_of windows pages source s' refeeds.events) r r' (refed_is.recorded run.events).fewer run.record_is placed.flags fed_alike;
+            signs = signs_stay (run_of windows pages source s run.events) (run_of windows pages source s' refeeds.events) r r' (refed_is.recorded run.events).fewer run.record_is placed.signs fed_alike;
           };
         }
 

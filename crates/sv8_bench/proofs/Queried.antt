@@ -14,9 +14,10 @@ use Rattle.sv8_cpu.specs.Work.{counted}
 use Rattle.sv8_cpu.specs.Recorded.{machine, event_at, run_of, AreEvents}
 use Rattle.sv8_cpu.proofs.Common.{state_is}
 use Rattle.sv8_edits.proofs.Common.{fed}
-use Rattle.sv8_trace.specs.Recorder.{steps_on, counted_by, translates_among, RaisedUpTo}
-use Rattle.sv8_trace.specs.Recording.{Recording, fresh, blank, is_translated, last_point, recorded, trace_of, IsExtended}
-use Rattle.sv8_trace.proofs.Common.{translates_alike}
+use Rattle.sv8_trace.specs.Recorder.{steps_on, counted_by, RaisedUpTo}
+use Rattle.sv8_trace.specs.Recording.{Recording, fresh, blank, signs_of, last_point, recorded, trace_of, IsExtended}
+use Rattle.sv8_trace.specs.Signs.{signs_among}
+use Rattle.sv8_trace.proofs.Common.{signs_alike}
 use Rattle.sv8_bench.specs.Kept.{Kept}
 use Rattle.sv8_bench.specs.Shown.{machine_state}
 use Rattle.sv8_bench.specs.Workbench.{Workbench, run_of_kept, IsRecordOf, IsRun, IsGivenUp}
@@ -107,21 +108,22 @@ extended_keeps windows pages k schedule old new pos longer start valid h =
     record {
       trace = agrees_keeps (machine windows pages) k run (extended (machine windows pages) k run (trace_of windows pages k old)) (trace_of windows pages k new) (longer.agrees start valid)
           (extend_keeps (machine windows pages) k pos run (trace_of windows pages k old) h.trace);
-      flags = λ i l. flagged run i (let more = (longer.agrees start valid).count in omega (arith, l, more)) (cases_lt i (length old.intervals));
+      signs = λ i l. signed run i (let more = (longer.agrees start valid).count in omega (arith, l, more)) (cases_lt i (length old.intervals));
     }
   where
-    flagged : (run : Run (machine windows pages)) (i : ℕ) → i ≤ length old.intervals → (i < length old.intervals) ⊎ (length old.intervals ≤ i)
-        → is_translated new i ≡ translates_among (λ j. state_at (machine windows pages) (record { start = start; events = event_at schedule; valid = valid }) (k * i + j)) k
-    flagged run i most (inl below) = longer.flags i below ∙ h.flags i below
-    flagged run i most (inr last) =
+    signed : (run : Run (machine windows pages)) (i : ℕ) → i ≤ length old.intervals → (i < length old.intervals) ⊎ (length old.intervals ≤ i)
+        → signs_of new i ≡ signs_among (λ j. state_at (machine windows pages) (record { start = start; events = event_at schedule; valid = valid }) (k * i + j)) k
+    signed run i most (inl below) = longer.signs i below ∙ h.signs i below
+    signed run i most (inr last) =
         let count = length old.intervals in
         let here : i ≡ count = omega (arith, most, last) in
         let point = ap (λ x. get_or old.points x blank) (sym (mul-div_cancel_left count pos)) ∙ h.trace.points count (omega arith) in
-        ap (is_translated new) here ∙ longer.flag
-        ∙ translates_alike (λ j. steps_on windows pages schedule (k * count) (last_point old) j)
+        ap (signs_of new) here ∙ longer.new_signs
+        ∙ signs_alike (steps_on windows pages schedule (k * count) (last_point old))
         (λ j. state_at (machine windows pages) (record { start = start; events = event_at schedule; valid = valid }) (k * count + j)) k
-        (λ j below. ap (λ (s : State). s.mmu) (steps_at windows pages schedule start valid (k * count) (last_point old) point j))
-        ∙ ap (λ x. translates_among (λ j. state_at (machine windows pages) (record { start = start; events = event_at schedule; valid = valid }) (k * x + j)) k) (sym here)
+        (λ j below. let is = steps_at windows pages schedule start valid (k * count) (last_point old) point j in
+        record { processor = ap (λ (s : State). s.processor) is; mmu = ap (λ (s : State). s.mmu) is })
+        ∙ ap (λ x. signs_among (λ j. state_at (machine windows pages) (record { start = start; events = event_at schedule; valid = valid }) (k * x + j)) k) (sym here)
 
 -- ---- a new record
 
@@ -136,7 +138,7 @@ fresh_is windows pages k pos run r e = rw e (record {
     notes = λ n l. absurd (omega (arith, l));
     kept = λ n a. let above = le-ltb n (k * 0) (omega arith) in rw above refl;
   };
-  flags = λ i l. absurd (omega (arith, l));
+  signs = λ i l. absurd (omega (arith, l));
 })
   where
     start : (i : ℕ) → i ≡ 0 → 0 ≡ k * i

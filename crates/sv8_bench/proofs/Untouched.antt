@@ -1,5 +1,5 @@
 -- A range of recorded steps that leaves some bytes of RAM alone.
-use Rattle.std.proofs.Common.{◌≡◌, ℕ, ◌+◌, ◌*◌, ◌/◌, ◌%◌, ◌<◌, ◌≤◌, Bool, true, false, not, MatchBool, Option, Some, None, List, [], ◌∷◌, length, get_or, refl, sym, ◌∙◌, ap, ap₂, arith, subst}
+use Rattle.std.proofs.Common.{◌≡◌, ℕ, suc, ◌+◌, ◌*◌, ◌/◌, ◌%◌, ◌<◌, ◌≤◌, Bool, true, false, not, MatchBool, Option, Some, None, List, [], ◌∷◌, length, get_or, refl, sym, ◌∙◌, ap, ap₂, arith}
 use Rattle.std.specs.Prelude.{◌&&◌, ◌||◌, is_some}
 use Rattle.std.proofs.lemmas.List.Folds.{list_any-append}
 use Rattle.std.proofs.lemmas.Bool.{true≢false}
@@ -11,15 +11,18 @@ use Rattle.sv8_time.specs.Words.{poked_from, poked_bytes, bytes_of_words}
 use Rattle.sv8_cpu.specs.State.{State}
 use Rattle.sv8_cpu.specs.Recorded.{machine}
 use Rattle.sv8_cpu.specs.Run.{footprint}
-use Rattle.sv8_cpu.specs.Touching.{IsUntranslated, touches_byte, is_within, pokes_any}
+use Rattle.sv8_cpu.specs.Touching.{touches_byte, is_within, pokes_any}
 use Rattle.sv8_cpu.proofs.Common.{footprint_is, state_is}
 use Rattle.sv8_trace.specs.Recording.{recorded, trace_of}
 use Rattle.sv8_trace.specs.Touching.{NoneTouches}
-use Rattle.sv8_trace.specs.Translating.{NoneTranslates}
-use Rattle.sv8_trace.proofs.Common.{each_untranslated}
+use Rattle.sv8_trace.specs.Showing.{NoneShows}
+use Rattle.sv8_trace.specs.Signs.{has_sign, shows}
+use Rattle.sv8_trace.specs.declared.signs.Sign.{Sign}
+use Rattle.sv8_trace.specs.declared.signs.Sign.TheVariants as sign
+use Rattle.sv8_trace.proofs.Common.{each_shows_none}
 use Rattle.sv8_bench.specs.Shown.{machine_state}
 use Rattle.sv8_bench.specs.Workbench.{Workbench, run_of_kept, IsRun}
-use Rattle.sv8_bench.specs.Touching.{NonePokes, IsUntouched, IsUnreached}
+use Rattle.sv8_bench.specs.Touching.{NonePokes, IsUntouched, IsUnreached, IsTrapless}
 
 -- ---- poked bytes
 
@@ -100,26 +103,36 @@ module _ (k : ℕ) (w : Workbench) (run : IsRun k w) (address count from to : �
   answer_by_touches true e h = absurd (true≢false e)
   answer_by_touches false e h = λ it. h (none_touches it)
 
--- ---- the recorded steps in which no address is translated
+-- ---- the recorded steps that show a sign
 
--- those of intervals without a flag
-pub untranslated : (k : ℕ) (w : Workbench) → 0 < k → IsRun k w → (from to : ℕ) → to ≤ recorded k w.recording → NoneTranslates k w.recording from to → (n : ℕ) → from ≤ n → n < to
-    → IsUntranslated (machine_state w.kept n)
-untranslated k w pos run from to within none n low below =
-    let i = n / k in
-    let j = n % k in
-    let split = div-add-mod n k in
-    let here : i < length w.recording.intervals =
-    (div-lt_iff_lt-mul pos).1 (omega (arith, below, within, mul_comm (length w.recording.intervals) k)) in
-    let flag = sym (run.record_is.flags i here) ∙ none n low below in
-    let states : ℕ → State = λ x. state_at (machine w.kept.windows w.kept.pages) (run_of_kept w.kept run.events) (k * i + x) in
-    let at : k * i + j ≡ n = omega (arith, split) in
-    let is = ap (state_at (machine w.kept.windows w.kept.pages) (run_of_kept w.kept run.events)) at ∙ state_is w.kept.windows w.kept.pages w.kept.source w.kept.timeline run.events n in
-    subst IsUntranslated is (each_untranslated states k flag j (mod-lt n pos))
+module _ (k : ℕ) (w : Workbench) (pos : 0 < k) (run : IsRun k w) (from to : ℕ) (within : to ≤ recorded k w.recording) where
+  abbrev state_of : ℕ → State
+  state_of = state_at (machine w.kept.windows w.kept.pages) (run_of_kept w.kept run.events)
 
--- the answer by the flags
-pub answer_by_flags : (k : ℕ) (w : Workbench) (address from to : ℕ) → 0 < k → IsRun k w → (plain : Bool) → IsUntouched k w address 4 from to
-    → MatchBool plain (NoneTranslates k w.recording from to) (NoneTranslates k w.recording from to → ⊥)
-    → MatchBool plain (IsUnreached k w address from to) (IsUntouched k w address 4 from to → NoneTranslates k w.recording from to → ⊥)
-answer_by_flags k w address from to pos run true spared h = record { untouched = spared; untranslated = untranslated k w pos run from to spared.recorded h }
-answer_by_flags k w address from to pos run false spared h = λ it none. h none
+  state_there : (m n : ℕ) → m ≡ n → state_of m ≡ machine_state w.kept n
+  state_there m n e = ap state_of e ∙ state_is w.kept.windows w.kept.pages w.kept.source w.kept.timeline run.events n
+
+  -- those of intervals without it show none
+  shown_none : (s : Sign) → NoneShows s k w.recording from to → (n : ℕ) → from ≤ n → n < to → shows s (machine_state w.kept n) (machine_state w.kept (n + 1)) ≡ false
+  shown_none s none n low below =
+      let i = n / k in
+      let j = n % k in
+      let split = div-add-mod n k in
+      let here : i < length w.recording.intervals =
+      (div-lt_iff_lt-mul pos).1 (omega (arith, below, within, mul_comm (length w.recording.intervals) k)) in
+      let it = ap (has_sign s) (sym (run.record_is.signs i here)) ∙ none n low below in
+      let before = state_there (k * i + j) n (omega (arith, split)) in
+      let after = state_there (k * i + suc j) (n + 1) (omega (arith, split)) in
+      sym (ap₂ (shows s) before after) ∙ each_shows_none s (λ x. state_of (k * i + x)) k it j (mod-lt n pos)
+
+  -- the answers by the signs
+  pub answer_unreached : (address : ℕ) (none : Bool) → IsUntouched k w address 4 from to
+      → MatchBool none (NoneShows sign.Translation k w.recording from to) (NoneShows sign.Translation k w.recording from to → ⊥)
+      → MatchBool none (IsUnreached k w address from to) (IsUntouched k w address 4 from to → NoneShows sign.Translation k w.recording from to → ⊥)
+  answer_unreached address true spared h = record { untouched = spared; untranslated = shown_none sign.Translation h }
+  answer_unreached address false spared h = λ it none. h none
+
+  pub answer_trapless : (none : Bool) → MatchBool none (NoneShows sign.Trap k w.recording from to) (NoneShows sign.Trap k w.recording from to → ⊥)
+      → MatchBool none (IsTrapless k w from to) (to ≤ recorded k w.recording → NoneShows sign.Trap k w.recording from to → ⊥)
+  answer_trapless true h = record { recorded = within; apart = shown_none sign.Trap h }
+  answer_trapless false h = λ it none. h none

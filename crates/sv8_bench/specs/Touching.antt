@@ -1,7 +1,8 @@
--- Ranges of recorded steps that leave some bytes of RAM alone, or reach no instruction there.
-use Rattle.std.specs.Prelude.{◌≡◌, ℕ, ◌<◌, ◌≤◌, false}
+-- Ranges of recorded steps that leave some bytes of RAM alone, reach no instruction there, or take no trap.
+use Rattle.std.specs.Prelude.{◌≡◌, ℕ, ◌+◌, ◌<◌, ◌≤◌, false}
 use Rattle.sv8_time.specs.Schedule.{Schedule, pokes_of_step}
 use Rattle.sv8_cpu.specs.Touching.{IsUntranslated, SparesBytes, pokes_any}
+use Rattle.sv8_cpu.specs.Trapping.{may_have_trapped}
 use Rattle.sv8_trace.specs.Recording.{recorded}
 use Rattle.sv8_bench.specs.Shown.{machine_state}
 use Rattle.sv8_bench.specs.Workbench.{Workbench}
@@ -20,3 +21,8 @@ pub record IsUntouched (k : ℕ) (w : Workbench) (address count from to : ℕ) :
 pub record IsUnreached (k : ℕ) (w : Workbench) (address from to : ℕ) : Type 0 where
   pub untouched : IsUntouched k w address 4 from to
   pub untranslated : (n : ℕ) → from ≤ n → n < to → IsUntranslated (machine_state w.kept n)
+
+-- THE STEPS FROM ONE ON AND BELOW ANOTHER ARE RECORDED, AND NONE OF THEM LED A MACHINE THAT RAN WHERE A TRAP LEADS: none of them takes one
+pub record IsTrapless (k : ℕ) (w : Workbench) (from to : ℕ) : Type 0 where
+  pub recorded : to ≤ recorded k w.recording
+  pub apart : (n : ℕ) → from ≤ n → n < to → may_have_trapped (machine_state w.kept n).processor (machine_state w.kept (n + 1)).processor ≡ false

@@ -9,8 +9,9 @@ use Rattle.sv8_history.specs.Laws.{IsRightCount}
 use Rattle.sv8_history.specs.Growing.{restored}
 use Rattle.sv8_cpu.specs.State.{reset_state}
 use Rattle.sv8_cpu.specs.Recorded.{machine, run_of, AreEvents, IsSound}
-use Rattle.sv8_trace.specs.Recorder.{counted_by, translates_among, RaisedUpTo}
-use Rattle.sv8_trace.specs.Recording.{Recording, is_translated, trace_of}
+use Rattle.sv8_trace.specs.Recorder.{counted_by, RaisedUpTo}
+use Rattle.sv8_trace.specs.Recording.{Recording, signs_of, trace_of}
+use Rattle.sv8_trace.specs.Signs.{signs_among}
 use Rattle.sv8_bench.specs.Kept.{Kept, empty}
 
 pub record Workbench : Type 0 where
@@ -38,11 +39,11 @@ pub record IsSized (nw ram_pages k : ℕ) (w : Workbench) : Type 0 where
   pub some_steps : 1 ≤ k
   pub few_steps : k ≤ 1000000
 
--- THE RECORD OF A RUN: each checkpoint is the state of its step, each step has the notes of what it touches, and the flag of each interval tells whether
--- addresses are translated in a state before one of its steps.
+-- THE RECORD OF A RUN: each checkpoint is the state of its step, each step has the notes of what it touches, and each interval has the signs that the
+-- states before and after its steps show.
 pub record IsRecordOf (windows pages k : ℕ) (run : Run (machine windows pages)) (r : Recording) : Type 0 where
   pub trace : IsTraceOf (machine windows pages) k run (trace_of windows pages k r)
-  pub flags : (i : ℕ) → i < length r.intervals → is_translated r i ≡ translates_among (λ j. state_at (machine windows pages) run (k * i + j)) k
+  pub signs : (i : ℕ) → i < length r.intervals → signs_of r i ≡ signs_among (λ j. state_at (machine windows pages) run (k * i + j)) k
 
 -- THE RECORDED RUN IS THAT OF THE SOURCE AND THE TIMELINE as they are now.
 pub record IsRun (k : ℕ) (w : Workbench) : Type 0 where

@@ -31,6 +31,8 @@ mod timelines;
 #[cfg(test)]
 mod translation;
 #[cfg(test)]
+mod trapless;
+#[cfg(test)]
 mod unreached;
 #[cfg(test)]
 mod untouched;

@@ -64,6 +64,19 @@ fn is_copied(alloc: Global) -> bool {
     fills(alloc, &mut timeline) && copies(alloc, &mut timeline)
 }
 
+/// Whether a new timeline has no events, and one may be asked for at the step of an event.
+fn tells_events(alloc: Global) -> bool {
+    let mut timeline = Timeline::new(alloc, 4_096);
+    let none = !timeline.may_have_events(3) && !timeline.may_have_events(0);
+    let set = timeline.set_request(alloc, 3, 5).is_ok();
+    none && set && timeline.may_have_events(3)
+}
+
+#[test]
+fn a_step_without_events_is_known(rt: HostRuntime) {
+    assert!(rt; tells_events(rt.alloc()));
+}
+
 #[test]
 fn a_full_timeline_is_copied(rt: HostRuntime) {
     assert!(rt; is_copied(rt.alloc()));

@@ -66,10 +66,10 @@ use Rattle.sv8_cpu.proofs.Pages.{place_aligned}
 pub record Silent {R : Type 0} (a : Action R) : Type 0 where
   pub none : (o : Outside) → observations a o ≡ []
 
-silent_done : {R : Type 0} (x : R) → Silent (done x)
+pub silent_done : {R : Type 0} (x : R) → Silent (done x)
 silent_done x = record { none = λ o. refl }
 
-silent_if : {R : Type 0} (b : Bool) (x y : Action R) → Silent x → Silent y → Silent (cond b x y)
+pub silent_if : {R : Type 0} (b : Bool) (x y : Action R) → Silent x → Silent y → Silent (cond b x y)
 silent_if true x y p q = p
 silent_if false x y p q = q
 
@@ -79,7 +79,7 @@ silent_load k g h = record { none = λ o. (h _).none o }
 silent_store : {R : Type 0} (k v : ℕ) (a : Action R) → Silent a → Silent (store_word k v a)
 silent_store k v a h = record { none = λ o. h.none _ }
 
-silent_then : {A B : Type 0} (a : Action A) (f : A → Action B) → Silent a → ((x : A) → Silent (f x)) → Silent (a >>= f)
+pub silent_then : {A B : Type 0} (a : Action A) (f : A → Action B) → Silent a → ((x : A) → Silent (f x)) → Silent (a >>= f)
 silent_then a f p q = record { none = λ o. observations-then a f o ∙ ap (λ os. os ++ observations (f (result_of a o)) (after a o)) (p.none o) ∙ (q (result_of a o)).none (after a o) }
 
 -- ---- walks, translations and probes
@@ -115,7 +115,7 @@ silent_settled limit va access_type reach (Fault kind level) = silent_done _
 silent_settled limit va access_type reach (Page e level at) =
     silent_unless (fault_type access_type e) level _ (silent_if (is_served limit reach (physical_address e level va)) _ _ (silent_marks access_type e at _) (silent_done _))
 
-silent_translate : (limit : ℕ) (r : Mmu) (va : ℕ) (access_type : AccessType) (reach : Reach) → Silent (translate limit r va access_type reach)
+pub silent_translate : (limit : ℕ) (r : Mmu) (va : ℕ) (access_type : AccessType) (reach : Reach) → Silent (translate limit r va access_type reach)
 unfolding translate
 silent_translate limit r va access_type reach =
     silent_if (translates r) _ _ (silent_then _ _ (silent_walk limit r.table_pointer r.context va) (λ w. silent_settled limit va access_type reach w)) (silent_done _)
@@ -127,7 +127,7 @@ silent_sought limit (suc depth) [] e = silent_done _
 silent_sought limit (suc depth) (to ∷ below) e =
     silent_if (is_pointer e) _ _ (silent_entry limit (table_of e + 4 * to.index) 0 _ (λ v. silent_sought limit depth below v)) (silent_done _)
 
-silent_probe : (limit : ℕ) (r : Mmu) (va : ℕ) → Silent (probe limit r va)
+pub silent_probe : (limit : ℕ) (r : Mmu) (va : ℕ) → Silent (probe limit r va)
 unfolding probe
 silent_probe limit r va =
     silent_if (nat_lt (probe_type va) 4) _ _ (silent_entry limit (root_of r.table_pointer r.context) 0 _ (λ v. silent_sought limit _ (indices_of va) v))
@@ -259,7 +259,7 @@ silent_device_load timer pa =
     silent_if (pa == output_address) _ _ (silent_done _) (silent_if (pa == count_address) _ _ (silent_done _) (silent_if (pa == reload_address) _ _ (silent_done _)
     (silent_if (pa == pending_address) _ _ (record { none = λ o. refl }) (silent_done _))))
 
-silent_outside_load : (timer : Timer) (size : Size) (pa : ℕ) → Silent (outside_load timer size pa)
+pub silent_outside_load : (timer : Timer) (size : Size) (pa : ℕ) → Silent (outside_load timer size pa)
 silent_outside_load timer Byte pa = silent_done _
 silent_outside_load timer Half pa = silent_done _
 silent_outside_load timer Word pa = silent_device_load timer pa
@@ -271,7 +271,7 @@ silent_device_store timer pa value =
     silent_if (pa == output_address) _ _ (record { none = λ o. refl }) (silent_if (pa == count_address) _ _ (silent_done _) (silent_if (pa == reload_address) _ _ (silent_done _)
     (silent_if (pa == pending_address) _ _ (record { none = λ o. refl }) (silent_if (pa == input_address) _ _ (silent_done _) (silent_if (pa == waiting_address) _ _ (silent_done _) (silent_done _))))))
 
-silent_outside_store : (timer : Timer) (size : Size) (pa value : ℕ) → Silent (outside_store timer size pa value)
+pub silent_outside_store : (timer : Timer) (size : Size) (pa value : ℕ) → Silent (outside_store timer size pa value)
 silent_outside_store timer Byte pa value = silent_done _
 silent_outside_store timer Half pa value = silent_done _
 silent_outside_store timer Word pa value = silent_device_store timer pa value

@@ -10,6 +10,8 @@ pub mod RecordedLaws
 pub mod Frames
 pub mod DeviceLaws
 pub mod Touching
+pub mod Trapping
+pub mod Console
 pub mod Loading
 pub mod Work
 pub mod WordPokes

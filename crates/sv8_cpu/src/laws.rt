@@ -9,6 +9,8 @@ ghost use Rattle.sv8_cpu.specs.RecordedLaws.{AccessFrames, StepFrames, RunsAgree
 ghost use Rattle.sv8_cpu.specs.DeviceLaws.{DevicesAreServed};
 ghost use Rattle.sv8_cpu.specs.Frames.{EventsCome, StepsAreWhole, RunsAreWhole, SetsFrame, RunsFrame, CellsStay, BytesFrame, WaitingFrames, LevelsFrame, RequestedLevelsAgree};
 ghost use Rattle.sv8_cpu.specs.Touching.{SparedBytesStay, AccessesTouch, StepsTouch, FetchesTouch, AnnulledStepsPass};
+ghost use Rattle.sv8_cpu.specs.Trapping.{TrapsLeadThere};
+ghost use Rattle.sv8_cpu.specs.Console.{ConsolesGrow};
 
 /// The steps of small programs, computed from the definition of a step.
 ///
@@ -218,4 +220,15 @@ pub fn fetches_touch()
 /// A step that has an annulled slot in front of it takes an interrupt, or it passes over the slot, and nothing is seen of it.
 pub fn annulled_steps_pass()
     ensures { AnnulledStepsPass }
+{}
+
+/// A trap, or an interrupt, leads into error mode, or to the address in TBR (section 7.2). So no trap is seen of a step that leads
+/// to neither, and none of a step of a machine that is in error mode before it.
+pub fn traps_lead_there()
+    ensures { TrapsLeadThere }
+{}
+
+/// After a step no fewer bytes are taken from the console, and no fewer are put out.
+pub fn consoles_grow()
+    ensures { ConsolesGrow }
 {}

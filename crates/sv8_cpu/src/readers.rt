@@ -12,6 +12,7 @@ ghost use Rattle.sv8_phys.specs.Pieces.{piece_of};
 ghost use Rattle.sv8_mmu.specs.Place.{place_of};
 ghost use Rattle.sv8_cpu.specs.Sameness.{IsSameProcessor};
 ghost use Rattle.sv8_cpu.specs.State.{waiting};
+ghost use Rattle.sv8_cpu.specs.Trapping.{is_at_trap};
 
 use crate::machine::Machine;
 use crate::parts::Parts;
@@ -58,6 +59,16 @@ impl<const NW: usize, const PAGES: usize> Machine<NW, PAGES> {
         ensures { result ≡ self.now.processor.running }
     {
         self.parts.processor.is_running()
+    }
+
+    /// Whether a trap may have led here: the machine is in error mode, or PC is the address in TBR (section 7.2). Where it is
+    /// neither after a step, the step took no trap (law `traps_lead_there`).
+    #[inline(always)]
+    pub fn is_at_trap(&self) -> bool
+        ensures { result ≡ is_at_trap self.now.processor }
+    {
+        let processor = &self.parts.processor;
+        !processor.is_running() || processor.pc() == processor.registers().tbr()
     }
 
     /// The registers of the memory management unit (Appendix H).

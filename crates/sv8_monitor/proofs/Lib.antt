@@ -16,4 +16,4 @@ pub mod Faults
 pub mod ConditionLemmas
 pub mod Poked
 pub mod Counted
-pub mod Running
+pub mod Shown

@@ -1,19 +1,20 @@
 -- Intervals of a falling search that are passed over.
-use Rattle.std.proofs.Common.{◌≡◌, ◌∙◌, ℕ, zero, suc, ◌+◌, ◌-◌, ◌*◌, ◌/◌, ◌%◌, ◌<◌, ◌≤◌, ◌==◌, ◌&&◌, ◌||◌, Bool, true, false, nat_le, MatchBool, List, [], ◌∷◌, ◌++◌, length, map, take, reverse, Option, Some, None, if◌then◌else◌, refl, sym, ap, append-nil, arith}
-use Rattle.std.proofs.Math.Nat.{div-lt_iff_lt-mul}
+use Rattle.std.proofs.Common.{◌≡◌, ◌∙◌, ℕ, zero, suc, ◌+◌, ◌-◌, ◌%◌, ◌<◌, ◌≤◌, ◌==◌, ◌||◌, Bool, true, false, nat_le, MatchBool, List, [], ◌∷◌, ◌++◌, length, map, take, reverse, Some, None, if◌then◌else◌, refl, sym, ap, append-nil, arith}
 use Rattle.std.proofs.lemmas.Bool.{leb-true, and_parts, false≢true}
 use Rattle.std.specs.List.{list_any}
+use Rattle.sv8_time.specs.Schedule.{Schedule}
 use Rattle.sv8_phys.specs.Memory.{ram_size}
+use Rattle.sv8_cpu.specs.State.{State}
 use Rattle.sv8_watch.specs.declared.condition.Condition.{Condition}
 use Rattle.sv8_watch.specs.declared.condition.Condition.TheVariants.{Pc, Load, Store, Touch, Change, Trap, TrapType, Error, Input, Output, Event, Every}
 use Rattle.sv8_watch.specs.declared.span.Span.{Span}
-use Rattle.sv8_watch.specs.Conditions.{meets}
+use Rattle.sv8_watch.specs.Conditions.{meets, meets_any}
 use Rattle.sv8_watch.specs.Touching.{some_bytes, word_span, span_of}
 use Rattle.sv8_watch.proofs.Sparing.{spared_steps_miss, spared_pcs_miss}
 use Rattle.sv8_bench.specs.Kept.{Kept}
 use Rattle.sv8_bench.specs.Shown.{machine_state}
 use Rattle.sv8_bench.specs.Touching.{IsUntouched, IsUnreached}
-use Rattle.sv8_bench.specs.Workbench.{Workbench, checkpoints}
+use Rattle.sv8_bench.specs.Workbench.{Workbench}
 use Rattle.sv8_monitor.specs.Search.{is_inside, is_wanted, rising}
 
 module _ (wanted : ℕ → Bool) where
@@ -90,13 +91,6 @@ module _ (k : ℕ) (w : Workbench) (c : Condition) (span : Span) (from to : ℕ)
       let all = untouched b (IsUntouched k w span.address span.count from to) h e in
       spared_steps_miss kept.windows kept.pages kept.timeline n (machine_state kept n) c span few (sym is) inside (all.spared n low below)
 
-  pub spared_recorded : 0 < k → to / k ≤ checkpoints w
-  spared_recorded pos =
-      let all = untouched b (IsUntouched k w span.address span.count from to) h e in
-      let recorded = all.recorded in
-      let under : to / k < checkpoints w + 1 = (div-lt_iff_lt-mul pos).1 (omega (arith, recorded, pos)) in
-      omega (arith, under)
-
 -- no instruction at an address is reached
 shown : (b : Bool) (P Q : Type 0) → MatchBool b P Q → b ≡ true → P
 shown true P Q h e = h
@@ -110,13 +104,6 @@ module _ (k : ℕ) (w : Workbench) (address from to : ℕ) (b : Bool) (Q : Type 
       let all = shown b (IsUnreached k w address from to) Q h e in
       spared_pcs_miss kept.windows kept.pages kept.timeline n (machine_state kept n) address (all.untranslated n low below) inside (all.untouched.spared n low below)
 
-  pub unreached_recorded : 0 < k → to / k ≤ checkpoints w
-  unreached_recorded pos =
-      let all = shown b (IsUnreached k w address from to) Q h e in
-      let recorded = all.untouched.recorded in
-      let under : to / k < checkpoints w + 1 = (div-lt_iff_lt-mul pos).1 (omega (arith, recorded, pos)) in
-      omega (arith, under)
-
 -- of several conditions none is met where the first is not and none of the others
 pub none_of_all : (test : Condition → Bool) (first : Condition) (others all : List Condition) → all ≡ first ∷ others → test first ≡ false → list_any test others ≡ false → list_any test all ≡ false
 none_of_all test first others all whole one rest = ap (list_any test) whole ∙ neither (test first) (list_any test others) one rest where
@@ -124,8 +111,12 @@ none_of_all test first others all whole one rest = ap (list_any test) whole ∙ 
   neither true y e f = absurd (false≢true (sym e))
   neither false y e f = f
 
--- .. so the step is not wanted, where there is a condition
+-- .. so the step meets none, where there is a condition
+pub none_met : (windows pages : ℕ) (schedule : Schedule) (n : ℕ) (s : State) (conditions : List Condition) → 1 ≤ length conditions
+    → list_any (meets windows pages schedule n s) conditions ≡ false → meets_any windows pages schedule n s conditions ≡ false
+none_met windows pages schedule n s [] some e = absurd (omega (arith, some))
+none_met windows pages schedule n s (first ∷ others) some e = e
+
 pub none_wanted : (kept : Kept) (conditions : List Condition) (n : ℕ) → 1 ≤ length conditions
     → list_any (meets kept.windows kept.pages kept.timeline n (machine_state kept n)) conditions ≡ false → is_wanted kept conditions n ≡ false
-none_wanted kept [] n some e = absurd (omega (arith, some))
-none_wanted kept (first ∷ others) n some e = e
+none_wanted kept conditions n some e = none_met kept.windows kept.pages kept.timeline n (machine_state kept n) conditions some e

@@ -1,5 +1,5 @@
 -- Searches: each step that is looked at leaves the rest of what is to be told.
-use Rattle.std.proofs.Common.{◌≡◌, ◌∙◌, ℕ, zero, suc, ◌+◌, ◌-◌, ◌/◌, ◌<◌, ◌≤◌, ◌⊎◌, inl, inr, min, Bool, true, false, cond, List, [], ◌∷◌, ◌++◌, length, map, Option, Some, None, refl, sym, ap, subst, append_assoc, append-nil, arith}
+use Rattle.std.proofs.Common.{◌≡◌, ◌∙◌, ℕ, zero, suc, ◌+◌, ◌-◌, ◌/◌, ◌<◌, ◌≤◌, ◌⊎◌, inl, inr, if◌then◌else◌, min, Bool, true, false, cond, List, [], ◌∷◌, ◌++◌, length, map, Option, Some, None, refl, sym, ap, subst, append_assoc, append-nil, arith}
 use Rattle.std.proofs.Math.Nat.{mul-le-mul_left, mul-div-le}
 use Rattle.sv8_model.specs.declared.touch.Touch.{Touch}
 use Rattle.sv8_model.specs.declared.observation.Observation.{Observation}
@@ -16,9 +16,10 @@ use Rattle.sv8_bench.proofs.Walking.{step_counted, raised_tried}
 use Rattle.sv8_bench.proofs.Queried.{counted_more, raised_more}
 use Rattle.sv8_watch.specs.declared.condition.Condition.{Condition}
 use Rattle.sv8_watch.specs.declared.happening.Happening.{Happening}
+use Rattle.sv8_watch.specs.Conditions.{meets_any}
 use Rattle.sv8_watch.specs.Happening.{happened, happening}
 use Rattle.sv8_monitor.specs.declared.found.Found.{Found}
-use Rattle.sv8_monitor.specs.Search.{any_met, found_at, is_wanted, wanted_found, list_of, left_behind, rising, looked_to, IsSearched, IsTried, IsWalked, IsStopped, IsAbandoned}
+use Rattle.sv8_monitor.specs.Search.{any_met, found_at, is_wanted, wanted_found, list_of, left_behind, rising, looked_to, IsAdded, IsSearched, IsTried, IsWalked, IsStopped, IsAbandoned}
 use Rattle.sv8_monitor.proofs.Sought.{divided}
 
 -- ---- what is told
@@ -72,6 +73,24 @@ unfolding steps
 next_state kept n =
     let more : n + 1 ≡ suc n = omega arith in
     ap (machine_state kept) more
+
+-- the state after it, and that it is not wanted, by what is known of the sizes and the timeline
+module _ (kept : Kept) (n m nw ram_pages : ℕ) (timeline : Schedule) where
+  pub after_is : (after : State) → after ≡ machine_state kept (n + 1) → m ≡ n → timeline ≡ kept.timeline → kept.windows ≡ nw → kept.pages ≡ ram_pages
+      → after ≡ step nw ram_pages timeline m (machine_state kept n)
+  after_is after state at same windows pages =
+      let s = machine_state kept n in
+      state ∙ next_state kept n ∙ ap (λ w. step w kept.pages kept.timeline n s) windows ∙ ap (λ p. step nw p kept.timeline n s) pages
+      ∙ ap (λ t. step nw ram_pages t n s) (sym same) ∙ ap (λ i. step nw ram_pages timeline i s) (sym at)
+
+  pub not_added : (cs : List Condition) (left : ℕ) (found : List Found) → m ≡ n → timeline ≡ kept.timeline → kept.windows ≡ nw → kept.pages ≡ ram_pages
+      → meets_any nw ram_pages timeline m (machine_state kept n) cs ≡ false → IsAdded (wanted_found kept cs n) left found found left
+  not_added cs left found at same windows pages none =
+      let s = machine_state kept n in
+      let missed : is_wanted kept cs n ≡ false =
+      ap (λ w. meets_any w kept.pages kept.timeline n s cs) windows ∙ ap (λ p. meets_any nw p kept.timeline n s cs) pages
+      ∙ ap (λ t. meets_any nw ram_pages t n s cs) (sym same) ∙ ap (λ i. meets_any nw ram_pages timeline i s cs) (sym at) ∙ none in
+      subst (λ b. IsAdded (if b then Some (found_at kept n) else None) left found found left) (sym missed) (record { items = sym (append-nil found); room = refl })
 
 -- its happening
 happened_is : (kept : Kept) (n m : ℕ) (timeline : Schedule) (after : State) (os : List Observation) (ts : List Touch) (h : Happening) → m ≡ n → timeline ≡ kept.timeline

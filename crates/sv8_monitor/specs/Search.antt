@@ -1,5 +1,5 @@
 -- Which steps of a run are told.
-use Rattle.std.specs.Prelude.{◌≡◌, ◌⊎◌, ℕ, zero, suc, ◌≤◌, ◌+◌, ◌-◌, ◌/◌, ◌*◌, ◌%◌, ◌<◌, ◌==◌, ◌&&◌, Bool, true, List, [], ◌∷◌, ◌++◌, max, nat_le, Option, Some, None, if◌then◌else◌}
+use Rattle.std.specs.Prelude.{◌≡◌, ◌⊎◌, ℕ, zero, suc, ◌≤◌, ◌+◌, ◌-◌, ◌/◌, ◌*◌, ◌%◌, ◌<◌, ◌==◌, ◌&&◌, Bool, true, false, List, [], ◌∷◌, ◌++◌, max, nat_le, Option, Some, None, if◌then◌else◌}
 use Rattle.std.specs.List.{list_any}
 use Rattle.sv8_model.specs.declared.touch.Touch.{Touch as Note}
 use Rattle.sv8_cpu.specs.State.{State}
@@ -13,7 +13,7 @@ use Rattle.sv8_watch.specs.declared.condition.Condition.{Condition}
 use Rattle.sv8_watch.specs.declared.condition.Condition.TheVariants.{Pc, Load, Store, Touch, Change, Trap, TrapType, Error, Input, Output, Event, Every}
 use Rattle.sv8_watch.specs.declared.happening.Happening.{Happening}
 use Rattle.sv8_watch.specs.Happening.{happening}
-use Rattle.sv8_watch.specs.Conditions.{is_met, meets_any, bytes_from}
+use Rattle.sv8_watch.specs.Conditions.{is_met, meets, meets_any, bytes_from}
 use Rattle.sv8_monitor.specs.declared.found.Found.{Found}
 
 -- step n with what happens in it
@@ -23,6 +23,10 @@ found_at k n = record { step = n; happening = happening k.windows k.pages k.time
 -- step n meets one of the conditions, or there is none
 abbrev pub is_wanted : Kept → List Condition → ℕ → Bool
 is_wanted k cs n = meets_any k.windows k.pages k.timeline n (machine_state k n) cs
+
+-- no step from one on and below another meets a condition
+abbrev pub MeetsNone : Kept → Condition → ℕ → ℕ → Type 0
+MeetsNone k c from to = (n : ℕ) → from ≤ n → n < to → meets k.windows k.pages k.timeline n (machine_state k n) c ≡ false
 
 abbrev pub wanted_found : Kept → List Condition → ℕ → Option Found
 wanted_found k cs n = if is_wanted k cs n then Some (found_at k n) else None

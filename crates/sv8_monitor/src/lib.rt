@@ -4,13 +4,16 @@
 mod answers;
 mod compare;
 mod conditions;
+mod descent;
 mod difference;
 mod driver;
 mod event_lines;
+mod evidence;
 mod found;
 pub mod laws;
 mod lines;
 mod monitor;
+mod old_bytes;
 mod piece;
 mod question;
 mod search;

@@ -1,118 +1,32 @@
 //! Searches for the steps of a run that meet a condition.
 
-ghost use Rattle.std.specs.Prelude.{◌≡◌, ◌⊎◌, ℕ, ◌+◌, ◌-◌, ◌*◌, ◌/◌, ◌<◌, ◌≤◌, ◌++◌, ◌∷◌, [], List, length, true, false, take, map, reverse, Some, None, if◌then◌else◌, IfOk, IfErr, IfSome, OnOk, OnErr};
+ghost use Rattle.std.specs.Prelude.{◌≡◌, ◌⊎◌, ℕ, ◌+◌, ◌-◌, ◌*◌, ◌/◌, ◌<◌, ◌≤◌, ◌++◌, ◌∷◌, [], length, true, false, map, None, IfOk, IfErr, IfSome, OnOk, OnErr};
 ghost use Rattle.std.specs.List.{list_any};
 ghost use Rattle.sv8_bench.specs.Faults.{IsQueryFault};
 ghost use Rattle.sv8_monitor.specs.Answers.{steps_refusal};
 ghost use Rattle.sv8_model.specs.Footprint.{expires};
 ghost use Rattle.sv8_phys.specs.Memory.{ram_size};
 ghost use Rattle.sv8_cpu.specs.State.{State};
+ghost use Rattle.sv8_cpu.specs.Run.{step};
 ghost use Rattle.sv8_watch.specs.declared.condition.Condition.TheVariants as condition;
-ghost use Rattle.sv8_watch.specs.Conditions.{is_met, meets, bytes_from};
+ghost use Rattle.sv8_watch.specs.Conditions.{is_met, meets, meets_any};
 ghost use Rattle.sv8_watch.specs.Happening.{happened};
 ghost use Rattle.sv8_watch.specs.Watched.{IsBefore, happening_of};
 ghost use Rattle.sv8_bench.specs.Shown.{machine_state};
-ghost use Rattle.sv8_bench.specs.Walks.{IsWalk, IsMade, IsUnmade};
+ghost use Rattle.sv8_bench.specs.Walks.{IsWalk, IsMade};
 ghost use Rattle.sv8_bench.specs.Workbench.{checkpoints};
-ghost use Rattle.sv8_monitor.specs.Search.{old_of, olds_of, old_count, olds_count, is_inside, are_inside, any_met, found_at, found_if, is_wanted, wanted_found, rising, looked_to, falling, sought_to, steps_told, IsSearched, IsAdded, IsPassedOrSearched, IsSought, IsTried, IsWalked, IsStopped, IsAbandoned, IsStart};
+ghost use Rattle.sv8_monitor.specs.Search.{olds_of, old_count, olds_count, is_inside, are_inside, any_met, found_at, found_if, is_wanted, wanted_found, rising, looked_to, sought_to, steps_told, IsSearched, IsAdded, IsSought, IsTried, IsWalked, IsStopped, IsAbandoned};
 
+use crate::descent::search_down;
+use crate::evidence::show_none;
 use crate::found::Found;
+use crate::old_bytes::{look_again, look_at_old, old_count};
 use std::alloc::AllocError;
 use sv8_bench::{Bench, BenchFault, LAST_STEP, Walk};
 use sv8_cpu::Machine;
 use sv8_phys::Watch;
 use sv8_time::Timeline;
 use sv8_watch::{Before, Condition, MadeStep};
-
-/// How many bytes a condition compares.
-fn old_count(condition: Condition) -> u32
-    ensures { result ≡ old_count condition }
-{
-    match condition {
-        Condition::Change { count, .. } => count,
-        _ => 0,
-    }
-}
-
-/// Adds so many bytes of RAM from an address on.
-fn add_bytes<const NW: usize, const PAGES: usize>(
-    bytes: &mut Vec<u8>,
-    address: u32,
-    count: u32,
-    machine: &Machine<NW, PAGES>,
-) -> Result<(), AllocError>
-    requires few_windows { NW ≤ 32 }
-    requires few_pages { PAGES ≤ 65536 }
-    requires inside { address + count ≤ ram_size PAGES }
-    ensures bytes { OnOk result (bytes.new.items ≡ bytes.old.items ++ bytes_from address count machine.now.memory.ram) }
-    ensures count { OnOk result (length bytes.new.items ≡ length bytes.old.items + count) }
-{
-    let _size = machine.ram_size();
-    for place in 0..count {
-        bytes.push(machine.byte(address + place))?;
-    }
-    Ok(())
-}
-
-/// Adds the bytes that a condition compares.
-fn add_old<const NW: usize, const PAGES: usize>(
-    old: &mut Vec<u8>,
-    condition: Condition,
-    machine: &Machine<NW, PAGES>,
-) -> Result<(), AllocError>
-    requires few_windows { NW ≤ 32 }
-    requires few_pages { PAGES ≤ 65536 }
-    requires inside { is_inside (ram_size PAGES) condition ≡ true }
-    ensures bytes { OnOk result (old.new.items ≡ old.old.items ++ old_of condition machine.now.memory.ram) }
-    ensures count { OnOk result (length old.new.items ≡ length old.old.items + old_count condition) }
-{
-    match condition {
-        Condition::Change { address, count } => add_bytes(old, address, count, machine),
-        _ => Ok(()),
-    }
-}
-
-/// The bytes that conditions compare with those after the next step, one condition's after the other's.
-fn look_at_old<const NW: usize, const PAGES: usize>(
-    old: &mut Vec<u8>,
-    conditions: &[Condition],
-    machine: &Machine<NW, PAGES>,
-) -> Result<(), AllocError>
-    requires few_windows { NW ≤ 32 }
-    requires few_pages { PAGES ≤ 65536 }
-    requires inside { are_inside (ram_size PAGES) conditions.now ≡ true }
-    ensures bytes { OnOk result (old.new.items ≡ olds_of conditions.now machine.now.memory.ram) }
-    ensures count { OnOk result (length old.new.items ≡ olds_count conditions.now) }
-{
-    old.clear();
-    let mut rest = conditions;
-    while let [first, after @ ..] = rest {
-        add_old(old, *first, machine)?;
-        rest = after;
-    }
-    Ok(())
-}
-
-/// The same after a step. Conditions that compare no bytes are not looked at.
-#[inline(always)]
-fn look_again<const NW: usize, const PAGES: usize>(
-    old: &mut Vec<u8>,
-    conditions: &[Condition],
-    machine: &Machine<NW, PAGES>,
-) -> Result<(), AllocError>
-    requires few_windows { NW ≤ 32 }
-    requires few_pages { PAGES ≤ 65536 }
-    requires inside { are_inside (ram_size PAGES) conditions.now ≡ true }
-    requires count { length old.old.items ≡ olds_count conditions.now }
-    ensures bytes { OnOk result (old.new.items ≡ olds_of conditions.now machine.now.memory.ram) }
-    ensures count { OnOk result (length old.new.items ≡ olds_count conditions.now) }
-{
-    if old.is_empty() {
-        return Ok(());
-    }
-    look_at_old(old, conditions, machine)?;
-    Ok(())
-}
 
 /// Whether a step meets one of some conditions. `old` are the bytes that they compare with those of the machine behind it.
 #[inline(always)]
@@ -216,6 +130,50 @@ fn add_wanted<const NW: usize, const PAGES: usize>(
     Ok(left - 1)
 }
 
+/// Whether a step may meet one of some conditions, by what was kept of the machine before it and by the machine after it.
+#[inline(always)]
+fn may_meet_any<const NW: usize, const PAGES: usize>(
+    n: u32,
+    timeline: &Timeline,
+    before: &Before,
+    after: &Machine<NW, PAGES>,
+    conditions: &[Condition],
+) -> bool
+    requires few_windows { NW ≤ 32 }
+    requires few_pages { PAGES ≤ 65536 }
+    ensures { (s : State) → IsBefore s before.now → after.now ≡ step NW PAGES timeline.now n s → result ≡ false
+        → list_any (meets NW PAGES timeline.now n s) conditions.now ≡ false }
+{
+    let mut rest = conditions;
+    while let [first, others @ ..] = rest {
+        if first.may_be_met(n, timeline, before, after) {
+            return true;
+        }
+        rest = others;
+    }
+    false
+}
+
+/// The same, and also where there is no condition.
+#[inline(always)]
+fn may_be_wanted<const NW: usize, const PAGES: usize>(
+    n: u32,
+    timeline: &Timeline,
+    before: &Before,
+    after: &Machine<NW, PAGES>,
+    conditions: &[Condition],
+) -> bool
+    requires few_windows { NW ≤ 32 }
+    requires few_pages { PAGES ≤ 65536 }
+    ensures { (s : State) → IsBefore s before.now → after.now ≡ step NW PAGES timeline.now n s → result ≡ false
+        → meets_any NW PAGES timeline.now n s conditions.now ≡ false }
+{
+    match conditions {
+        [] => true,
+        [_, ..] => may_meet_any(n, timeline, before, after, conditions),
+    }
+}
+
 /// Makes the next step of a walk, and adds it where it is wanted; answers how many more may follow, of so many. `old` are the
 /// bytes that the conditions compare, before and afterwards.
 ///
@@ -248,9 +206,14 @@ fn look<const NW: usize, const PAGES: usize, const K: u32>(
     ensures count { OnOk result (length old.new.items ≡ olds_count conditions.now) }
     ensures unmade { OnErr result (IsTried K walk.old.step bench.old bench.new) }
 {
+    bench.sizes();
     let n = walk.step();
     let before = Before::of(walk.machine());
     bench.walk_on(walk, watch)?;
+    if !may_be_wanted(n, bench.timeline(), &before, walk.machine(), conditions) {
+        look_again(old, conditions, walk.machine())?;
+        return Ok(left);
+    }
     let rest = add_wanted(
         found,
         n,
@@ -405,7 +368,7 @@ fn go_on<const NW: usize, const PAGES: usize, const K: u32>(
 /// # Errors
 ///
 /// `AllocError` where memory for it cannot be had.
-fn search_up<const NW: usize, const PAGES: usize, const K: u32>(
+pub(crate) fn search_up<const NW: usize, const PAGES: usize, const K: u32>(
     bench: &mut Bench<NW, PAGES, K>,
     conditions: &[Condition],
     from: u32,
@@ -432,201 +395,6 @@ fn search_up<const NW: usize, const PAGES: usize, const K: u32>(
         left = go_on(
             bench, &mut walk, &mut watch, conditions, &mut old, found, to, left,
         )?;
-    }
-    Ok(())
-}
-
-/// Adds steps from the last one on, and at most so many; answers how many more may follow.
-fn add_falling(found: &mut Vec<Found>, seen: &[Found], most: u32) -> Result<u32, AllocError>
-    ensures found { OnOk result (found.new.items ≡ found.old.items ++ take most (reverse seen.now)) }
-    ensures left { IfOk result (λ left. left ≡ most - length seen.now) }
-{
-    let mut left = most;
-    let mut end = seen.len();
-    while left > 0 && end > 0 {
-        end -= 1;
-        found.push(seen[end])?;
-        left -= 1;
-    }
-    Ok(left)
-}
-
-/// Whether the record shows that no step of a range reaches an instruction at an address. It shows nothing of an address
-/// whose word does not lie in RAM.
-fn reaches_none<const NW: usize, const PAGES: usize, const K: u32>(
-    bench: &Bench<NW, PAGES, K>,
-    address: u32,
-    from: u32,
-    to: u32,
-) -> bool
-    ensures none { result ≡ true → (n : ℕ) → from ≤ n → n < to
-        → meets bench.now.kept.windows bench.now.kept.pages bench.now.kept.timeline n (machine_state bench.now.kept n) (condition.Pc address) ≡ false }
-    ensures recorded { result ≡ true → to / K ≤ checkpoints bench.now }
-{
-    bench.sizes();
-    u64::from(address) + 4 <= 4_096 * PAGES as u64 && bench.is_unreached(address, from, to)
-}
-
-/// Whether the notes of the recorded run show that no step of a range meets a condition on bytes of RAM. They show nothing
-/// of another condition.
-fn touches_none<const NW: usize, const PAGES: usize, const K: u32>(
-    bench: &Bench<NW, PAGES, K>,
-    condition: Condition,
-    from: u32,
-    to: u32,
-) -> bool
-    requires inside { is_inside (ram_size PAGES) condition ≡ true }
-    ensures none { result ≡ true → (n : ℕ) → from ≤ n → n < to
-        → meets bench.now.kept.windows bench.now.kept.pages bench.now.kept.timeline n (machine_state bench.now.kept n) condition ≡ false }
-    ensures recorded { result ≡ true → to / K ≤ checkpoints bench.now }
-{
-    bench.sizes();
-    match condition.span() {
-        Some(span) => bench.is_untouched(span.address, span.count, from, to),
-        None => false,
-    }
-}
-
-/// Whether the record shows that no step of a range leads to error mode: the machine runs at its end.
-fn errs_none<const NW: usize, const PAGES: usize, const K: u32>(
-    bench: &Bench<NW, PAGES, K>,
-    to: u32,
-) -> bool
-    ensures none { result ≡ true → (n : ℕ) → n < to
-        → meets bench.now.kept.windows bench.now.kept.pages bench.now.kept.timeline n (machine_state bench.now.kept n) condition.Error ≡ false }
-    ensures recorded { result ≡ true → to / K ≤ checkpoints bench.now }
-{
-    bench.is_running_at(to)
-}
-
-/// Whether the recorded run shows that no step of a range meets a condition.
-fn shows_none<const NW: usize, const PAGES: usize, const K: u32>(
-    bench: &Bench<NW, PAGES, K>,
-    condition: Condition,
-    from: u32,
-    to: u32,
-) -> bool
-    requires inside { is_inside (ram_size PAGES) condition ≡ true }
-    ensures none { result ≡ true → (n : ℕ) → from ≤ n → n < to
-        → meets bench.now.kept.windows bench.now.kept.pages bench.now.kept.timeline n (machine_state bench.now.kept n) condition ≡ false }
-    ensures recorded { result ≡ true → to / K ≤ checkpoints bench.now }
-{
-    match condition {
-        Condition::Pc(address) => reaches_none(bench, address, from, to),
-        Condition::Error => errs_none(bench, to),
-        _ => touches_none(bench, condition, from, to),
-    }
-}
-
-/// Whether they show that of each of some conditions.
-fn each_shows_none<const NW: usize, const PAGES: usize, const K: u32>(
-    bench: &Bench<NW, PAGES, K>,
-    conditions: &[Condition],
-    from: u32,
-    to: u32,
-) -> bool
-    requires inside { are_inside (ram_size PAGES) conditions.now ≡ true }
-    ensures none { result ≡ true → (n : ℕ) → from ≤ n → n < to
-        → list_any (meets bench.now.kept.windows bench.now.kept.pages bench.now.kept.timeline n (machine_state bench.now.kept n)) conditions.now ≡ false }
-    ensures recorded { result ≡ true → 0 < length conditions.now → to / K ≤ checkpoints bench.now }
-{
-    let mut rest = conditions;
-    while let [first, others @ ..] = rest {
-        if !shows_none(bench, *first, from, to) {
-            return false;
-        }
-        rest = others;
-    }
-    true
-}
-
-/// The same. Where there is no condition each step is wanted.
-fn show_none<const NW: usize, const PAGES: usize, const K: u32>(
-    bench: &Bench<NW, PAGES, K>,
-    conditions: &[Condition],
-    from: u32,
-    to: u32,
-) -> bool
-    requires inside { are_inside (ram_size PAGES) conditions.now ≡ true }
-    ensures none { result ≡ true → (n : ℕ) → from ≤ n → n < to → is_wanted bench.now.kept conditions.now n ≡ false }
-    ensures recorded { result ≡ true → to / K ≤ checkpoints bench.now }
-{
-    match conditions {
-        [] => false,
-        [_, ..] => each_shows_none(bench, conditions, from, to),
-    }
-}
-
-/// Adds the steps of an interval, which ends below a step, that meet a condition, from the last one down, and at most so many
-/// of them; answers how many more may follow. It makes no step where the notes show that none of them meets one.
-///
-/// # Errors
-///
-/// `AllocError` where memory for it cannot be had.
-fn search_interval<const NW: usize, const PAGES: usize, const K: u32>(
-    bench: &mut Bench<NW, PAGES, K>,
-    conditions: &[Condition],
-    start: u32,
-    end: u32,
-    most: u32,
-    found: &mut Vec<Found>,
-) -> Result<u32, AllocError>
-    requires ordered { start ≤ end }
-    requires within { end ≤ 1000000 }
-    requires inside { are_inside (ram_size PAGES) conditions.now ≡ true }
-    ensures found { OnOk result (found.new.items ≡ found.old.items ++ map (found_at bench.old.kept)
-        (take most (reverse (rising (is_wanted bench.old.kept conditions.now) start (end - start) (end - start))))) }
-    ensures left { IfOk result (λ left. left ≡ most - length (rising (is_wanted bench.old.kept conditions.now) start (end - start) (end - start))) }
-    ensures sought { OnOk result (IsPassedOrSearched K start end bench.old bench.new) }
-    ensures given_up { IsAbandoned K start end bench.old bench.new }
-{
-    if show_none(bench, conditions, start, end) {
-        return Ok(most);
-    }
-    let mut seen = Vec::new(bench.alloc());
-    search_up(bench, conditions, start, end, end - start, &mut seen)?;
-    let left = add_falling(found, seen.as_slice(), most)?;
-    Ok(left)
-}
-
-/// Where the last interval below a step begins: at the checkpoint below it, or at another step that the search does not pass.
-fn interval_start<const K: u32>(end: u32, to: u32) -> u32
-    requires some_steps { 1 ≤ K }
-    requires ordered { to < end }
-    ensures { IsStart K to end result }
-{
-    to.max((end - 1) / K * K)
-}
-
-/// Adds the steps below one and not below another that meet a condition, from the last one down, and at most so many of
-/// them. It goes from one checkpoint to the one before it, and looks at the steps between them once.
-///
-/// # Errors
-///
-/// `AllocError` where memory for it cannot be had.
-fn search_down<const NW: usize, const PAGES: usize, const K: u32>(
-    bench: &mut Bench<NW, PAGES, K>,
-    conditions: &[Condition],
-    from: u32,
-    to: u32,
-    most: u32,
-    found: &mut Vec<Found>,
-) -> Result<(), AllocError>
-    requires ordered { to < from }
-    requires within { from ≤ 1000000 }
-    requires inside { are_inside (ram_size PAGES) conditions.now ≡ true }
-    ensures found { OnOk result (found.new.items ≡ found.old.items
-        ++ map (found_at bench.old.kept) (falling (is_wanted bench.old.kept conditions.now) to (from - to) most)) }
-    ensures sought { OnOk result (IsSought K from (sought_to (is_wanted bench.old.kept conditions.now) to (from - to) most) bench.old bench.new) }
-    ensures given_up { IsSought K from to bench.old bench.new }
-{
-    bench.sizes();
-    let mut end = from;
-    let mut left = most;
-    while end > to && left > 0 {
-        let start = interval_start::<K>(end, to);
-        left = search_interval(bench, conditions, start, end, left, found)?;
-        end = start;
     }
     Ok(())
 }

@@ -117,5 +117,5 @@ module _ (windows pages k : ℕ) (pos : 0 < k) (r : Recording) (s : Staged) (fit
   pub placed_is : IsPlaced windows pages k r s (record { points = last; intervals = lists })
   placed_is = record {
     agrees = committed;
-    flags = λ i h. ap (λ (x : Interval). x.translated) (interval_is i (omega (arith, lists_count, h)));
+    signs = λ i h. ap (λ (x : Interval). x.signs) (interval_is i (omega (arith, lists_count, h)));
   }

@@ -1,9 +1,8 @@
 -- One step more of a draft, and a draft that has led to a checkpoint.
-use Rattle.std.proofs.Common.{◌≡◌, ℕ, ◌+◌, ◌*◌, ◌<◌, ◌&&◌, ◌||◌, ◌==◌, List, [], ◌∷◌, ◌++◌, length, cond, Some, None, is_some, Result, Ok, Err, refl, sym, ◌∙◌, ap, subst, arith}
+use Rattle.std.proofs.Common.{◌≡◌, ℕ, ◌+◌, ◌*◌, ◌<◌, ◌&&◌, ◌==◌, List, [], ◌∷◌, ◌++◌, length, cond, Some, None, is_some, Result, Ok, Err, refl, sym, ◌∙◌, ap, subst, arith}
 use Rattle.std.specs.Prelude.{OnOk}
 use Rattle.std.proofs.lemmas.List.{length-append}
 use Rattle.sv8_model.specs.Cells.{Cell}
-use Rattle.sv8_mmu.specs.Registers.{translates}
 use Rattle.sv8_time.specs.Schedule.{Schedule}
 use Rattle.sv8_phys.specs.Notes.{told}
 use Rattle.sv8_cpu.specs.State.{State}
@@ -11,6 +10,7 @@ use Rattle.sv8_cpu.specs.Run.{step, footprint}
 use Rattle.sv8_cpu.specs.Recorded.{event_at, poke_of, get}
 use Rattle.sv8_trace.specs.declared.interval.Interval.{Interval}
 use Rattle.sv8_trace.specs.Kept.{kept_in}
+use Rattle.sv8_trace.specs.Signs.{with_step}
 use Rattle.sv8_trace.specs.Touched.{is_touched}
 use Rattle.sv8_trace.specs.Steps.{Gains}
 use Rattle.sv8_trace.specs.Recorder.{steps_on, IsRecorded}
@@ -31,9 +31,9 @@ module _ (windows pages k : ℕ) (schedule : Schedule) (old : Recording) (draft 
   pub drafted_more : (next : State) (new : Interval) → next ≡ step windows pages schedule at s → Gains count (told (footprint windows pages schedule at s)) interval.notes new.notes
       → ((i : ℕ) (c : Cell) → kept_in i c new.kept
       ≡ cond (is_touched (told (footprint windows pages schedule at s)) c) None (cond (i == count && is_some (poke_of c (event_at schedule at))) (Some (get c s)) (kept_in i c interval.kept)))
-      → new.translated ≡ (interval.translated || translates s.mmu)
+      → new.signs ≡ with_step interval.signs s next
       → (next ≡ steps_on windows pages schedule (recorded k old) (last_point old) (count + 1)) × IsRecorded windows pages schedule (recorded k old) (last_point old) (count + 1) new
-  drafted_more next new stepped gains law flag =
+  drafted_more next new stepped gains law signs =
       one_more windows pages schedule (recorded k old) (last_point old) s next count interval new was.state
       (stepped ∙ ap (λ x. step windows pages schedule x s) here) was.steps
       (subst (λ x. Gains count (told (footprint windows pages schedule x s)) interval.notes new.notes) here gains)
@@ -42,7 +42,7 @@ module _ (windows pages k : ℕ) (schedule : Schedule) (old : Recording) (draft 
       (i : ℕ) (c : Cell) → kept_in i c new.kept
       ≡ cond (is_touched (told (footprint windows pages schedule x s)) c) None (cond (i == count && is_some (poke_of c (event_at schedule x))) (Some (get c s)) (kept_in i c interval.kept)))
       here law)
-      flag
+      signs
 
 module _ (windows pages k : ℕ) (pos : 0 < k) (schedule : Schedule) (old new : Recording) (s : State) (interval : Interval) (long : length old.points ≡ length old.intervals + 1)
     (points : new.points ≡ old.points ++ s ∷ []) (intervals : new.intervals ≡ old.intervals ++ interval ∷ []) where

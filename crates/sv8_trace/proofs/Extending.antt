@@ -195,10 +195,10 @@ module _ (windows pages k : ℕ) (pos : 0 < k) (schedule : Schedule) (old new : 
   pub extended_is : IsExtended windows pages k schedule old new
   extended_is = record {
     agrees = agrees;
-    flag = ap (λ xs. (get_or xs (length old.intervals) no_interval).translated) interval_is
-        ∙ ap (λ (x : Interval). x.translated) (get_or-append_seam old.intervals steps [] no_interval) ∙ recorded.translated;
-    flags = λ i h. ap (λ xs. (get_or xs i no_interval).translated) interval_is
-        ∙ ap (λ (x : Interval). x.translated) (get_or_append_left old.intervals (steps ∷ []) no_interval i h);
+    new_signs = ap (λ xs. (get_or xs (length old.intervals) no_interval).signs) interval_is
+        ∙ ap (λ (x : Interval). x.signs) (get_or-append_seam old.intervals steps [] no_interval) ∙ recorded.signs;
+    signs = λ i h. ap (λ xs. (get_or xs i no_interval).signs) interval_is
+        ∙ ap (λ (x : Interval). x.signs) (get_or_append_left old.intervals (steps ∷ []) no_interval i h);
   }
 
 -- what holds of the last checkpoint

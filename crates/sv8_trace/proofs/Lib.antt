@@ -17,6 +17,6 @@ pub mod Spreading
 pub mod Preparing
 pub mod Committing
 pub mod Editing
-pub mod Translated
+pub mod SignLemmas
 pub mod Common
 pub mod Untouched

@@ -9,6 +9,8 @@ use Rattle.std.proofs.lemmas.List.{get_or-take, ext_get_or, length-map, length-t
 use Rattle.sv8_phys.specs.Memory.{ram_size, page_of, with_page}
 use Rattle.sv8_phys.specs.Contents.{AreContents}
 use Rattle.sv8_cpu.specs.State.{State}
+use Rattle.sv8_trace.specs.declared.checkpoint.Checkpoint.{Checkpoint}
+use Rattle.sv8_trace.specs.Checkpoints.{IsCheckpoint}
 use Rattle.sv8_trace.specs.Recording.{blank}
 use Rattle.sv8_trace.specs.Prepared.{placed_pages, placed_levels}
 use Rattle.sv8_trace.specs.Placing.{placed_pages_in, placed_levels_in, AreSound, IsSound}
@@ -336,9 +338,11 @@ there ps ls ms points i is h = let n = ap length is in omega (arith, n, length-o
 pub in_taken : (ms : List (Rc State Global)) (i : ℕ) → i < length ms → i < length (taken ms)
 in_taken ms i h = omega (arith, h, taken_long ms)
 
--- no edit of a checkpoint changes whether its machine runs
-pub runs_overlaid : (ps : Pages) (ls : Levels) (ms : List State) (i : ℕ) → i < length ms → (get_or ms i blank).processor.running ≡ (get_or (all_overlaid ps ls 0 ms) i blank).processor.running
-runs_overlaid ps ls ms i h = ap (λ (s : State). s.processor.running) (sym (get-overlaid ps ls ms i h))
+-- no edit of a checkpoint changes what is read of it
+pub checkpoint_overlaid : (ps : Pages) (ls : Levels) (ms : List State) (i : ℕ) → i < length ms → (c : Checkpoint) → IsCheckpoint (get_or ms i blank) c
+    → IsCheckpoint (get_or (all_overlaid ps ls 0 ms) i blank) c
+checkpoint_overlaid ps ls ms i h c of =
+    subst (λ (s : State). IsCheckpoint s c) (sym (get-overlaid ps ls ms i h)) (record { running = of.running; taken = of.taken; output = of.output })
 
 -- ---- what is seen of a checkpoint
 

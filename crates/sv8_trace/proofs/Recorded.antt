@@ -7,7 +7,6 @@ use Rattle.sv8_model.specs.Cells.{Cell, Value, ram_byte, waiting_bytes, pending_
 use Rattle.sv8_history.specs.Machine.{Footprint, SameFootprint}
 use Rattle.sv8_history.specs.Trace.{some_from}
 use Rattle.sv8_history.proofs.Common.{none_from}
-use Rattle.sv8_mmu.specs.Registers.{translates}
 use Rattle.sv8_time.specs.Schedule.{Schedule}
 use Rattle.sv8_phys.specs.Notes.{told}
 use Rattle.sv8_cpu.specs.State.{State}
@@ -16,9 +15,10 @@ use Rattle.sv8_cpu.specs.Work.{counted}
 use Rattle.sv8_cpu.specs.Recorded.{event_at, poke_of, get}
 use Rattle.sv8_trace.specs.declared.interval.Interval.{Interval}
 use Rattle.sv8_trace.specs.Kept.{kept_in}
+use Rattle.sv8_trace.specs.Signs.{no_signs, with_step}
 use Rattle.sv8_trace.specs.Touched.{is_touched}
 use Rattle.sv8_trace.specs.Steps.{Gains, no_steps, footprint_in, reads_in, writes_in, is_among}
-use Rattle.sv8_trace.specs.Recorder.{steps_on, footprint_on, touches_on, translates_among, counted_by, IsRecorded, RaisedUpTo}
+use Rattle.sv8_trace.specs.Recorder.{steps_on, footprint_on, touches_on, counted_by, IsRecorded, RaisedUpTo}
 use Rattle.sv8_trace.proofs.Touching.{touched_told, told_read, told_written}
 
 -- no steps are recorded
@@ -43,12 +43,12 @@ module _ (windows pages : ℕ) (schedule : Schedule) (n : ℕ) (s : State) where
   at : ℕ → List Touch
   at j = footprint windows pages schedule (n + j) (steps_on windows pages schedule n s j)
 
-  pub recorded_none : IsRecorded windows pages schedule n s 0 (record { notes = no_steps; kept = []; translated = false })
+  pub recorded_none : IsRecorded windows pages schedule n s 0 (record { notes = no_steps; kept = []; signs = no_signs })
   recorded_none = record {
     footprints = λ j h. absurd (omega arith);
     nothing_later = λ j h. record { reads = λ c. refl; writes = λ c. refl; takes = refl };
     kept = λ j c. sym (ap (λ b. cond (b && is_some (poke_of c (event_at schedule (n + j))) && not (some_from j 0 (touches_on windows pages schedule n s c))) (Some (get c (steps_on windows pages schedule n s j))) None) (le-ltb j 0 (omega arith)));
-    translated = refl;
+    signs = refl;
   }
 
   -- ---- the footprints
@@ -110,10 +110,10 @@ module _ (windows pages : ℕ) (schedule : Schedule) (n : ℕ) (s : State) where
         ≡ cond (is_touched (told (footprint windows pages schedule (n + count) (steps_on windows pages schedule n s count))) c) None
         (cond (j == count && is_some (poke_of c (event_at schedule (n + count)))) (Some (get c (steps_on windows pages schedule n s count))) (kept_in j c old.kept))
 
-    abbrev Flag_law : Type 0
-    Flag_law = new.translated ≡ (old.translated || translates (steps_on windows pages schedule n s count).mmu)
+    abbrev Signs_law : Type 0
+    Signs_law = new.signs ≡ with_step old.signs (steps_on windows pages schedule n s count) (steps_on windows pages schedule n s (suc count))
 
-    module _ (law : Kept_law) (flag : Flag_law) where
+    module _ (law : Kept_law) (signs : Signs_law) where
       kept_more : (j : ℕ) (c : Cell) → (j ≡ count) ⊎ ((j < count) ⊎ (count < j)) → kept_in j c new.kept
           ≡ cond (ltb j (suc count) && is_some (poke_of c (event_at schedule (n + j))) && not (some_from j (suc count) (touches_on windows pages schedule n s c))) (Some (get c (steps_on windows pages schedule n s j))) None
       kept_more j c (inl e) =
@@ -140,8 +140,7 @@ module _ (windows pages : ℕ) (schedule : Schedule) (n : ℕ) (s : State) where
         footprints = λ j b. go j b (cases_lt j count);
         nothing_later = λ j b. then (footprint_in new.notes j) (footprint_in old.notes j) (footprint_in no_steps j) (not_here j (λ e. omega arith)) (h.nothing_later j (omega arith));
         kept = λ j c. kept_more j c (cases_order j count);
-        translated = flag ∙ ap (λ b. b || translates (steps_on windows pages schedule n s count).mmu) h.translated
-            ∙ ap (λ b. translates_among (λ j. steps_on windows pages schedule n s j) count || (b && translates (steps_on windows pages schedule n s count).mmu)) (sym (le-leb 0 count (omega arith)));
+        signs = signs ∙ ap (λ x. with_step x (steps_on windows pages schedule n s count) (steps_on windows pages schedule n s (suc count))) h.signs;
       }
         where
           go : (j : ℕ) → j < suc count → (j < count) ⊎ (count ≤ j) → SameFootprint (footprint_in new.notes j) (footprint_on windows pages schedule n s j)
@@ -164,10 +163,10 @@ pub one_more : (windows pages : ℕ) (schedule : Schedule) (n : ℕ) (first s ne
     → next ≡ step windows pages schedule (n + j) s → IsRecorded windows pages schedule n first j old
     → Gains j (told (footprint windows pages schedule (n + j) s)) old.notes new.notes
     → ((i : ℕ) (c : Cell) → kept_in i c new.kept ≡ cond (is_touched (told (footprint windows pages schedule (n + j) s)) c) None (cond (i == j && is_some (poke_of c (event_at schedule (n + j)))) (Some (get c s)) (kept_in i c old.kept)))
-    → new.translated ≡ (old.translated || translates s.mmu)
+    → new.signs ≡ with_step old.signs s next
     → (next ≡ steps_on windows pages schedule n first (j + 1)) × IsRecorded windows pages schedule n first (j + 1) new
-one_more windows pages schedule n first s next j old new is stepped recorded gains law flag =
+one_more windows pages schedule n first s next j old new is stepped recorded gains law signs =
     let g = rw is at gains in
     let l = rw is at law in
-    let f = rw is at flag in
+    let f = rw (stepped, is) at signs in
     rw (add-one, stepped, is) (refl, recorded_more windows pages schedule n first j old new recorded g l f)

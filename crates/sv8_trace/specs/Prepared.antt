@@ -8,7 +8,7 @@ use Rattle.sv8_cpu.specs.Recorded.{machine}
 use Rattle.sv8_trace.specs.declared.kept.Kept.{Kept}
 use Rattle.sv8_trace.specs.declared.prepared.Staged.{Staged}
 use Rattle.sv8_trace.specs.Kept.{kept_in}
-use Rattle.sv8_trace.specs.Recording.{Recording, blank, is_translated, no_interval, trace_of}
+use Rattle.sv8_trace.specs.Recording.{Recording, blank, signs_of, no_interval, trace_of}
 
 -- what was prepared, as it is seen from outside
 abbrev pub Preparation : Type 0
@@ -72,7 +72,7 @@ pub record IsPreparedFor (pages : ℕ) (r : Recording) (staged : Staged) : Type 
 -- It was placed: the trace shows what was prepared, and each interval that stays keeps its flag.
 pub record IsPlaced (windows pages k : ℕ) (old : Recording) (staged : Staged) (new : Recording) : Type 0 where
   pub agrees : Agrees (machine windows pages) k (prepared_trace windows pages k old staged) (trace_of windows pages k new)
-  pub flags : (i : ℕ) → i < length new.intervals → is_translated new i ≡ is_translated old i
+  pub signs : (i : ℕ) → i < length new.intervals → signs_of new i ≡ signs_of old i
 
 -- The traces show the same, and have one set of notes.
 pub record Near (m : Machine) (k : ℕ) (v w : Trace m) : Type 0 where

@@ -3,7 +3,6 @@ use Rattle.std.specs.Prelude.{◌≡◌, ℕ, false, zero, suc, ◌+◌, ◌<◌
 use Rattle.sv8_model.specs.Cells.{Cell}
 use Rattle.sv8_history.specs.Machine.{Footprint, SameFootprint}
 use Rattle.sv8_history.specs.Trace.{some_from}
-use Rattle.sv8_mmu.specs.Registers.{translates}
 use Rattle.sv8_time.specs.Schedule.{Schedule}
 use Rattle.sv8_time.specs.declared.words.WordPoke.{WordPoke}
 use Rattle.sv8_time.specs.declared.requests.Request.{Request}
@@ -16,6 +15,7 @@ use Rattle.sv8_trace.specs.declared.cell.Content.TheVariants as content
 use Rattle.sv8_trace.specs.declared.kept.Kept.{Kept}
 use Rattle.sv8_trace.specs.declared.interval.Interval.{Interval}
 use Rattle.sv8_trace.specs.Kept.{kept_in}
+use Rattle.sv8_trace.specs.Signs.{signs_among}
 use Rattle.sv8_trace.specs.Steps.{no_steps, footprint_in}
 
 -- ---- the values below the events of a step
@@ -56,12 +56,8 @@ footprint_on windows pages schedule n s j = footprint_of (footprint windows page
 abbrev pub touches_on : (windows pages : ℕ) → Schedule → ℕ → State → Cell → ℕ → Bool
 touches_on windows pages schedule n s c j = (footprint_on windows pages schedule n s j).reads c || (footprint_on windows pages schedule n s j).writes c
 
--- in one of the first states addresses are translated
-abbrev pub translates_among : (ℕ → State) → ℕ → Bool
-translates_among states count = some_from 0 count (λ j. translates (states j).mmu)
-
 -- THE RECORD of the first `count` steps from the state `s` of step n: their footprints, what stood in cells below their events where no step has touched
--- the cell since, and whether one of the steps begins in a state in which addresses are translated.
+-- the cell since, and the signs of the steps.
 pub record IsRecorded (windows pages : ℕ) (schedule : Schedule) (n : ℕ) (s : State) (count : ℕ) (steps : Interval) : Type 0 where
   pub footprints : (j : ℕ) → j < count → SameFootprint (footprint_in steps.notes j) (footprint_on windows pages schedule n s j)
   -- nothing is noted of later steps
@@ -69,7 +65,7 @@ pub record IsRecorded (windows pages : ℕ) (schedule : Schedule) (n : ℕ) (s :
   pub kept : (j : ℕ) (c : Cell) → kept_in j c steps.kept
       ≡ cond (ltb j count && is_some (poke_of c (event_at schedule (n + j))) && not (some_from j count (touches_on windows pages schedule n s c)))
       (Some (get c (steps_on windows pages schedule n s j))) None
-  pub translated : steps.translated ≡ translates_among (λ j. steps_on windows pages schedule n s j) count
+  pub signs : steps.signs ≡ signs_among (steps_on windows pages schedule n s) count
 
 -- ---- the count of steps
 

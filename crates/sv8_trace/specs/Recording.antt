@@ -1,5 +1,5 @@
 -- A trace as its contracts see it.
-use Rattle.std.specs.Prelude.{◌≡◌, ℕ, ◌*◌, ◌/◌, ◌%◌, ◌<◌, Bool, false, length, List, [], ◌∷◌, slice_index_or}
+use Rattle.std.specs.Prelude.{◌≡◌, ℕ, ◌*◌, ◌/◌, ◌%◌, ◌<◌, length, List, [], ◌∷◌, slice_index_or}
 use Rattle.sv8_trap.specs.Processor.{reset_processor}
 use Rattle.sv8_mmu.specs.Registers.{registers_at_reset}
 use Rattle.sv8_phys.specs.Contents.{empty_contents}
@@ -11,7 +11,9 @@ use Rattle.sv8_cpu.specs.Recorded.{machine, event_at, AreEvents}
 use Rattle.sv8_trace.specs.declared.interval.Interval.{Interval}
 use Rattle.sv8_trace.specs.Steps.{no_steps, footprint_in}
 use Rattle.sv8_trace.specs.Kept.{kept_in}
-use Rattle.sv8_trace.specs.Recorder.{steps_on, translates_among}
+use Rattle.sv8_trace.specs.Recorder.{steps_on}
+use Rattle.sv8_trace.specs.Signs.{no_signs, signs_among}
+use Rattle.sv8_trace.specs.declared.signs.Signs.{Signs}
 
 pub record Recording : Type 0 where
   -- the states of steps 0, k, 2k and so on
@@ -28,7 +30,7 @@ abbrev pub blank : State
 blank = record { processor = reset_processor 2; mmu = registers_at_reset; memory = empty_contents 0 }
 
 abbrev pub no_interval : Interval
-no_interval = record { notes = no_steps; kept = []; translated = false }
+no_interval = record { notes = no_steps; kept = []; signs = no_signs }
 
 -- the trace that it shows, with a checkpoint every k steps
 abbrev pub trace_of : (windows pages k : ℕ) → Recording → history.Trace (machine windows pages)
@@ -39,9 +41,9 @@ trace_of windows pages k r = record {
   kept = λ n c. kept_in (n % k) c (slice_index_or r.intervals (n / k) no_interval).kept;
 }
 
--- the flag of interval i
-abbrev pub is_translated : Recording → ℕ → Bool
-is_translated r i = (slice_index_or r.intervals i no_interval).translated
+-- the signs of interval i
+abbrev pub signs_of : Recording → ℕ → Signs
+signs_of r i = (slice_index_or r.intervals i no_interval).signs
 
 -- the number of recorded steps
 abbrev pub recorded : ℕ → Recording → ℕ
@@ -51,12 +53,12 @@ recorded k r = k * length r.intervals
 abbrev pub last_point : Recording → State
 last_point r = slice_index_or r.points (length r.intervals) blank
 
--- The new trace is the old one with the next k steps under a timeline, from whatever state the run began. Its new interval has the flag of these steps, and
+-- The new trace is the old one with the next k steps under a timeline, from whatever state the run began. Its new interval has the signs of these steps, and
 -- the others keep theirs.
 pub record IsExtended (windows pages k : ℕ) (schedule : Schedule) (old new : Recording) : Type 0 where
   pub agrees : (start : State) (valid : AreEvents pages schedule)
       → history.Agrees (machine windows pages) k
       (extended (machine windows pages) k (record { start = start; events = event_at schedule; valid = valid }) (trace_of windows pages k old))
       (trace_of windows pages k new)
-  pub flag : is_translated new (length old.intervals) ≡ translates_among (λ j. steps_on windows pages schedule (recorded k old) (last_point old) j) k
-  pub flags : (i : ℕ) → i < length old.intervals → is_translated new i ≡ is_translated old i
+  pub new_signs : signs_of new (length old.intervals) ≡ signs_among (steps_on windows pages schedule (recorded k old) (last_point old)) k
+  pub signs : (i : ℕ) → i < length old.intervals → signs_of new i ≡ signs_of old i

@@ -5,6 +5,7 @@ ghost use Rattle.std.specs.Prelude.{◌≡◌, IfOk};
 use crate::interval::Interval;
 use crate::kept::KeptList;
 use crate::notes::Notes;
+use crate::signs::Signs;
 use std::alloc::{AllocError, Global};
 use std::marker::Model;
 use std::rc::Rc;
@@ -14,7 +15,7 @@ use std::rc::Rc;
 pub(crate) struct Finished {
     notes: Rc<Notes>,
     kept: KeptList,
-    translated: bool,
+    signs: Signs,
 }
 
 impl Model for Finished {
@@ -22,7 +23,7 @@ impl Model for Finished {
 
     ghost Value = { Interval };
 
-    ghost view = { λ f. record { notes = f.notes.value; kept = f.kept; translated = f.translated } };
+    ghost view = { λ f. record { notes = f.notes.value; kept = f.kept; signs = f.signs } };
 }
 
 impl Finished {
@@ -34,17 +35,9 @@ impl Finished {
     pub(crate) fn new(alloc: Global, interval: Interval) -> Result<Finished, AllocError>
         ensures { IfOk result (λ f. f ≡ interval) }
     {
-        let Interval {
-            notes,
-            kept,
-            translated,
-        } = interval;
+        let Interval { notes, kept, signs } = interval;
         let notes = Rc::new(alloc, notes)?;
-        Ok(Finished {
-            notes,
-            kept,
-            translated,
-        })
+        Ok(Finished { notes, kept, signs })
     }
 
     /// What each of the steps touches.
@@ -61,11 +54,11 @@ impl Finished {
         &self.kept
     }
 
-    /// Whether one of the steps begins in a state in which addresses are translated.
-    pub(crate) fn translated(&self) -> bool
-        ensures { result ≡ self.now.translated }
+    /// The signs of the steps.
+    pub(crate) fn signs(&self) -> Signs
+        ensures { result ≡ self.now.signs }
     {
-        self.translated
+        self.signs
     }
 
     /// Puts a list of kept values in the place of that of the interval.
@@ -88,7 +81,7 @@ impl Finished {
         Ok(Finished {
             notes,
             kept,
-            translated: self.translated,
+            signs: self.signs,
         })
     }
 }

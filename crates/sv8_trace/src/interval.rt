@@ -5,15 +5,16 @@ ghost use Rattle.sv8_trace.specs.Recording.{no_interval};
 
 use crate::kept::KeptList;
 use crate::notes::Notes;
+use crate::signs::Signs;
 use std::alloc::{AllocError, Global};
 
 /// What is kept of the steps from a checkpoint to the next one: what each touches, what stood in cells before events set
-/// them, and whether one of the steps begins in a state in which addresses are translated.
+/// them, and which signs some of the steps show.
 #[derive(Drop)]
 pub(crate) struct Interval {
     pub notes: Notes,
     pub kept: KeptList,
-    pub translated: bool,
+    pub signs: Signs,
 }
 
 impl Interval {
@@ -24,7 +25,7 @@ impl Interval {
         Interval {
             notes: Notes::new(alloc),
             kept: KeptList::new(alloc),
-            translated: false,
+            signs: Signs::new(),
         }
     }
 
@@ -34,7 +35,7 @@ impl Interval {
     {
         self.notes.clear();
         self.kept.clear();
-        self.translated = false;
+        self.signs = Signs::new();
     }
 
     /// The same once more, in no more memory than it needs.
@@ -48,7 +49,7 @@ impl Interval {
         Ok(Interval {
             notes: self.notes.copy()?,
             kept: self.kept.copy()?,
-            translated: self.translated,
+            signs: self.signs,
         })
     }
 }

@@ -4,6 +4,7 @@
 #![tactic(auto)]
 
 mod cell;
+mod checkpoint;
 mod column;
 mod draft;
 mod finished;
@@ -16,11 +17,14 @@ mod points;
 mod prepared;
 mod recorder;
 mod runs;
+mod signs;
 mod step_notes;
 mod trace;
 
 pub use cell::{Cell, Content};
+pub use checkpoint::Checkpoint;
 pub use draft::Draft;
 pub use patch::{Cause, Patch};
 pub use prepared::Prepared;
+pub use signs::Sign;
 pub use trace::{NO_END, Trace};

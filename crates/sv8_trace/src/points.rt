@@ -2,6 +2,7 @@
 
 ghost use Rattle.std.specs.Prelude.{◌≡◌, ℕ, ◌/◌, ◌<◌, ◌≤◌, ◌++◌, ◌∷◌, [], map, take, length, slice_index_or, false, None, MatchOption, ⊤, IfOk, OnOk, OnErr};
 ghost use Rattle.sv8_phys.specs.Memory.{ram_size, page_of};
+ghost use Rattle.sv8_trace.specs.Checkpoints.{IsCheckpoint};
 ghost use Rattle.sv8_trace.specs.Recording.{blank};
 ghost use Rattle.sv8_trace.specs.Placing.{placed_pages_in, placed_levels_in, AreSound};
 ghost use Rattle.sv8_trace.specs.Overlaid.{AreFull};
@@ -9,6 +10,7 @@ ghost use Rattle.sv8_trace.specs.Overlaid.{AreFull};
 mod columns;
 mod overlay;
 
+use crate::checkpoint::Checkpoint;
 use crate::column::{LevelColumn, PageColumn, empty_places};
 use crate::marks::PAGE_SIZE;
 use crate::points::columns::{copy_levels, copy_pages, cut_levels, cut_pages, put_all};
@@ -123,12 +125,17 @@ impl<const NW: usize, const PAGES: usize> Points<NW, PAGES> {
         byte_under(column, index, taken, address)
     }
 
-    /// Whether the machine of a checkpoint runs.
-    pub(crate) fn is_running(&self, index: usize) -> bool
+    /// What is read of a checkpoint where it is kept. Edits change nothing of that.
+    pub(crate) fn checkpoint(&self, index: usize) -> Checkpoint
         requires { index < length self.now }
-        ensures { result ≡ (slice_index_or self.now index blank).processor.running }
+        ensures { IsCheckpoint (slice_index_or self.now index blank) result }
     {
-        self.machines[index].is_running()
+        let taken = &*self.machines[index];
+        Checkpoint {
+            running: taken.is_running(),
+            taken: taken.taken(),
+            output_end: taken.output_end(),
+        }
     }
 
     /// Whether a level is pending in a checkpoint.

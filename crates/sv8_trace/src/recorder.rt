@@ -1,9 +1,8 @@
 //! Steps that are made and recorded.
 
-ghost use Rattle.std.specs.Prelude.{◌≡◌, ℕ, ◌+◌, ◌≤◌, ◌<◌, ◌&&◌, ◌||◌, ◌==◌, ◌++◌, ◌⊎◌, cond, None, Some, is_some, slice_index_or, IfOk, OnOk, OnErr};
+ghost use Rattle.std.specs.Prelude.{◌≡◌, ℕ, ◌+◌, ◌≤◌, ◌<◌, ◌&&◌, ◌==◌, ◌++◌, ◌⊎◌, cond, None, Some, is_some, slice_index_or, IfOk, OnOk, OnErr};
 ghost use Rattle.sv8_model.specs.Cells as model;
 ghost use Rattle.sv8_time.specs.Schedule.{bytes_below};
-ghost use Rattle.sv8_mmu.specs.Registers.{translates};
 ghost use Rattle.sv8_phys.specs.Memory.{ram_size};
 ghost use Rattle.sv8_phys.specs.Notes.{told};
 ghost use Rattle.sv8_cpu.specs.WordPokes.{AreInside};
@@ -13,6 +12,7 @@ ghost use Rattle.sv8_cpu.specs.Work.{counted};
 ghost use Rattle.sv8_trace.specs.Kept.{kept_in};
 ghost use Rattle.sv8_trace.specs.Cells.{cell_of, content_of, IsCell};
 ghost use Rattle.sv8_trace.specs.Touched.{is_touched};
+ghost use Rattle.sv8_trace.specs.Signs.{with_step};
 ghost use Rattle.sv8_trace.specs.Steps.{Gains};
 ghost use Rattle.sv8_trace.specs.Recorder.{below_byte, below_word, below_words, below_requests, counted_by, steps_on, IsRecorded, RaisedUpTo};
 
@@ -153,17 +153,6 @@ fn keep_below<const NW: usize, const PAGES: usize>(
     Ok(())
 }
 
-/// Notes whether addresses are translated in the state before a step.
-fn note_translation<const NW: usize, const PAGES: usize>(
-    translated: &mut bool,
-    machine: &Machine<NW, PAGES>,
-)
-    requires { NW ≤ 32 }
-    ensures { translated.new ≡ (translated.old || translates machine.now.mmu) }
-{
-    *translated = *translated || machine.mmu().translates();
-}
-
 /// Makes step n and records it, as the step with this offset in its interval. `touches` is a place for what it touches.
 #[inline(always)]
 fn record_step<const NW: usize, const PAGES: usize>(
@@ -187,14 +176,16 @@ fn record_step<const NW: usize, const PAGES: usize>(
     ensures kept { OnOk result ((j : ℕ) (c : model.Cell) → kept_in j c interval.new.kept
         ≡ cond (is_touched (told (footprint NW PAGES timeline.now n machine.old)) c) None
         (cond (j == offset && is_some (poke_of c (event_at timeline.now n))) (Some (get c machine.old)) (kept_in j c interval.old.kept))) }
-    ensures translated { OnOk result (interval.new.translated ≡ (interval.old.translated || translates machine.old.mmu)) }
+    ensures signs { OnOk result (interval.new.signs ≡ with_step interval.old.signs machine.old machine.new) }
     ensures counted { OnOk result (work.new ≡ counted work.old) }
     ensures uncounted { OnErr result (work.new ≡ work.old ⊎ work.new ≡ counted work.old) }
 {
     touches.clear();
-    note_translation(&mut interval.translated, machine);
+    let ran = machine.is_running();
+    interval.signs.note_before(machine);
     keep_below(&mut interval.kept, machine, timeline, n, offset)?;
     machine.step_in_place(n, timeline, touches, work)?;
+    interval.signs.note_after(ran, machine);
     interval.notes.note_step(touches.touches(), offset)?;
     interval.kept.forget(touches.touches());
     Ok(())
@@ -224,15 +215,17 @@ pub(crate) fn record_watched<const NW: usize, const PAGES: usize>(
     ensures kept { OnOk result ((j : ℕ) (c : model.Cell) → kept_in j c interval.new.kept
         ≡ cond (is_touched (told (footprint NW PAGES timeline.now n machine.old)) c) None
         (cond (j == offset && is_some (poke_of c (event_at timeline.now n))) (Some (get c machine.old)) (kept_in j c interval.old.kept))) }
-    ensures translated { OnOk result (interval.new.translated ≡ (interval.old.translated || translates machine.old.mmu)) }
+    ensures signs { OnOk result (interval.new.signs ≡ with_step interval.old.signs machine.old machine.new) }
     ensures counted { OnOk result (work.new ≡ counted work.old) }
     ensures uncounted { OnErr result (work.new ≡ work.old ⊎ work.new ≡ counted work.old) }
 {
     touches.clear();
     watch.clear();
-    note_translation(&mut interval.translated, machine);
+    let ran = machine.is_running();
+    interval.signs.note_before(machine);
     keep_below(&mut interval.kept, machine, timeline, n, offset)?;
     machine.watch(n, timeline, watch, work)?;
+    interval.signs.note_after(ran, machine);
     watch.tell(touches)?;
     interval.notes.note_step(touches.touches(), offset)?;
     interval.kept.forget(touches.touches());

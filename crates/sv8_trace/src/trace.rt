@@ -4,6 +4,7 @@ ghost use Rattle.std.specs.Prelude.{◌≡◌, ℕ, ◌+◌, ◌*◌, ◌<◌, �
 ghost use Rattle.sv8_time.specs.Schedule.{bytes_below};
 ghost use Rattle.sv8_phys.specs.Memory.{ram_size};
 ghost use Rattle.sv8_history.specs.Growing.{restored};
+ghost use Rattle.sv8_trace.specs.Checkpoints.{IsCheckpoint};
 ghost use Rattle.sv8_trace.specs.Recorder.{counted_by, RaisedUpTo};
 ghost use Rattle.sv8_trace.specs.Recording.{fresh, last_point, recorded, trace_of, IsExtended};
 
@@ -13,9 +14,10 @@ mod edits;
 mod placing;
 mod preparing;
 mod search;
+mod showing;
 mod touching;
-mod translating;
 
+use crate::checkpoint::Checkpoint;
 use crate::finished::Finished;
 use crate::interval::Interval;
 use crate::marks::Marks;
@@ -106,13 +108,13 @@ impl<const NW: usize, const PAGES: usize, const K: u32> Trace<NW, PAGES, K> {
         Ok(machine)
     }
 
-    /// Whether the machine of the last checkpoint that is not above a step runs.
-    pub fn is_running(&self, step: u32) -> bool
-        ensures { result ≡ ((trace_of NW PAGES K self.now).point (restored K (length self.now.intervals) step)).processor.running }
+    /// What is read of the last checkpoint that is not above a step.
+    pub fn checkpoint(&self, step: u32) -> Checkpoint
+        ensures { IsCheckpoint ((trace_of NW PAGES K self.now).point (restored K (length self.now.intervals) step)) result }
     {
         let count = self.intervals.len();
         let index = count.min((step / K) as usize);
-        self.points.is_running(index)
+        self.points.checkpoint(index)
     }
 
     /// Makes the next `K` steps from the last checkpoint, under a timeline, and records them. `work` counts them.

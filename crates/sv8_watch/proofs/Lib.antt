@@ -2,3 +2,4 @@ pub mod Places
 pub mod Standing
 pub mod Sparing
 pub mod Running
+pub mod Quiet

@@ -3,3 +3,4 @@ pub mod Conditions
 pub mod Watched
 pub mod Touching
 pub mod Running
+pub mod Quiet

@@ -1,15 +1,17 @@
 //! Conditions on a step.
 
-ghost use Rattle.std.specs.Prelude.{◌≡◌, ◌≤◌, ◌+◌, List, length};
+ghost use Rattle.std.specs.Prelude.{◌≡◌, ◌≤◌, ◌+◌, false, List, length};
 ghost use Rattle.sv8_phys.specs.Memory.{ram_size};
 ghost use Rattle.sv8_cpu.specs.State.{State};
+ghost use Rattle.sv8_cpu.specs.Run.{step};
 ghost use Rattle.sv8_watch.specs.Watched.{IsBefore, happening_of};
-ghost use Rattle.sv8_watch.specs.Conditions.{overlap, loads, stores, accesses, is_interrupt, is_reached, is_trap, is_trap_of, is_error, is_touched, differ_from, is_met, AreOld, IsWithin};
+ghost use Rattle.sv8_watch.specs.Conditions.{overlap, loads, stores, accesses, is_interrupt, is_reached, is_trap, is_trap_of, is_error, is_touched, differ_from, is_met, meets, AreOld, IsWithin};
 
 use crate::happening::{Access, Outcome};
-use crate::watched::MadeStep;
+use crate::watched::{Before, MadeStep};
 use sv8_cpu::Machine;
-use sv8_phys::{AccessKind, Touch};
+use sv8_phys::{AccessKind, OutputPlace, Touch};
+use sv8_time::Timeline;
 
 /// A condition on a step. Addresses of memory are physical; `count` bytes from `address` on are meant.
 #[derive(Clone, Copy, PartialEq, Eq, Debug)]
@@ -175,7 +177,44 @@ fn differ<const NW: usize, const PAGES: usize>(
     false
 }
 
+/// Whether so many bytes of the output are another number than before.
+#[inline(always)]
+fn is_other_end(before: OutputPlace, after: OutputPlace) -> bool
+    ensures { result ≡ false → (before.piece ≡ after.piece) × (before.place ≡ after.place) }
+{
+    before.piece != after.piece || before.place != after.place
+}
+
 impl Condition {
+    /// Whether a step may meet the condition, by what was kept of the machine before it and by the machine after it: where
+    /// the answer is false, the step does not. It asks for no observation, and takes less time than `is_met`. That the answer
+    /// is false wherever it could be is no part of the contract: true costs time alone.
+    #[inline(always)]
+    pub fn may_be_met<const NW: usize, const PAGES: usize>(
+        self,
+        n: u32,
+        timeline: &Timeline,
+        before: &Before,
+        after: &Machine<NW, PAGES>,
+    ) -> bool
+        requires few_windows { NW ≤ 32 }
+        requires few_pages { PAGES ≤ 65536 }
+        ensures { (s : State) → IsBefore s before.now → after.now ≡ step NW PAGES timeline.now n s → result ≡ false
+            → meets NW PAGES timeline.now n s self ≡ false }
+    {
+        match self {
+            Condition::Pc(address) => before.pc == address,
+            Condition::Trap | Condition::TrapType(_) | Condition::Error => {
+                before.running && after.is_at_trap()
+            }
+            Condition::Input => before.taken != after.taken(),
+            Condition::Output => is_other_end(before.put, after.output_end()),
+            Condition::Event => timeline.may_have_events(n),
+            Condition::Every(number) => number > 0 && n % number == 0,
+            _ => true,
+        }
+    }
+
     /// Whether a step meets the condition. `old` are the bytes of a `Change` in front of the step; for other conditions it
     /// is not looked at.
     #[inline(always)]

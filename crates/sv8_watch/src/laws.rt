@@ -1,5 +1,6 @@
 //! Laws of the conditions, each a function that does nothing and whose contract is the law.
 
+ghost use Rattle.sv8_watch.specs.Quiet.{TraplessStepsMiss, QuietStepsMiss};
 ghost use Rattle.sv8_watch.specs.Running.{RunningStepsMiss};
 ghost use Rattle.sv8_watch.specs.Touching.{SparedStepsMiss, SparedPcsMiss};
 
@@ -22,4 +23,21 @@ pub fn spared_pcs_miss()
 /// So a search for `Error` may pass over all steps up to one before which the machine runs.
 pub fn running_steps_miss()
     ensures { RunningStepsMiss }
+{}
+
+/// A step that leads neither to error mode nor to the address in TBR takes no trap and no interrupt, nor does one of a machine
+/// that is in error mode.
+///
+/// So a search for `Trap`, `TrapType` or `Error` may pass over all steps of which none leads there.
+pub fn trapless_steps_miss()
+    ensures { TraplessStepsMiss }
+{}
+
+/// A step after which as many bytes are taken from the console as before takes none, and one after which as many are put out puts
+/// none out.
+///
+/// So a search for `Input` or `Output` may pass over all steps between two states with as many: after no step there are fewer
+/// (`consoles_grow` of `sv8_cpu`).
+pub fn quiet_steps_miss()
+    ensures { QuietStepsMiss }
 {}

@@ -10,4 +10,4 @@ mod watched;
 pub use condition::{Condition, is_touched};
 pub use happening::{Access, Fetch, Happening, Outcome};
 pub use span::Span;
-pub use watched::{Before, MadeStep};
+pub use watched::{Before, MadeStep, stands_at};

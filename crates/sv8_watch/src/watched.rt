@@ -162,7 +162,7 @@ fn is_some_of<T>(items: &[T]) -> bool
 
 /// Whether something stands in a timeline at a step.
 #[tactic(auto, using(crate::proofs::Standing::words_stand))]
-fn stands_at(timeline: &Timeline, n: u32) -> bool
+pub fn stands_at(timeline: &Timeline, n: u32) -> bool
     ensures { result ≡ stands_at timeline.now n }
 {
     let events = timeline.events(n);

@@ -1,16 +1,18 @@
 //! What the recorded run shows of a range of its steps, without making one of them.
 
-ghost use Rattle.std.specs.Prelude.{◌≡◌, ◌+◌, ◌/◌, ◌≤◌, true, MatchBool};
+ghost use Rattle.std.specs.Prelude.{◌≡◌, ◌+◌, ◌%◌, ◌≤◌, MatchBool, MatchOption};
 ghost use Rattle.sv8_time.specs.Words.{poked_bytes, bytes_of_words};
 ghost use Rattle.sv8_cpu.specs.Touching.{is_within, pokes_any};
-ghost use Rattle.sv8_trace.specs.Touching.{NoneTouches};
-ghost use Rattle.sv8_trace.specs.Translating.{NoneTranslates};
+ghost use Rattle.sv8_trace.specs.Checkpoints.{IsCheckpoint};
+ghost use Rattle.sv8_trace.specs.Recording.{recorded};
+ghost use Rattle.sv8_trace.specs.Showing.{NoneShows};
+ghost use Rattle.sv8_trace.specs.declared.signs.Sign.TheVariants as sign;
 ghost use Rattle.sv8_bench.specs.Shown.{machine_state};
-ghost use Rattle.sv8_bench.specs.Touching.{NonePokes, IsUntouched, IsUnreached};
-ghost use Rattle.sv8_bench.specs.Workbench.{checkpoints};
+ghost use Rattle.sv8_bench.specs.Touching.{NonePokes, IsUntouched, IsUnreached, IsTrapless};
 
 use crate::bench::Bench;
 use sv8_time::{Timeline, WordPoke};
+use sv8_trace::{Checkpoint, Sign};
 
 /// How many bytes an instruction has.
 const INSTRUCTION_SIZE: u32 = 4;
@@ -88,23 +90,41 @@ impl<const NW: usize, const PAGES: usize, const K: u32> Bench<NW, PAGES, K> {
     pub fn is_unreached(&self, address: u32, from: u32, to: u32) -> bool
         requires within { address + 4 ≤ 0x1_0000_0000 }
         ensures { MatchBool result (IsUnreached K self.now address from to)
-            (IsUntouched K self.now address 4 from to → NoneTranslates K self.now.recording from to → ⊥) }
+            (IsUntouched K self.now address 4 from to → NoneShows sign.Translation K self.now.recording from to → ⊥) }
     {
         self.is_untouched(address, INSTRUCTION_SIZE, from, to)
-            && self.trace.is_untranslated(from, to)
+            && self.trace.shows_none(Sign::Translation, from, to)
     }
 
-    /// Whether the record shows that the machine runs at a step. It is asked of checkpoints; of any other step, and of one
-    /// that is not recorded, it shows nothing, and the answer is false. It makes no step.
+    /// Whether the steps from `from` on and below `to` are recorded, and none of the intervals in which they lie has a step
+    /// that led a machine that ran where a trap leads: to error mode, or to the address in TBR. It makes no step.
     ///
-    /// Where the answer is true, no step below leads to error mode (`running_steps_miss` of `sv8_watch`).
-    pub fn is_running_at(&self, step: u32) -> bool
-        ensures running { result ≡ true → (machine_state self.now.kept step).processor.running ≡ true }
-        ensures recorded { result ≡ true → step / K ≤ checkpoints self.now }
+    /// None of these steps then takes a trap or an interrupt (`trapless_steps_miss` of `sv8_watch`).
+    pub fn is_trapless(&self, from: u32, to: u32) -> bool
+        ensures { MatchBool result (IsTrapless K self.now from to)
+            (to ≤ recorded K self.now.recording → NoneShows sign.Trap K self.now.recording from to → ⊥) }
     {
-        if self.trace.recorded() < step {
+        if self.trace.recorded() < to {
             return false;
         }
-        step % K == 0 && self.trace.is_running(step)
+        self.trace.shows_none(Sign::Trap, from, to)
+    }
+
+    /// What is read of the checkpoint of a step, where the step is a multiple of `K` and recorded; `None` elsewhere. It makes
+    /// no step.
+    ///
+    /// Where the machine runs there, no step below leads to error mode (`running_steps_miss` of `sv8_watch`). Between two
+    /// checkpoints with as many bytes taken, or put out, no byte is taken, or put out (`quiet_steps_miss`).
+    pub fn checkpoint(&self, step: u32) -> Option<Checkpoint>
+        ensures { MatchOption result (step % K ≡ 0 → step ≤ recorded K self.now.recording → ⊥)
+            (λ c. (step ≤ recorded K self.now.recording) × IsCheckpoint (machine_state self.now.kept step) c) }
+    {
+        if step > self.trace.recorded() {
+            return None;
+        }
+        if step % K != 0 {
+            return None;
+        }
+        Some(self.trace.checkpoint(step))
     }
 }

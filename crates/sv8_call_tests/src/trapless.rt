@@ -1,0 +1,187 @@
+//! Ranges of recorded steps that take no trap, and what is read of checkpoints, worked out by hand.
+
+use crate::untouched::{Small, workbench};
+use std::alloc::Global;
+use std::test::Fail;
+use sv8_bench::BenchFault;
+use sv8_phys::Watch;
+
+/// A program that takes a trap in step 4, whose handler goes back in steps 5 and 6. Its first line is `wr %g0, 0xa0, %psr`,
+/// which enables traps.
+const TRAPS: &[&[u8]] = &[
+    b"wr %g0, 0xa0, %psr",
+    b"nop",
+    b"nop",
+    b"nop",
+    b"ta 0",
+    b"end: ba end",
+    b"nop",
+    b".org 0x800",
+    b"jmp %l2",
+    b"rett %l2+4",
+];
+
+/// The same with traps disabled: step 4 leads to error mode.
+const STOPS: &[&[u8]] = &[b"nop", b"nop", b"nop", b"nop", b"ta 0"];
+
+/// A program that puts a byte out in step 2 and takes one in step 5.
+const SPEAKS: &[&[u8]] = &[
+    b"sethi 0x200000, %g1",
+    b"mov 0x48, %g2",
+    b"st %g2, [%g1+8]",
+    b"nop",
+    b"nop",
+    b"ld [%g1], %g3",
+    b"end: ba end",
+    b"nop",
+];
+
+/// A range of steps, and whether the record shows that none of them takes a trap.
+type Range = (u32, u32, bool);
+
+/// Ranges of the first twelve steps of `TRAPS`.
+const TRAPPED: [Range; 9] = [
+    (0, 4, true),
+    (0, 5, false),
+    (4, 5, false),
+    (5, 8, false),
+    (7, 9, false),
+    (8, 12, true),
+    (8, 13, false),
+    (12, 12, true),
+    (13, 13, false),
+];
+
+/// Ranges of the first twelve steps of `STOPS`: in error mode no step takes a trap.
+const STOPPED: [Range; 4] = [(0, 4, true), (3, 5, false), (4, 8, false), (8, 12, true)];
+
+/// A step, and what is read of its checkpoint: whether the machine runs, how many bytes are taken, and how many put out.
+type Read = (u32, Option<(bool, u32, usize)>);
+
+/// Of `SPEAKS`, once eight steps are recorded.
+const SPOKEN: [Read; 6] = [
+    (0, Some((true, 0, 0))),
+    (1, None),
+    (4, Some((true, 0, 1))),
+    (7, None),
+    (8, Some((true, 1, 1))),
+    (12, None),
+];
+
+/// Of `STOPS`, once twelve are.
+const ENDED: [Read; 4] = [
+    (4, Some((true, 0, 0))),
+    (8, Some((false, 0, 0))),
+    (12, Some((false, 0, 0))),
+    (16, None),
+];
+
+/// Whether each of these ranges has its answer.
+fn answers(bench: &Small, ranges: &[Range]) -> bool {
+    let mut holds = true;
+    for &(from, to, due) in ranges {
+        holds = holds && bench.is_trapless(from, to) == due;
+    }
+    holds
+}
+
+/// What is read of the checkpoint of a step.
+fn read(bench: &Small, step: u32) -> Option<(bool, u32, usize)> {
+    match bench.checkpoint(step) {
+        Some(it) if it.output_end.piece == 0 => {
+            Some((it.running, it.taken, it.output_end.place))
+        }
+        _ => None,
+    }
+}
+
+/// Whether what is read of each checkpoint is right.
+fn reads(bench: &Small, checkpoints: &[Read]) -> bool {
+    let mut holds = true;
+    for &(step, due) in checkpoints {
+        holds = holds && read(bench, step) == due;
+    }
+    holds
+}
+
+/// Whether the ranges have their answers once so many steps are recorded.
+fn tells(bench: &mut Small, steps: u32, ranges: &[Range]) -> Result<bool, BenchFault> {
+    bench.regs_at(steps)?;
+    Ok(answers(bench, ranges))
+}
+
+/// Whether they have them still once a poke that no step reads has left all steps recorded, and those of a run without the
+/// trap once an edit has taken it out.
+fn tells_edits(alloc: Global, bench: &mut Small) -> Result<bool, Fail> {
+    let trapped = tells(bench, 12, &TRAPPED)?;
+    bench.set_poke_byte(9, 0x301, 7)?;
+    let kept = bench.recorded() == 12 && answers(bench, &TRAPPED);
+    let mut lines = Vec::new(alloc);
+    lines.push(b"nop".to_vec(alloc)?)?;
+    bench.replace_lines(5, 5, &lines)?;
+    let cut = bench.recorded() == 4 && answers(bench, &[(0, 4, true), (0, 5, false)]);
+    let never = tells(bench, 12, &[(0, 12, true), (4, 5, true)])?;
+    Ok(trapped && kept && cut && never)
+}
+
+/// Whether a walk notes the trap that it sees.
+fn tells_walks(alloc: Global, bench: &mut Small) -> Result<bool, Fail> {
+    let mut watch = Watch::new(alloc);
+    let mut walk = bench.walk(4, &mut watch)?;
+    bench.walk_on(&mut walk, &mut watch)?;
+    bench.walk_on(&mut walk, &mut watch)?;
+    bench.walk_on(&mut walk, &mut watch)?;
+    bench.walk_on(&mut walk, &mut watch)?;
+    Ok(bench.recorded() == 8 && answers(bench, &[(0, 4, true), (4, 8, false)]))
+}
+
+/// Whether a walk to a step with nothing seen leads to the same state and counts as a query does.
+fn walks_past(alloc: Global, bench: &mut Small) -> Result<bool, Fail> {
+    bench.regs_at(12)?;
+    let mut watch = Watch::new(alloc);
+    let mut walk = bench.walk(1, &mut watch)?;
+    bench.walk_to(&mut walk, 6, &mut watch)?;
+    let there = walk.step() == 6 && walk.machine().pc() == 0x804 && !walk.machine().is_at_trap();
+    bench.walk_to(&mut walk, 6, &mut watch)?;
+    Ok(there && walk.step() == 6 && bench.worked() == 18)
+}
+
+#[test]
+fn traps_are_noted_of_their_intervals(rt: HostRuntime) -> Result<(), Fail> {
+    let mut bench = workbench(rt.alloc(), TRAPS)?;
+    assert!(rt; tells_edits(rt.alloc(), &mut bench)?);
+    Ok(())
+}
+
+#[test]
+fn a_machine_in_error_mode_takes_no_trap(rt: HostRuntime) -> Result<(), Fail> {
+    let mut bench = workbench(rt.alloc(), STOPS)?;
+    assert!(rt; tells(&mut bench, 12, &STOPPED)?);
+    assert!(rt; reads(&bench, &ENDED));
+    Ok(())
+}
+
+#[test]
+fn walks_note_traps(rt: HostRuntime) -> Result<(), Fail> {
+    let mut bench = workbench(rt.alloc(), TRAPS)?;
+    assert!(rt; tells_walks(rt.alloc(), &mut bench)?);
+    Ok(())
+}
+
+#[test]
+fn walks_go_past_steps(rt: HostRuntime) -> Result<(), Fail> {
+    let mut bench = workbench(rt.alloc(), TRAPS)?;
+    assert!(rt; walks_past(rt.alloc(), &mut bench)?);
+    Ok(())
+}
+
+#[test]
+fn checkpoints_are_read_where_they_are(rt: HostRuntime) -> Result<(), Fail> {
+    let mut bench = workbench(rt.alloc(), SPEAKS)?;
+    bench.set_input(3, b"x")?;
+    bench.regs_at(8)?;
+    assert!(rt; reads(&bench, &SPOKEN));
+    bench.set_poke_byte(6, 0x301, 7)?;
+    assert!(rt; bench.recorded() == 8 && reads(&bench, &SPOKEN));
+    Ok(())
+}

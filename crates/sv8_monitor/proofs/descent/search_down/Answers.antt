@@ -1,0 +1,76 @@
+use Rattle.std.proofs.Common.{◌≡◌, ◌∙◌, ◌-◌, ◌++◌, inl, inr, length, map, take, reverse, refl, ap, arith}
+use Rattle.sv8_bench.specs.Kept.{Kept}
+use Rattle.sv8_bench.specs.Workbench.{checkpoints}
+use Rattle.sv8_monitor.specs.Search.{found_at, is_wanted, rising, falling, sought_to}
+use Rattle.sv8_monitor.proofs.Falling.{falling_next, sought_next, all_fallen, lowest_sought}
+use Rattle.sv8_monitor.proofs.Sought.{divided, within_interval, interval_sought, sought_down, sought_abandoned}
+use Rattle.sv8_monitor.proofs.descent.search_down.Goals as goal
+
+pub loop-end-init : goal.loop-end-init
+loop-end-init g c = record {
+  low = omega (arith, c.requires.ordered);
+  high = omega arith;
+  kept = refl;
+  fewest = omega arith;
+  most = omega arith;
+  down = inl (refl, refl, refl);
+  found = refl;
+  sought = refl;
+}
+
+pub loop-end-preserved : goal.loop-end-preserved
+loop-end-preserved g c =
+    let k = g.row.K in
+    let pos = c.sizes.ensures.some_steps in
+    let inv = c.loop-end.invariant in
+    let kept = c.args.bench.now.kept in
+    let cs = c.args.conditions.now in
+    let wanted = is_wanted kept cs in
+    let to = c.args.to in
+    let end = c.loop-end.end in
+    let left = c.loop-end.left in
+    let start = c.interval_start-start.result in
+    let next = c.in_ok-left.left in
+    let size = end - start in
+    let from_start = c.interval_start-start.ensures in
+    let lower = interval_sought k c.args.from to pos c.args.bench.now c.loop-end.bench c.search_interval.new.bench end start c.loop-end-test.true inv.high from_start inv.down
+    c.in_ok-left.ensures.sought in
+    let more = lower.fewest in
+    let most = lower.most in
+    let below = divided k end c.args.from pos inv.high in
+    let rest : next ≡ left - length (rising wanted start size size) =
+    c.in_ok-left.ensures.left ∙ ap (λ (x : Kept). left - length (rising (is_wanted x cs) start size size)) inv.kept in
+    let found = c.in_ok-left.ensures.found
+    ∙ ap (λ (x : Kept). c.loop-end.found.items ++ map (found_at x) (take left (reverse (rising (is_wanted x cs) start size size)))) inv.kept in
+    let all = c.args.found.now.items ++ map (found_at kept) (falling wanted to (c.args.from - to) c.args.most) in
+    record {
+      low = from_start.low;
+      high = omega (arith, from_start.below, inv.high);
+      kept = lower.kept ∙ inv.kept;
+      fewest = omega (arith, inv.fewest, more);
+      most = omega (arith, inv.most, most, below);
+      down = lower.down;
+      found = falling_next wanted to start end left next from_start.low from_start.below rest (found_at kept) c.loop-end.found.items c.search_interval.new.found.items all found inv.found;
+      sought = sought_next wanted to start end left next from_start.low from_start.below rest k pos c.if-left-gt0.true (within_interval k to end start pos from_start) ∙ inv.sought;
+    }
+
+pub returns-in_err-left-clause-given_up : goal.returns-in_err-left-clause-given_up
+returns-in_err-left-clause-given_up g c =
+    let inv = c.loop-end.invariant in
+    sought_abandoned g.row.K c.args.from c.args.to c.sizes.ensures.some_steps c.loop-end.end c.interval_start-start.result c.args.bench.now c.loop-end.bench c.search_interval.new.bench
+    c.loop-end-test.true inv.high c.interval_start-start.ensures inv.kept inv.fewest inv.most inv.down c.in_err-left.ensures.given_up
+
+pub returns-else-left-gt0-clause-found : goal.returns-else-left-gt0-clause-found
+returns-else-left-gt0-clause-found g c =
+    let inv = c.loop-end.invariant in
+    let kept = c.args.bench.now.kept in
+    all_fallen (is_wanted kept c.args.conditions.now) c.args.to c.loop-end.end c.loop-end.left inv.low (inr (omega arith)) (found_at kept) c.loop-end.found.items _ inv.found
+
+pub returns-else-left-gt0-clause-sought : goal.returns-else-left-gt0-clause-sought
+returns-else-left-gt0-clause-sought g c =
+    let inv = c.loop-end.invariant in
+    let wanted = is_wanted c.args.bench.now.kept c.args.conditions.now in
+    let to = c.args.to in
+    let lowest = sought_to wanted to (c.args.from - to) c.args.most in
+    sought_down g.row.K c.args.from to c.sizes.ensures.some_steps c.loop-end.end lowest c.args.bench.now c.loop-end.bench inv.kept inv.fewest inv.most
+    (lowest_sought wanted to c.loop-end.end c.loop-end.left inv.low (inr (omega arith)) g.row.K lowest inv.sought) inv.down
