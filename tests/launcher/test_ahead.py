@@ -55,6 +55,12 @@ class Ahead(InRepository):
         self.assertEqual(sorted(self.all_calls()), ["ci high", "ci low", "ci side"])
         self.assertEqual(self.all_calls()[2], "ci high")
 
+    def test_tests_hold_no_other_crate_back(self) -> None:
+        # `low` is proved, and its tests wait for `high`, which can only come once `low` counts as proved.
+        tests = f'[ "$2" = low ] && until grep -q "ci high" {self.log}; do sleep 0.1; done; true'
+        self.prove(f"{SAYS}; {tests}")
+        self.assertEqual(sorted(self.all_calls()), ["ci high", "ci low", "ci side"])
+
     def test_what_was_taken_is_not_asked_for(self) -> None:
         self.prove(SAYS, taken=["low"])
         self.assertEqual(sorted(self.all_calls()), ["ci high", "ci side"])

@@ -10,6 +10,7 @@ of all that it read.
 """
 from __future__ import annotations
 
+import os
 import subprocess
 import tempfile
 import time
@@ -25,6 +26,7 @@ from .schedule import Task
 # What a check of a large crate with two jobs takes, seen on the crates as they are.
 _CHECK_BYTES = 5 << 30
 _LOOK_SECONDS = 0.2
+_MOST_SAID = 1 << 20
 
 
 def lanes(cores: int, memory: int) -> int:
@@ -69,6 +71,7 @@ class Ahead:
             while self._begin(number):
                 time.sleep(_LOOK_SECONDS)
                 tick()
+                self._look()
                 if not self._end():
                     return
         finally:
@@ -97,6 +100,13 @@ class Ahead:
             start_new_session=True,
         )
         return _Begun(crate, process, said)
+
+    def _look(self) -> None:
+        """Notes which crates are proved. Their tests may still be under way, and no other crate waits for those."""
+        for it in self._under_way:
+            said = os.pread(it.said.fileno(), _MOST_SAID, 0)
+            if f"rt: {it.crate} proved\n".encode() in said:
+                self._proved.add(it.crate)
 
     def _end(self) -> bool:
         """Takes what the crates say that have ended. Gives whether all of these are proved."""
