@@ -59,11 +59,11 @@ class Schedule(unittest.TestCase):
         now[0] = 60.0 * 10
         with contextlib.redirect_stderr(io.StringIO()) as said:
             progress.line("rt: low proved")
-        self.assertEqual(said.getvalue(), "sparc8: crate 1 of 4, low: proved; 10 minutes gone, about 18 to come\n")
-        # 5 of 14 minutes' work took 10, so the other 9 take 18, of which 3 go by.
-        self.assertAlmostEqual(progress.minutes_to_come(), 18.0)
+        self.assertEqual(said.getvalue(), "sparc8: crate 1 of 4, low: proved; 10 minutes gone, about 10 to come\n")
+        # 5 of 14 minutes' work took 10, and 10 are expected to take 7.5: the other 9 take 9 * 17.5 / 15.
+        self.assertAlmostEqual(progress.minutes_to_come(), 10.5)
         now[0] = 60.0 * 13
-        self.assertAlmostEqual(progress.minutes_to_come(), 15.0)
+        self.assertAlmostEqual(progress.minutes_to_come(), 7.5)
 
 
 if __name__ == "__main__":

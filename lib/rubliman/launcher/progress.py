@@ -18,6 +18,10 @@ _NOTES = re.compile(r"rt: (.*\bwaiting for .*|note: the disk .*)")
 TOLD_SECONDS = 60
 # Below this the pace of a run says little.
 _LEAST_MINUTES = 1.0
+# The minutes of docs/PROVING.md are those of a machine that has other work to do; one that has none takes less.
+_USUAL_PACE = 0.75
+# So many minutes of the schedule count at the pace that was expected: a run begins with crates of all sizes.
+_EXPECTED_MINUTES = 10.0
 
 
 class Progress:
@@ -35,7 +39,7 @@ class Progress:
         self._names = list(dict.fromkeys(it.crate for it in tasks))
         self._begun = self._told = self._ended = clock()
         self._whole = schedule.minutes_left(tasks, (), cores, lanes)
-        self._pace = times.measured().get("pace", 1.0)
+        self._pace = times.measured().get("pace", _USUAL_PACE)
         self._functions, self._of_crate, self._within, self._current = 0, 0, "", ""
         self.proved: list[str] = []
         self.has_worked = False
@@ -55,9 +59,11 @@ class Progress:
         return max(left * self._pace_so_far(left) - self.seconds_at_work() / 60, min(left, _LEAST_MINUTES))
 
     def _pace_so_far(self, left: float) -> float:
-        """How many minutes by the clock one of the schedule's takes."""
+        """How many minutes by the clock one of the schedule's takes, as expected at first and then as seen."""
         done, took = self._whole - left, (self._ended - self._begun) / 60
-        return took / done if self.has_worked and min(done, took) >= _LEAST_MINUTES else self._pace
+        if not self.has_worked or min(done, took) < _LEAST_MINUTES:
+            return self._pace
+        return (took + _EXPECTED_MINUTES * self._pace) / (done + _EXPECTED_MINUTES)
 
     def is_all_proved(self) -> bool:
         """Whether the toolchain has said of every crate that it is proved."""
