@@ -4,9 +4,9 @@ It comes in once `rt ci` of all has taken what is kept, and would begin to prove
 
 One `rt ci` of all crates gives most proofs one processor, also while others have nothing to do: it counts with the
 tests that each crate might have. Asked for one crate, whose libraries are proved, it gives that crate half of the
-processors, and four at most. So crates are asked for one by one, those with the longest way above them first, three at
-a time on four processors, as each begins with a part that takes one. The toolchain keeps what passes, by the checksums
-of all that it read.
+processors, and four at most. So crates are asked for one by one, those with the longest way above them first, two at a
+time on four processors: with three the longest way went slower. The toolchain keeps what passes, by the checksums of
+all that it read.
 """
 from __future__ import annotations
 
@@ -31,7 +31,7 @@ _MOST_SAID = 1 << 20
 
 def lanes(cores: int, memory: int) -> int:
     """How many crates are proved side by side; 0 where `rt ci` of all is as quick, or memory holds no two checks."""
-    number = min(max(3, cores // 3), memory // _CHECK_BYTES)
+    number = min(max(2, cores // 4), memory // _CHECK_BYTES)
     return number if cores >= 4 and number >= 2 else 0
 
 
