@@ -15,6 +15,21 @@ INTERPRETER = BENCH / "out" / "interpreter"
 os.environ.setdefault("GLIBC_TUNABLES", "glibc.malloc.hugetlb=1")
 
 
+def straight(words=100_000):
+    """A script of a program that runs straight through so many words, and then begins again."""
+    lines = [".word " + ", ".join(["0x82006001"] * 16)] * (words // 16)
+    lines[0] = "start: " + lines[0]
+    lines += ["ba start", "nop"]
+    return f"edit 1 0 {len(lines)}\n" + "\n".join(lines)
+
+
+def scripts():
+    """The scripts that are measured, each with its name: those of bench/programs, and one straight through RAM."""
+    for script in sorted((BENCH / "programs").glob("*.txt")):
+        yield script.stem, script.read_text().rstrip("\n")
+    yield "straight", straight()
+
+
 def build_interpreter():
     """The plain interpreter, built where its source is newer."""
     source = BENCH / "interpreter.rs"

@@ -3,7 +3,10 @@ from __future__ import annotations
 
 import contextlib
 import io
+import os
+import tempfile
 import unittest
+from unittest import mock
 
 from rubliman.launcher.progress import Progress
 from rubliman.launcher.schedule import longest_first, minutes_left, minutes_of, tasks_of
@@ -18,6 +21,12 @@ class Schedule(unittest.TestCase):
     """Four crates: `low` takes 4 minutes and its tests 1, `side` 2, `high` 6 on `low`, the program 1 on both."""
 
     def setUp(self) -> None:
+        kept = tempfile.TemporaryDirectory(prefix="rubliman-schedule-")
+        self.addCleanup(kept.cleanup)
+        # Without this the pace would be the one that a run of this user's has measured.
+        cache = mock.patch.dict(os.environ, {"RUBLIMAN_CACHE": kept.name})
+        cache.start()
+        self.addCleanup(cache.stop)
         crates = crates_of(TEXT, [WORKBENCH])
         self.sources = Sources(crates, {f"crates/{it.name}/src/lib.rt": b"\n" * 100 for it in crates})
         self.tasks = tasks_of(self.sources, PAGE)

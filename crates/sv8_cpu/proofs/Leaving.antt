@@ -1,7 +1,6 @@
 -- The state that an action leaves, from what the parts did.
-use Rattle.std.proofs.Common.{◌≡◌, ◌∙◌, ℕ, zero, suc, ◌+◌, ◌-◌, ◌≤◌, Bool, List, [], ◌∷◌, length, drop, sym, ap, subst, arith}
+use Rattle.std.proofs.Common.{◌≡◌, ◌∙◌, ℕ, zero, suc, ◌+◌, ◌-◌, ◌≤◌, List, [], ◌∷◌, length, drop, sym, ap, subst, arith}
 use Rattle.sv8_model.specs.Outside.{Outside, without_oldest}
-use Rattle.sv8_model.specs.declared.touch.Touch.{Touch}
 use Rattle.sv8_model.specs.Action.{Action, done, load_word, store_word, load_byte, store_byte, take_input, count_waiting, emit, ask_levels, clear_levels, expire, observe, result_of, after}
 use Rattle.sv8_model.specs.Does.{Does, Keeps, Notes}
 use Rattle.sv8_phys.specs.Contents.{Contents, outside_of}

@@ -1,7 +1,6 @@
 -- A store changes one page of RAM at most.
 use Rattle.std.proofs.Common.{◌≡◌, ℕ, ◌+◌, ◌*◌, ◌/◌, ◌%◌, ◌^◌, Bool, true, false, cond, nat_lt, ◌==◌, Ok, List, length, get_or, refl, sym, ◌∙◌, ap, subst, arith}
 use Rattle.std.proofs.lemmas.List.{length-set, get_or-set_other}
-use Rattle.sv8_model.specs.declared.touch.Touch.{Touch}
 use Rattle.sv8_model.specs.Outside.{Outside, with_byte, with_word}
 use Rattle.sv8_model.specs.Action.{Action, done, emit, clear_levels, expire, after}
 use Rattle.sv8_model.specs.Does.{Does, Keeps, Notes}

@@ -1,5 +1,5 @@
 -- What it means that code has located the address of a virtual access.
-use Rattle.std.specs.Prelude.{◌≡◌, ℕ, ◌%◌, ◌^◌, ◌<◌, Bool, List}
+use Rattle.std.specs.Prelude.{◌≡◌, ℕ, ◌%◌, ◌^◌, ◌<◌, List}
 use Rattle.sv8_model.specs.Outside.{Outside}
 use Rattle.sv8_model.specs.Action.{Action, done}
 use Rattle.sv8_model.specs.Does.{Does, Keeps, Notes}

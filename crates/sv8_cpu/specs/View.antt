@@ -1,5 +1,5 @@
 -- What physical memory with the registers of the memory management unit stands for, and what it means that it did an access.
-use Rattle.std.specs.Prelude.{ℕ, Bool, List}
+use Rattle.std.specs.Prelude.{ℕ, List}
 use Rattle.sv8_model.specs.Action.{Action}
 use Rattle.sv8_model.specs.Does.{Does, Keeps, Notes}
 use Rattle.sv8_phys.specs.Memory.{ram_size}

@@ -1,6 +1,6 @@
 //! Memory as the processor reaches it.
 
-ghost use Rattle.std.specs.Prelude.{◌≡◌, ℕ, ◌+◌, ◌*◌, ◌%◌, ◌/◌, ◌≤◌, ◌<◌, List, [], true, false, IfOk, OnOk, OnErr, slice_set, length};
+ghost use Rattle.std.specs.Prelude.{◌≡◌, ℕ, ◌+◌, ◌*◌, ◌%◌, ◌/◌, ◌≤◌, ◌<◌, ◌||◌, List, [], true, false, not, nat_lt, None, IfOk, OnOk, OnErr, MatchOption, slice_set, length};
 ghost use Rattle.sv8_model.specs.Action as model;
 ghost use Rattle.sv8_model.specs.Does.{Does, keeping};
 ghost use Rattle.sv8_time.specs.Schedule.{bytes_below};
@@ -145,6 +145,28 @@ impl<const PAGES: usize> Memory<PAGES> {
             notes,
         )?;
         Ok(response)
+    }
+
+    /// Fetches an instruction as `access` does, where addresses are not translated and it stands in RAM. `None` where it does not, or
+    /// they are: nothing is done then.
+    ///
+    /// # Errors
+    ///
+    /// `AllocError` where memory for a note cannot be had.
+    #[inline(always)]
+    pub fn fetch_in_place<T: Touches>(
+        &self,
+        supervisor: bool,
+        at: u32,
+        notes: &mut T,
+    ) -> Result<Option<u64>, AllocError>
+        requires { at % 4 ≡ 0 }
+        ensures found { IfOk result (λ found. MatchOption found (T.noted notes.new ≡ T.noted notes.old) (λ word. (bytes : List ℕ) → MemoryDoes (keeping T.KEEPS T.OBSERVES) bytes (access (ram_size PAGES) (units_of self.now) (AccessRequest.Fetch supervisor at))
+            self.now self.now (Response.Value word) (T.noted notes.old) (T.noted notes.new))) }
+        ensures otherwise { IfOk result (λ found. found ≡ None → (translates self.now.mmu || not (nat_lt at (ram_size PAGES))) ≡ true) }
+    {
+        let found = self.physical.fetch_in_place(supervisor, at, notes)?;
+        Ok(found)
     }
 
     /// Whether virtual addresses are translated.

@@ -133,6 +133,27 @@ impl<const NW: usize, const PAGES: usize> Parts<NW, PAGES> {
         Ok(())
     }
 
+    /// Carries out a word that was fetched, by a way of its own where it has one.
+    #[inline(always)]
+    fn carry_out_fetched<T: Touches>(
+        &mut self,
+        word: u32,
+        before: u32,
+        timeline: &Timeline,
+        notes: &mut T,
+    ) -> Result<(), AllocError>
+        requires delivered { self.old.memory.phys.taken ≤ bytes_below before timeline.now.inputs }
+        ensures ok { OnOk result (MachineDoes (keeping T.KEEPS T.OBSERVES) (arrived before timeline.now) (carried_out NW (ram_size PAGES) (inner_of_parts self.old) word)
+            self.old self.new (T.noted notes.old) (T.noted notes.new)) }
+        ensures taken { OnOk result (self.new.memory.phys.taken ≤ bytes_below before timeline.now.inputs) }
+    {
+        if self.carry_out_frequent(word, before, timeline, notes)? {
+            return Ok(());
+        }
+        self.carry_out_word(word, before, timeline, notes)?;
+        Ok(())
+    }
+
     /// Carries out a word that was fetched, or takes the trap of its fetch.
     #[inline(always)]
     fn carry_out<T: Touches>(
@@ -154,19 +175,16 @@ impl<const NW: usize, const PAGES: usize> Parts<NW, PAGES> {
                 Ok(())
             }
             Response::Value(value) => {
-                let word = low_word(value);
-                if self.carry_out_frequent(word, before, timeline, notes)? {
-                    return Ok(());
-                }
-                self.carry_out_word(word, before, timeline, notes)?;
+                self.carry_out_fetched(low_word(value), before, timeline, notes)?;
                 Ok(())
             }
         }
     }
 
-    /// Fetches the instruction at PC and carries it out.
-    #[inline(always)]
-    fn run_instruction<T: Touches>(
+    /// Fetches the instruction at PC from wherever it stands, and carries it out. It is a function of its own, so that what it needs of the
+    /// stack is not in the way of other fetches.
+    #[inline(never)]
+    fn run_any_instruction<T: Touches>(
         &mut self,
         before: u32,
         timeline: &Timeline,
@@ -184,6 +202,33 @@ impl<const NW: usize, const PAGES: usize> Parts<NW, PAGES> {
         let response = self.memory.access(request, before, timeline, notes)?;
         self.carry_out(response, before, timeline, notes)?;
         Ok(())
+    }
+
+    /// Fetches the instruction at PC and carries it out.
+    #[inline(always)]
+    fn run_instruction<T: Touches>(
+        &mut self,
+        before: u32,
+        timeline: &Timeline,
+        notes: &mut T,
+    ) -> Result<(), AllocError>
+        requires delivered { self.old.memory.phys.taken ≤ bytes_below before timeline.now.inputs }
+        ensures ok { OnOk result (MachineDoes (keeping T.KEEPS T.OBSERVES) (arrived before timeline.now) (instruction NW (ram_size PAGES) (inner_of_parts self.old))
+            self.old self.new (T.noted notes.old) (T.noted notes.new)) }
+        ensures taken { OnOk result (self.new.memory.phys.taken ≤ bytes_below before timeline.now.inputs) }
+    {
+        let supervisor = self.processor.registers().psr().s;
+        let at = self.processor.pc();
+        match self.memory.fetch_in_place(supervisor, at, notes)? {
+            Some(value) => {
+                self.carry_out_fetched(low_word(value), before, timeline, notes)?;
+                Ok(())
+            }
+            None => {
+                self.run_any_instruction(before, timeline, notes)?;
+                Ok(())
+            }
+        }
     }
 
     /// Passes over an annulled slot, or carries an instruction out.

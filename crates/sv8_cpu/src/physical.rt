@@ -1,18 +1,19 @@
 //! Accesses at a physical address: RAM, the devices, and the registers of the memory management unit, which record faults.
 
-ghost use Rattle.std.specs.Prelude.{◌≡◌, ℕ, ◌+◌, ◌*◌, ◌%◌, ◌/◌, ◌≤◌, ◌<◌, ◌∷◌, [], List, true, IfOk, OnOk, OnErr};
+ghost use Rattle.std.specs.Prelude.{◌≡◌, ℕ, ◌+◌, ◌*◌, ◌%◌, ◌/◌, ◌≤◌, ◌<◌, ◌∷◌, [], ◌||◌, List, true, not, nat_lt, None, IfOk, OnOk, OnErr, MatchOption};
 ghost use Rattle.sv8_model.specs.Does.{keeping, noting};
 ghost use Rattle.sv8_time.specs.Schedule.{bytes_below};
 ghost use Rattle.sv8_phys.specs.declared.timer.Timer.{Timer};
 ghost use Rattle.sv8_phys.specs.Memory.{bytes_in, ram_size};
 ghost use Rattle.sv8_phys.specs.Contents.{arrived};
 ghost use Rattle.sv8_mmu.specs.Kept.{DiffersInPage};
+ghost use Rattle.sv8_mmu.specs.Registers.{translates};
 ghost use Rattle.sv8_cpu.specs.Units.{served, failed, is_hidden};
-ghost use Rattle.sv8_cpu.specs.Access.{access_seen, seen_if, load_type, store_type, bus_fault, fetched_from, load_answer, is_word, takes_byte, counts_bytes, plainly_loaded, loaded_from, answer_to_store, stored_at, exchanged_at};
+ghost use Rattle.sv8_cpu.specs.Access.{access, access_seen, seen_if, load_type, store_type, bus_fault, fetched_from, load_answer, is_word, takes_byte, counts_bytes, plainly_loaded, loaded_from, answer_to_store, stored_at, exchanged_at};
 ghost use Rattle.sv8_cpu.specs.View.{MemoryDoes, units_of};
 
 use std::alloc::AllocError;
-use sv8_iu::{Response, low_word};
+use sv8_iu::{AccessRequest, Response, low_word};
 use sv8_mmu::{AccessType, Fault, FaultType, Mmu, TableLevel};
 use sv8_phys::{AccessKind, BusError, INPUT, Observation, Phys, Size, Touches, WAITING};
 use sv8_time::Timeline;
@@ -204,6 +205,34 @@ impl<const PAGES: usize> Physical<PAGES> {
         } else {
             Ok(self.fail_bus(Trap::InstructionAccessException, asi, load_type(asi), va))
         }
+    }
+
+    /// Fetches an instruction as an access does, where addresses are not translated and it stands in RAM; else nothing is done.
+    #[inline(always)]
+    pub fn fetch_in_place<T: Touches>(
+        &self,
+        supervisor: bool,
+        at: u32,
+        notes: &mut T,
+    ) -> Result<Option<u64>, AllocError>
+        requires { at % 4 ≡ 0 }
+        ensures found { IfOk result (λ found. MatchOption found (T.noted notes.new ≡ T.noted notes.old) (λ word. (bytes : List ℕ) → MemoryDoes (keeping T.KEEPS T.OBSERVES) bytes (access (ram_size PAGES) (units_of self.now) (AccessRequest.Fetch supervisor at))
+            self.now self.now (Response.Value word) (T.noted notes.old) (T.noted notes.new))) }
+        ensures otherwise { IfOk result (λ found. found ≡ None → (translates self.now.mmu || not (nat_lt at (ram_size PAGES))) ≡ true) }
+    {
+        let pa = u64::from(at);
+        if self.mmu.translates() {
+            return Ok(None);
+        }
+        if !self.phys.is_ram(pa) {
+            return Ok(None);
+        }
+        let word = self.phys.read_ram(pa, Size::Word, notes)?;
+        notes.observe(Observation::Fetch {
+            from: pa,
+            word: low_word(word),
+        })?;
+        Ok(Some(word))
     }
 
     /// Loads from RAM or a device, but for the console's input.

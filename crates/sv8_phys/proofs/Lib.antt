@@ -1,8 +1,10 @@
 pub mod Numbers
 pub mod ByteLemmas
 pub mod Handles
+pub mod Sizes
+pub mod OnePart
 pub mod AllBytes
-pub mod OnePage
+pub mod BlockLemmas
 pub mod Difference
 pub mod Bits
 pub mod Telling

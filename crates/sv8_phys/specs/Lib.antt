@@ -1,7 +1,7 @@
 pub mod Bytes
 pub mod Memory
 pub mod Differences
-pub mod Pages
+pub mod Parts
 pub mod Chunks
 pub mod Pieces
 pub mod Ends

@@ -1,6 +1,8 @@
 //! Physical memory: RAM in pages that snapshots share, the console, the timer and the pending interrupt levels.
 #![tactic(auto)]
 
+mod block;
+mod blocks;
 mod chunk;
 mod fault;
 pub mod laws;
@@ -20,7 +22,7 @@ pub use output::OutputPlace;
 pub use page::Page;
 pub use phys::{INPUT, OUTPUT, PENDING, Phys, TIMER_COUNT, TIMER_RELOAD, WAITING};
 pub use size::Size;
-pub use step_touches::StepTouches;
+pub use step_touches::{StepTouches, tell_all};
 pub use sv8_model::{AccessKind, Observation, Touch};
 pub use timer::Timer;
 pub use touch::{NoTouches, Touches};

@@ -3,27 +3,29 @@
 ghost use Rattle.std.specs.Prelude.{◌≡◌, ℕ, ◌+◌, ◌≤◌, ◌<◌, ◌*◌, ◌/◌, ◌%◌, ◌^◌, Some, length, replicate, slice_index_or, slice_set, vec_len, IfOk, IfSome, MatchOption, OnOk, OnErr};
 ghost use Rattle.sv8_phys.specs.Differences.{next_difference};
 ghost use Rattle.sv8_phys.specs.Memory.{bytes_in, ram_size, value_at, with_value, page_of, with_page};
-ghost use Rattle.sv8_phys.specs.Pages.{pages_of, page_at};
+ghost use Rattle.sv8_phys.specs.Parts.{pages_of, part_at, part_of};
 
-use crate::page::{PAGE_SIZE, Page, PageBytes, write_copying, write_unshared};
+use crate::block::{BLOCK_SIZE, Block};
+use crate::blocks::Blocks;
+use crate::page::{PAGE_SIZE, Page, write_copying, write_unshared};
 use crate::size::Size;
 use std::alloc::{AllocError, Global};
 use std::marker::Model;
 use std::rc::Rc;
 
-/// `PAGES` pages of RAM from address 0 on, each of which may be shared with snapshots.
+/// `PAGES` pages of RAM from address 0 on, each of which may be shared with snapshots, and so may its blocks.
 #[derive(Drop)]
 pub(crate) struct Ram<const PAGES: usize> {
-    pages: Vec<Rc<PageBytes>>,
+    pages: Vec<Rc<Blocks>>,
 }
 
 impl<const PAGES: usize> Model for Ram<PAGES> {
     ghost use Rattle.std.specs.Prelude.{◌≡◌, List, ℕ, ◌≤◌, vec_len};
-    ghost use Rattle.sv8_phys.specs.Pages.{all_bytes, pages_of};
+    ghost use Rattle.sv8_phys.specs.Parts.{all_bytes, pages_of};
 
     ghost Value = { List ℕ };
 
-    ghost view = { λ m. all_bytes PAGES (pages_of m.pages.items) };
+    ghost view = { λ m. all_bytes 4096 PAGES (pages_of m.pages.items) };
 
     ghost invariant = { λ m. (PAGES ≤ 65536) × (vec_len m.pages ≡ PAGES) };
 }
@@ -31,7 +33,7 @@ impl<const PAGES: usize> Model for Ram<PAGES> {
 /// Writes the low bytes of a number at a place in a page, which is copied first where it is shared.
 #[inline(always)]
 fn write_in(
-    pages: &mut Vec<Rc<PageBytes>>,
+    pages: &mut Vec<Rc<Blocks>>,
     page: usize,
     at: usize,
     size: Size,
@@ -40,7 +42,7 @@ fn write_in(
     requires page { page < vec_len pages.old }
     requires within { at < 4096 }
     requires aligned { at % bytes_in size ≡ 0 }
-    ensures ok { OnOk result (pages_of pages.new.items ≡ slice_set (pages_of pages.old.items) page (with_value size at value (page_at (pages_of pages.old.items) page))) }
+    ensures ok { OnOk result (pages_of pages.new.items ≡ slice_set (pages_of pages.old.items) page (with_value size at value (part_at (pages_of pages.old.items) page))) }
     ensures err { OnErr result (pages_of pages.new.items ≡ pages_of pages.old.items) }
     ensures len { vec_len pages.new ≡ vec_len pages.old }
 {
@@ -58,7 +60,7 @@ impl<const PAGES: usize> Ram<PAGES> {
         requires { PAGES ≤ 65536 }
         ensures { IfOk result (λ m. m ≡ replicate (ram_size PAGES) 0) }
     {
-        let zero = Rc::new(alloc, PageBytes::zero())?;
+        let zero = Rc::new(alloc, Blocks::zero(alloc)?)?;
         let mut pages = Vec::with_capacity(alloc, PAGES)?;
         for _place in 0..PAGES {
             pages.push(zero.clone()?)?;
@@ -78,6 +80,15 @@ impl<const PAGES: usize> Ram<PAGES> {
         PAGES * PAGE_SIZE
     }
 
+    /// The block that an address is in.
+    #[inline(always)]
+    fn block(&self, at: usize) -> &Block
+        requires { at < ram_size PAGES }
+        ensures { result.now.bytes ≡ part_of 256 self.now (at / 256) }
+    {
+        self.pages[at / PAGE_SIZE].block(at % PAGE_SIZE)
+    }
+
     /// The number at an address.
     #[inline(always)]
     pub(crate) fn read(&self, at: usize, size: Size) -> u64
@@ -86,11 +97,10 @@ impl<const PAGES: usize> Ram<PAGES> {
         ensures value { result ≡ value_at size at self.now }
         ensures fits { result < 256 ^ bytes_in size }
     {
-        let page = &*self.pages[at / PAGE_SIZE];
-        page.read(at % PAGE_SIZE, size)
+        self.block(at).read(at % BLOCK_SIZE, size)
     }
 
-    /// Writes the low bytes of a number; a page that is shared is copied first.
+    /// Writes the low bytes of a number; what is shared of a page and of its block is copied first.
     #[inline(always)]
     pub(crate) fn write(&mut self, at: usize, size: Size, value: u64) -> Result<(), AllocError>
         requires within { at < ram_size PAGES }
@@ -115,8 +125,8 @@ impl<const PAGES: usize> Ram<PAGES> {
         requires { at < ram_size PAGES }
         ensures { IfOk result (λ p. p ≡ page_of self.now (at / 4096)) }
     {
-        let bytes = self.pages[at / PAGE_SIZE].clone()?;
-        Ok(Page::from_bytes(bytes))
+        let blocks = self.pages[at / PAGE_SIZE].clone()?;
+        Ok(Page::from_blocks(blocks))
     }
 
     /// Puts a page in the place of that of an address.
@@ -124,21 +134,20 @@ impl<const PAGES: usize> Ram<PAGES> {
         requires { at < ram_size PAGES }
         ensures { self.new ≡ with_page self.old (at / 4096) page }
     {
-        self.pages[at / PAGE_SIZE] = page.into_bytes();
+        self.pages[at / PAGE_SIZE] = page.into_blocks();
     }
 
-    /// The address of the first word, from that at an address up to the end of its page, that is another one in a second RAM.
-    fn difference_in_page(&self, other: &Ram<PAGES>, from: usize) -> Option<usize>
+    /// The address of the first word, from that at an address up to the end of its block, that is another one in a second RAM.
+    fn difference_in_block(&self, other: &Ram<PAGES>, from: usize) -> Option<usize>
         requires within { from < ram_size PAGES }
         requires aligned { from % 4 ≡ 0 }
         ensures { MatchOption result
-            (next_difference (ram_size PAGES) self.now other.now from ≡ next_difference (ram_size PAGES) self.now other.now (from / 4096 * 4096 + 4096))
+            (next_difference (ram_size PAGES) self.now other.now from ≡ next_difference (ram_size PAGES) self.now other.now (from / 256 * 256 + 256))
             (λ at. next_difference (ram_size PAGES) self.now other.now from ≡ Some at) }
     {
-        let page = &*self.pages[from / PAGE_SIZE];
-        let other_page = &*other.pages[from / PAGE_SIZE];
-        match page.next_difference(other_page, from % PAGE_SIZE) {
-            Some(place) => Some(from / PAGE_SIZE * PAGE_SIZE + place),
+        let block = self.block(from);
+        match block.next_difference(other.block(from), from % BLOCK_SIZE) {
+            Some(place) => Some(from / BLOCK_SIZE * BLOCK_SIZE + place),
             None => None,
         }
     }
@@ -151,9 +160,9 @@ impl<const PAGES: usize> Ram<PAGES> {
     {
         let mut at = from;
         while at < self.len() {
-            match self.difference_in_page(other, at) {
+            match self.difference_in_block(other, at) {
                 Some(found) => return Some(found),
-                None => at = at / PAGE_SIZE * PAGE_SIZE + PAGE_SIZE,
+                None => at = at / BLOCK_SIZE * BLOCK_SIZE + BLOCK_SIZE,
             }
         }
         None

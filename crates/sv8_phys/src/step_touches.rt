@@ -124,9 +124,13 @@ fn tell_levels<T: Touches>(levels: u16, notes: &mut T) -> Result<(), AllocError>
     }
 }
 
-/// Hands on what is told of some notes.
+/// Hands on what is told of the notes of a step: each read, each write of a word that is not read, and all levels at once.
+///
+/// # Errors
+///
+/// `AllocError` where those that take the notes cannot have memory for them. Some may have been handed on then.
 #[tactic(auto, using(sv8_model::proofs::Common::noting_then), unfolding(crate::specs::Notes::told))]
-pub(crate) fn tell_all<T: Touches>(from: &[Touch], notes: &mut T) -> Result<(), AllocError>
+pub fn tell_all<T: Touches>(from: &[Touch], notes: &mut T) -> Result<(), AllocError>
     ensures ok { OnOk result (T.noted notes.new ≡ noting (keeping T.KEEPS T.OBSERVES) (T.noted notes.old) (told from.now) []) }
     ensures err { OnErr result (T.KEEPS ≡ true) }
 {
@@ -144,6 +148,14 @@ impl StepTouches {
         StepTouches {
             notes: Vec::new(alloc),
         }
+    }
+
+    /// The notes, in order.
+    #[inline(always)]
+    pub fn touches(&self) -> &[Touch]
+        ensures { result.now ≡ self.now }
+    {
+        &self.notes
     }
 
     /// Hands on what the notes of a step tell, and forgets them.

@@ -1,10 +1,8 @@
 //! Notes of one step that is watched: all that it touches, and what an observer sees of it.
 
-ghost use Rattle.std.specs.Prelude.{◌≡◌, [], true, OnOk, OnErr};
-ghost use Rattle.sv8_model.specs.Does.{keeping, no_notes, noting};
-ghost use Rattle.sv8_phys.specs.Notes.{told};
+ghost use Rattle.std.specs.Prelude.{◌≡◌};
+ghost use Rattle.sv8_model.specs.Does.{no_notes};
 
-use crate::step_touches::tell_all;
 use crate::touch::Touches;
 use std::alloc::{AllocError, Global};
 use std::marker::Model;
@@ -74,18 +72,6 @@ impl Watch {
         ensures { result.now ≡ self.now.observations }
     {
         &self.observations
-    }
-
-    /// Hands on what the touches of the step tell, as `StepTouches::tell` does. All notes stay.
-    ///
-    /// # Errors
-    ///
-    /// `AllocError` where those that take the notes cannot have memory for them. Some may have been handed on then.
-    pub fn tell<T: Touches>(&self, notes: &mut T) -> Result<(), AllocError>
-        ensures ok { OnOk result (T.noted notes.new ≡ noting (keeping T.KEEPS T.OBSERVES) (T.noted notes.old) (told self.now.touches) []) }
-        ensures err { OnErr result (T.KEEPS ≡ true) }
-    {
-        tell_all(&self.touches, notes)
     }
 
     /// Lets all notes go.

@@ -1,3 +1,5 @@
+pub mod Current
+pub mod Moves
 pub mod Packing
 pub mod Places
 pub mod Rows

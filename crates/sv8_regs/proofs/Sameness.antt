@@ -1,6 +1,5 @@
 -- Registers that are the same, field by field.
-use Rattle.std.proofs.Common.{Bool, true, false, MatchBool, ◌≡◌, ◌≢◌, ◌==◌, ◌&&◌, ◌⊎◌, inl, inr, ℕ, ◌+◌, ◌-◌, ◌*◌, ◌<◌, ◌≤◌, nat_lt, List, length, get_or, not, refl, sym, ◌∙◌, subst, arith}
-use Rattle.std.proofs.lemmas.Bool.{ltb-true, ltb-false}
+use Rattle.std.proofs.Common.{Bool, true, false, MatchBool, ◌≡◌, ◌≢◌, ◌==◌, ◌&&◌, ℕ, ◌+◌, ◌*◌, ◌<◌, ◌≤◌, List, [], length, get_or, take, not, refl, sym, ap, ◌∙◌, subst, arith}
 use Rattle.std.proofs.lemmas.Grind.{same_number_lists}
 use Rattle.std.proofs.lemmas.Bool.{not-false}
 use Rattle.std.proofs.lemmas.Bool.Decides.{Decides-eqb}
@@ -8,7 +7,10 @@ use Rattle.std.proofs.Math.Bool.{beq}
 use Rattle.std.specs.Bool.{Decides}
 use Rattle.std.specs.Cmp.{booleans_Decides}
 use Rattle.sv8_regs.specs.declared.Psr.{Psr}
-use Rattle.sv8_regs.specs.Ring.{Registers}
+use Rattle.sv8_regs.specs.Ring.{Registers, flat}
+use Rattle.sv8_regs.specs.Current.{ring_of, IsVacant}
+use Rattle.sv8_regs.proofs.Rows.{get_or-flat_at}
+use Rattle.sv8_regs.proofs.Current.{same_current, same_rest}
 
 -- what follows from each answer of a test
 pub decided : {P Q R : Type 0} (b : Bool) → Decides b R → (R → P) → (¬ R → Q) → MatchBool b P Q
@@ -43,42 +45,49 @@ same_psr p q h =
       et = (booleans_Decides p.et q.et).0 ps.1 i;
     }
 
--- registers whose fields but for the ring are the same
-pub same_fields : (u v s t : Registers) → u ≡ s → v ≡ t → u.globals ≡ v.globals → u.cwp ≡ v.cwp → u.psr ≡ v.psr → u.wim ≡ v.wim → u.tbr ≡ v.tbr → u.y ≡ v.y
-    → s ≡ record t { ring = s.ring }
-same_fields u v s t us vt globals cwp psr wim tbr y =
+-- registers whose fields but for their words are the same
+pub same_fields : (u v s t : Registers) → u ≡ s → v ≡ t → u.cwp ≡ v.cwp → u.psr ≡ v.psr → u.wim ≡ v.wim → u.tbr ≡ v.tbr → u.y ≡ v.y
+    → s ≡ record t { globals = s.globals; ring = s.ring }
+same_fields u v s t us vt cwp psr wim tbr y =
     sym us
-    ∙ (λ i. record { globals = globals i; ring = u.ring; cwp = cwp i; psr = psr i; wim = wim i; tbr = tbr i; y = y i })
-    ∙ (λ i. record (vt i) { ring = (us i).ring })
+    ∙ (λ i. record { globals = u.globals; ring = u.ring; cwp = cwp i; psr = psr i; wim = wim i; tbr = tbr i; y = y i })
+    ∙ (λ i. record (vt i) { globals = (us i).globals; ring = (us i).ring })
 
--- ---- the ring, window by window
+-- such registers, compared by the words of the window and of the rows
+module _ (n : ℕ) (u v s t : Registers) (us : u ≡ s) (vt : v ≡ t) (fields : s ≡ record t { globals = s.globals; ring = s.ring }) (current current2 words words2 : List ℕ)
+    (globals_are : u.globals ≡ take 8 current) (globals2_are : v.globals ≡ take 8 current2) (ring_is : u.ring ≡ ring_of n u.cwp current words) (ring2_is : v.ring ≡ ring_of n v.cwp current2 words2)
+    (two : 2 ≤ n) (w_in : u.cwp < n) where
+  same_cwp : u.cwp ≡ v.cwp
+  same_cwp = ap (λ (x : Registers). x.cwp) (us ∙ fields) ∙ ap (λ (x : Registers). x.cwp) (sym vt)
 
-either : (a b : Bool) → (a && b) ≡ false → (a ≡ false) ⊎ (b ≡ false)
-either true b e = inr e
-either false b e = inl refl
+  alike : current ≡ current2 → words ≡ words2 → s ≡ t
+  alike currents rests =
+      let globals = globals_are ∙ ap (λ xs. take 8 xs) currents ∙ sym globals2_are in
+      let rings = ring_is ∙ (λ i. ring_of n (same_cwp i) (currents i) (rests i)) ∙ sym ring2_is in
+      let globals_now = ap (λ (x : Registers). x.globals) (sym us) ∙ globals ∙ ap (λ (x : Registers). x.globals) vt in
+      let ring_now = ap (λ (x : Registers). x.ring) (sym us) ∙ rings ∙ ap (λ (x : Registers). x.ring) vt in
+      fields ∙ (λ i. record t { globals = globals_now i; ring = ring_now i })
 
--- the registers below a window are the same, and those of the window
-pub window_more : (xs ys : List ℕ) (window : ℕ) (same next : Bool)
-    → (same ≡ true → (k : ℕ) → k < 16 * window → get_or xs k 0 ≡ get_or ys k 0)
-    → (next ≡ true → (k : ℕ) → k < 16 → get_or xs (16 * window + k) 0 ≡ get_or ys (16 * window + k) 0)
-    → (same && next) ≡ true → (k : ℕ) → k < 16 * (window + 1) → get_or xs k 0 ≡ get_or ys k 0
-window_more xs ys window same next below here e k within = go (nat_lt k (16 * window)) refl where
-  go : (b : Bool) → nat_lt k (16 * window) ≡ b → get_or xs k 0 ≡ get_or ys k 0
-  go true t = below (both same next e).0 k (ltb-true k (16 * window) t)
-  go false t =
-      let past : 16 * window ≤ k = ltb-false k (16 * window) t in
-      let at : 16 * window + (k - 16 * window) ≡ k = omega (arith, past) in
-      subst (λ n. get_or xs n 0 ≡ get_or ys n 0) at (here (both same next e).1 (k - 16 * window) (omega (arith, past, within)))
+  rings_same : s ≡ t → ring_of n u.cwp current words ≡ ring_of n u.cwp current2 words2
+  rings_same same = sym ring_is ∙ ap (λ (x : Registers). x.ring) (us ∙ same ∙ sym vt) ∙ ring2_is ∙ ap (λ w. ring_of n w current2 words2) (sym same_cwp)
 
--- one of them is another one
-pub window_unlike : (xs ys : List ℕ) (same next : Bool) → (same ≡ false → xs ≢ ys) → (next ≡ false → xs ≢ ys) → (same && next) ≡ false → xs ≢ ys
-window_unlike xs ys same next below here e = go (either same next e) where
-  go : (same ≡ false) ⊎ (next ≡ false) → xs ≢ ys
-  go (inl f) = below f
-  go (inr f) = here f
+  pub decided_by_rest : (b : Bool) → MatchBool b (words ≡ words2) (words ≢ words2) → current ≡ current2 → length words ≡ 16 * n → length words2 ≡ 16 * n
+      → IsVacant n u.cwp words → IsVacant n v.cwp words2 → MatchBool b (s ≡ t) (s ≢ t)
+  decided_by_rest true rests currents size size2 vacant vacant2 = alike currents rests
+  decided_by_rest false differ currents size size2 vacant vacant2 = λ same.
+      differ (same_rest n u.cwp two w_in current current2 words words2 (rings_same same) size size2 vacant (subst (λ w. IsVacant n w words2) (sym same_cwp) vacant2))
 
--- all are looked at
-pub all_alike : (xs ys : List ℕ) (size : ℕ) (same : Bool) → length xs ≡ size → length ys ≡ size
-    → (same ≡ true → (k : ℕ) → k < size → get_or xs k 0 ≡ get_or ys k 0) → (same ≡ false → xs ≢ ys) → MatchBool same (xs ≡ ys) (xs ≢ ys)
-all_alike xs ys size true one other alike unlike = same_number_lists xs ys (one ∙ sym other) (λ k below. alike refl k (omega (arith, below, one)))
-all_alike xs ys size false one other alike unlike = unlike refl
+  pub unlike_current : (b : Bool) → b ≡ false → MatchBool b (current ≡ current2) (current ≢ current2) → length current ≡ 32 → length current2 ≡ 32 → MatchBool b (s ≡ t) (s ≢ t)
+  unlike_current true b_is same size size2 = cc
+  unlike_current false b_is differ size size2 = λ same.
+      let globals = sym globals_are ∙ ap (λ (x : Registers). x.globals) (us ∙ same ∙ sym vt) ∙ globals2_are in
+      differ (same_current n u.cwp two w_in current current2 words words2 (rings_same same) size size2 globals)
+
+-- rows that differ have other words
+pub row_unlike : (n w : ℕ) (one other : List (List ℕ)) → w < n → length (get_or one w []) ≡ 16 → length (get_or other w []) ≡ 16
+    → get_or one w [] ≢ get_or other w [] → flat n one ≢ flat n other
+row_unlike n w one other w_in len other_len differ same =
+    differ (same_number_lists _ _ (len ∙ sym other_len) (λ k below.
+    sym (get_or-flat_at n one w k (16 * w + k) w_in (omega (arith, below, len)) refl)
+    ∙ ap (λ xs. get_or xs (16 * w + k) 0) same
+    ∙ get_or-flat_at n other w k (16 * w + k) w_in (omega (arith, below, len)) refl))

@@ -1,2 +1,3 @@
 pub mod Control
+pub mod Current
 pub mod Ring

@@ -4,6 +4,7 @@
 
 mod laws;
 mod pil;
+mod words;
 
 ghost use Rattle.std.specs.Prelude.{◌≡◌, ◌≢◌, ◌<◌, ◌≤◌, ◌^◌, MatchBool};
 ghost use Rattle.sv8_model.specs.Words.{bit, digit};
@@ -15,6 +16,7 @@ pub use laws::{
 };
 pub use pil::Pil;
 use std::marker::Model;
+use words::{change_window, same_rows, same_words};
 
 /// The fields of the Processor State Register, but for the current window. Section 4.2.
 ///
@@ -58,7 +60,10 @@ pub struct ConditionCodes {
 /// current window. The ins of a window are the outs of the window above it.
 #[derive(Drop)]
 pub struct Regs<const NW: usize> {
-    globals: [u32; 8],
+    // The registers of the current window, as they are numbered. That of register 0 is 0.
+    current: [u32; 32],
+    // The outs and locals of each window, but zeros in the places of the current window.
+    // With the zeros, registers that are the same have the same rows.
     rows: [[u32; 16]; NW],
     window: usize,
     psr: Psr,
@@ -68,14 +73,15 @@ pub struct Regs<const NW: usize> {
 }
 
 impl<const NW: usize> Model for Regs<NW> {
-    ghost use Rattle.std.specs.Prelude.{◌≡◌, ◌<◌, ◌≤◌, ◌^◌, ◌%◌, length};
+    ghost use Rattle.std.specs.Prelude.{◌≡◌, ◌<◌, ◌≤◌, ◌^◌, ◌%◌, length, slice_index, take};
+    ghost use Rattle.sv8_regs.specs.Current.{ring_of, IsVacant};
     ghost use Rattle.sv8_regs.specs.Ring.{Registers, flat};
 
     ghost Value = { Registers };
 
     ghost view = { λ r. record {
-      globals = r.globals;
-      ring = flat NW r.rows;
+      globals = take 8 r.current;
+      ring = ring_of NW r.window r.current (flat NW r.rows);
       cwp = r.window;
       psr = r.psr;
       wim = r.wim;
@@ -83,11 +89,12 @@ impl<const NW: usize> Model for Regs<NW> {
       y = r.y;
     } };
 
-    ghost invariant = { λ r. (r.window < NW) × (2 ≤ NW) × (NW ≤ 32) × (r.wim < 2 ^ NW) × (r.tbr % 2 ^ 4 ≡ 0) × (length r.globals ≡ 8) };
+    ghost invariant = { λ r. (r.window < NW) × (2 ≤ NW) × (NW ≤ 32) × (r.wim < 2 ^ NW) × (r.tbr % 2 ^ 4 ≡ 0)
+        × (length r.current ≡ 32) × (slice_index r.current 0 ≡ 0) × IsVacant NW r.window (flat NW r.rows) };
 }
 
 impl<const NW: usize> Regs<NW> {
-    ghost use Rattle.std.specs.Prelude.{◌≡◌, ◌≢◌, ◌<◌, ◌≤◌, ◌^◌, ◌%◌, ◌*◌, ◌+◌, ℕ, true, false, MatchBool, length, slice_index, get_or};
+    ghost use Rattle.std.specs.Prelude.{◌≡◌, ◌≢◌, ◌<◌, ◌≤◌, ◌^◌, ◌%◌, MatchBool};
     ghost use Rattle.sv8_regs.specs.Ring.{read, write, reset};
     ghost use Rattle.sv8_model.specs.Words.{bit};
     ghost use Rattle.sv8_regs.specs.Control.{packed_psr, unpacked_psr, window_field, kept_mask, with_base, with_trap_type, below, above, condition_codes, with_condition_codes};
@@ -100,7 +107,7 @@ impl<const NW: usize> Regs<NW> {
         ensures { result ≡ reset NW }
     {
         Regs {
-            globals: [0; 8],
+            current: [0; 32],
             rows: [[0; 16]; NW],
             window: 0,
             psr: Psr {
@@ -124,7 +131,7 @@ impl<const NW: usize> Regs<NW> {
         ensures { result ≡ self.now }
     {
         Regs {
-            globals: self.globals,
+            current: self.current,
             rows: self.rows,
             window: self.window,
             psr: self.psr,
@@ -142,11 +149,11 @@ impl<const NW: usize> Regs<NW> {
         self.has_same_fields(other) && self.has_same_windows(other)
     }
 
-    /// Whether all but the registers of the windows is the same.
+    /// Whether the control and status registers are the same, with the current window.
     fn has_same_fields(&self, other: &Regs<NW>) -> bool
-        ensures { MatchBool result (self.now ≡ record other.now { ring = self.now.ring }) (self.now ≢ record other.now { ring = self.now.ring }) }
+        ensures { MatchBool result (self.now ≡ record other.now { globals = self.now.globals; ring = self.now.ring }) (self.now ≢ record other.now { globals = self.now.globals; ring = self.now.ring }) }
     {
-        if self.globals != other.globals || self.psr != other.psr {
+        if self.psr != other.psr {
             return false;
         }
         if self.window != other.window || self.wim != other.wim {
@@ -155,51 +162,11 @@ impl<const NW: usize> Regs<NW> {
         self.tbr == other.tbr && self.y == other.y
     }
 
-    /// Whether the registers of all windows are the same. All are looked at, so that the machine that it runs on compares
-    /// several at a time.
+    /// Whether the globals and the registers of all windows are the same, where all else is.
     fn has_same_windows(&self, other: &Regs<NW>) -> bool
-        ensures { MatchBool result (self.now.ring ≡ other.now.ring) (self.now.ring ≢ other.now.ring) }
+        ensures { self.now ≡ record other.now { globals = self.now.globals; ring = self.now.ring } → MatchBool result (self.now ≡ other.now) (self.now ≢ other.now) }
     {
-        let _whole = self.ring_len();
-        let _as_many = other.ring_len();
-        let mut same = true;
-        for window in 0..NW {
-            same &= self.has_same_window(other, window);
-        }
-        same
-    }
-
-    /// Whether the outs and the locals of a window are the same.
-    #[inline(always)]
-    fn has_same_window(&self, other: &Regs<NW>, window: usize) -> bool
-        requires { window < NW }
-        ensures alike { result ≡ true → (k : ℕ) → k < 16 → get_or self.now.ring (16 * window + k) 0 ≡ get_or other.now.ring (16 * window + k) 0 }
-        ensures unlike { result ≡ false → self.now.ring ≢ other.now.ring }
-    {
-        let mut same = true;
-        for column in 0..16 {
-            let place = 16 * window + column;
-            same &= self.word(place) == other.word(place);
-        }
-        same
-    }
-
-    /// How many words the ring has.
-    fn ring_len(&self) -> usize
-        ensures value { result ≡ 16 * NW }
-        ensures whole { length self.now.ring ≡ 16 * NW }
-    {
-        let _window = self.window;
-        16 * NW
-    }
-
-    /// The word at a place of the ring.
-    #[inline(always)]
-    fn word(&self, place: usize) -> u32
-        requires { place < 16 * NW }
-        ensures { result ≡ slice_index self.now.ring place }
-    {
-        self.rows[place / 16][place % 16]
+        same_words(&self.current, &other.current) && same_rows(&self.rows, &other.rows)
     }
 
     /// Register `r` of the current window. Section 4.1.
@@ -208,16 +175,7 @@ impl<const NW: usize> Regs<NW> {
         requires { r < 32 }
         ensures { result ≡ read NW self.now r }
     {
-        let i = r as usize;
-        if i < 8 {
-            if i == 0 { 0 } else { self.globals[i] }
-        } else if i < 24 {
-            self.rows[self.window][i - 8]
-        } else if self.window + 1 == NW {
-            self.rows[0][i - 24]
-        } else {
-            self.rows[self.window + 1][i - 24]
-        }
+        self.current[r as usize]
     }
 
     /// Writes register `r` of the current window. Section 4.1. A write of register 0 changes nothing.
@@ -226,20 +184,8 @@ impl<const NW: usize> Regs<NW> {
         requires { r < 32 }
         ensures { self.new ≡ write NW self.old r value }
     {
-        let i = r as usize;
-        if i < 8 {
-            if i != 0 {
-                self.globals[i] = value;
-            }
-        } else if i < 24 {
-            let row = &mut self.rows[self.window];
-            row[i - 8] = value;
-        } else if self.window + 1 == NW {
-            let row = &mut self.rows[0];
-            row[i - 24] = value;
-        } else {
-            let row = &mut self.rows[self.window + 1];
-            row[i - 24] = value;
+        if r != 0 {
+            self.current[r as usize] = value;
         }
     }
 
@@ -253,11 +199,17 @@ impl<const NW: usize> Regs<NW> {
     }
 
     /// Makes `window` the current window. Section 4.2.
-    #[inline(always)]
+    #[inline]
     pub fn set_cwp(&mut self, window: u32)
         requires { window < NW }
         ensures { self.new ≡ record self.old { cwp = window } }
     {
+        change_window(
+            &mut self.rows,
+            &mut self.current,
+            self.window,
+            window as usize,
+        );
         self.window = window as usize;
     }
 
@@ -352,8 +304,8 @@ impl<const NW: usize> Regs<NW> {
         requires window { window_field word < NW }
         ensures { self.new ≡ record self.old { psr = unpacked_psr word; cwp = window_field word } }
     {
+        self.set_cwp(word % 32);
         self.psr = unpacked(word);
-        self.window = (word % 32) as usize;
     }
 
     /// The Window Invalid Mask: bit w is set where window w is invalid. Section 4.2.

@@ -6,7 +6,7 @@ use Rattle.std.proofs.lemmas.Bool.{cases_lt}
 use Rattle.sv8_trace.specs.Steps.{IsFirstBelow}
 use Rattle.sv8_trace.proofs.Gaining.{any_one}
 
-or_false : (a b : Bool) → a ≡ false → b ≡ false → (a || b) ≡ false
+pub or_false : (a b : Bool) → a ≡ false → b ≡ false → (a || b) ≡ false
 or_false a b p q = rw (p, q)
 
 or_left : (a b : Bool) → a ≡ true → (a || b) ≡ true

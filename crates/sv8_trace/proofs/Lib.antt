@@ -1,7 +1,9 @@
 pub mod KeptLists
 pub mod Touching
 pub mod Gaining
+pub mod Told
 pub mod Firsts
+pub mod RunsOfWords
 pub mod Nearness
 pub mod RunLists
 pub mod Placed

@@ -8,6 +8,7 @@ pub mod Recorder
 pub mod Recording
 pub mod Drafts
 pub mod Marks
+pub mod WordRuns
 pub mod Touching
 pub mod Showing
 pub mod Patch

@@ -9,7 +9,7 @@ use Rattle.sv8_model.specs.Footprint.{reads_input}
 use Rattle.sv8_model.specs.Cells.{Cell, ram_byte, waiting_bytes, pending_level, is_read}
 use Rattle.sv8_history.specs.Machine.{Footprint}
 use Rattle.sv8_trace.specs.declared.notes.WordNote.{WordNote}
-use Rattle.sv8_trace.specs.declared.notes.LevelRun.{LevelRun}
+use Rattle.sv8_trace.specs.declared.level_run.LevelRun.{LevelRun}
 use Rattle.sv8_trace.specs.Touched.{is_told_written}
 
 pub record Steps : Type 0 where

@@ -1,18 +1,23 @@
 //! The notes of the steps from a checkpoint to the next one.
 
-ghost use Rattle.std.specs.Prelude.{◌≡◌, ℕ, ◌+◌, ◌<◌, ◌≤◌, ◌==◌, ◌&&◌, ◌||◌, ◌++◌, ◌∷◌, [], Bool, not, false, leb, IfOk, OnOk};
+ghost use Rattle.std.specs.Prelude.{◌≡◌, ℕ, ◌+◌, ◌<◌, ◌≤◌, ◌==◌, ◌&&◌, ◌||◌, ◌++◌, ◌∷◌, [], Bool, true, false, IfOk, OnOk, MatchBool};
 ghost use Rattle.std.specs.List.{list_any};
 ghost use Rattle.sv8_model.specs.Words.{bit};
-ghost use Rattle.sv8_model.specs.Cells as model;
 ghost use Rattle.sv8_trace.specs.Cells.{cell_of};
 ghost use Rattle.sv8_trace.specs.Marks.{mark_of, IsUntouched};
 ghost use Rattle.sv8_trace.specs.Steps.{Gains, IsFirstBelow, footprint_in, is_among, is_asked_in, is_word_of, has_word, no_steps};
 ghost use Rattle.sv8_trace.specs.Sought.{is_met, sought_word};
 ghost use Rattle.sv8_trace.specs.Touching.{is_from_to, is_note_in, are_notes_in, touches_any};
+ghost use Rattle.sv8_trace.specs.WordRuns.{words_of};
+ghost use Rattle.sv8_phys.specs.Notes.{told};
 
 use crate::cell::Cell;
+use crate::level_run::LevelRun;
+use crate::mark_words::{mark_all, mark_runs};
 use crate::marks::Marks;
-use crate::step_notes::{TIMER_LEVEL, asks};
+use crate::offsets::{first_among, lesser, within};
+use crate::step_notes::TIMER_LEVEL;
+use crate::word_run::WordRun;
 use std::alloc::{AllocError, Global};
 use std::marker::Model;
 use sv8_phys::Touch;
@@ -22,14 +27,6 @@ use sv8_phys::Touch;
 pub(crate) struct WordNote {
     pub address: u32,
     pub offset: u32,
-}
-
-/// Steps one after the other that ask the same interrupt levels, bit l for level l.
-#[derive(Clone, Copy)]
-pub(crate) struct LevelRun {
-    pub first: u32,
-    pub end: u32,
-    pub levels: u16,
 }
 
 /// What is looked for in the steps.
@@ -60,6 +57,9 @@ impl Sought {
 /// What each of the steps from a checkpoint to the next one touches.
 #[derive(Drop)]
 pub(crate) struct Notes {
+    /// The words that are read as the first of their step, but for the rarer steps: instructions that are fetched.
+    fetches: Vec<WordRun>,
+    /// All other words that are read.
     reads: Vec<WordNote>,
     writes: Vec<WordNote>,
     levels: Vec<LevelRun>,
@@ -68,44 +68,13 @@ pub(crate) struct Notes {
 }
 
 impl Model for Notes {
+    ghost use Rattle.std.specs.Prelude.{◌++◌};
     ghost use Rattle.sv8_trace.specs.Steps.{Steps};
+    ghost use Rattle.sv8_trace.specs.WordRuns.{words_of};
 
     ghost Value = { Steps };
 
-    ghost view = { λ n. record { reads = n.reads.items; writes = n.writes.items; levels = n.levels.items; inputs = n.inputs.items; expiries = n.expiries.items } };
-}
-
-/// The lesser of two offsets, where there are any.
-fn lesser(found: Option<u32>, other: Option<u32>) -> Option<u32>
-    ensures { (f g : ℕ → Bool) (from end : ℕ) → IsFirstBelow f from end found → IsFirstBelow g from end other → IsFirstBelow (λ n. f n || g n) from end result }
-{
-    match (found, other) {
-        (Some(one), Some(other)) => Some(one.min(other)),
-        (Some(one), None) => Some(one),
-        (None, other) => other,
-    }
-}
-
-/// An offset, if it is not below one and is below another.
-fn within(offset: u32, from: u32, end: u32) -> Option<u32>
-    ensures { IsFirstBelow (λ n. offset == n) from end result }
-{
-    if from <= offset && offset < end {
-        Some(offset)
-    } else {
-        None
-    }
-}
-
-/// The least of some offsets that is not below one and is below another.
-fn first_among(offsets: &[u32], from: u32, end: u32) -> Option<u32>
-    ensures { IsFirstBelow (λ n. is_among n offsets.now) from end result }
-{
-    let mut found = None;
-    for offset in offsets {
-        found = lesser(found, within(*offset, from, end));
-    }
-    found
+    ghost view = { λ n. record { reads = words_of n.fetches.items ++ n.reads.items; writes = n.writes.items; levels = n.levels.items; inputs = n.inputs.items; expiries = n.expiries.items } };
 }
 
 impl WordNote {
@@ -132,6 +101,17 @@ fn first_of_word(notes: &[WordNote], address: u32, from: u32, end: u32) -> Optio
     found
 }
 
+/// The first step from one offset on and below another that reads a word of some runs.
+fn first_of_runs(runs: &[WordRun], address: u32, from: u32, end: u32) -> Option<u32>
+    ensures { IsFirstBelow (has_word (words_of runs.now) address) from end result }
+{
+    let mut found = None;
+    for run in runs {
+        found = lesser(found, run.first_of(address, from, end));
+    }
+    found
+}
+
 /// Whether a number is one of those from one to another.
 fn is_from_to(low: u32, last: u32, number: u32) -> bool
     ensures { result ≡ is_from_to low last number }
@@ -141,7 +121,7 @@ fn is_from_to(low: u32, last: u32, number: u32) -> bool
 
 impl WordNote {
     /// Whether it is of a word whose address is from one to another, at a step from one offset on and below another.
-    fn is_in(&self, low: u32, last: u32, from: u32, end: u32) -> bool
+    pub(crate) fn is_in(&self, low: u32, last: u32, from: u32, end: u32) -> bool
         ensures { result ≡ is_note_in low last from end self.now }
     {
         (self.address % 4 == 0 && is_from_to(low, last, self.address))
@@ -163,6 +143,20 @@ fn are_in(notes: &[WordNote], low: u32, last: u32, from: u32, end: u32) -> bool
     false
 }
 
+/// Whether one of the notes of some runs is.
+fn are_in_runs(runs: &[WordRun], low: u32, last: u32, from: u32, end: u32) -> bool
+    ensures { result ≡ are_notes_in low last from end (words_of runs.now) }
+{
+    let mut rest = runs;
+    while let [run, after @ ..] = rest {
+        if run.is_any_in(low, last, from, end) {
+            return true;
+        }
+        rest = after;
+    }
+    false
+}
+
 /// Takes a note of a word.
 #[inline(always)]
 fn note_word(notes: &mut Vec<WordNote>, address: u32, offset: u32) -> Result<(), AllocError>
@@ -173,41 +167,17 @@ fn note_word(notes: &mut Vec<WordNote>, address: u32, offset: u32) -> Result<(),
     Ok(())
 }
 
-/// Marks the words of notes with a number, unless their marks are greater.
-fn mark_all(
-    alloc: Global,
-    marks: &mut Marks,
-    notes: &[WordNote],
-    mark: u32,
-) -> Result<(), AllocError>
-    ensures grows { (a : ℕ) → mark_of marks.old a ≤ mark_of marks.new a }
-    ensures marked { OnOk result ((a : ℕ) → mark_of marks.new a < mark → (j : ℕ) → has_word notes.now a j ≡ false) }
+/// Takes a word more into the last run, if it is the next one. Tells whether it was taken.
+#[inline(always)]
+fn extend_last(runs: &mut Vec<WordRun>, address: u32, offset: u32) -> bool
+    requires { offset < 1000000 }
+    ensures { MatchBool result (words_of runs.new.items ≡ words_of runs.old.items ++ record { address = address; offset = offset } ∷ []) (runs.new.items ≡ runs.old.items) }
 {
-    for note in notes {
-        marks.raise(alloc, note.address, mark)?;
+    let count = runs.len();
+    if count == 0 {
+        return false;
     }
-    Ok(())
-}
-
-impl LevelRun {
-    /// Whether a step that asks levels is the next one of the run.
-    fn goes_on(&self, levels: u16, offset: u32) -> bool
-        ensures { result ≡ (self.now.end == offset && self.now.levels == levels && leb self.now.first offset) }
-    {
-        self.end == offset && self.levels == levels && self.first <= offset
-    }
-
-    /// The first step of the run from one step on and below another, if it asks a level.
-    fn first_asking(&self, level: u32, from: u32, end: u32) -> Option<u32>
-        ensures { IsFirstBelow (λ n. is_asked_in level n self.now) from end result }
-    {
-        let first = self.first.max(from);
-        if asks(self.levels, level) && first < self.end && first < end {
-            Some(first)
-        } else {
-            None
-        }
-    }
+    runs[count - 1].extend(address, offset)
 }
 
 impl Notes {
@@ -216,6 +186,7 @@ impl Notes {
         ensures { result ≡ no_steps }
     {
         Notes {
+            fetches: Vec::new(alloc),
             reads: Vec::new(alloc),
             writes: Vec::new(alloc),
             levels: Vec::new(alloc),
@@ -228,6 +199,7 @@ impl Notes {
     pub(crate) fn clear(&mut self)
         ensures { self.new ≡ no_steps }
     {
+        self.fetches.clear();
         self.reads.clear();
         self.writes.clear();
         self.levels.clear();
@@ -244,6 +216,7 @@ impl Notes {
         ensures { IfOk result (λ n. n ≡ self.now) }
     {
         Ok(Notes {
+            fetches: self.fetches.clone()?,
             reads: self.reads.clone()?,
             writes: self.writes.clone()?,
             levels: self.levels.clone()?,
@@ -253,33 +226,22 @@ impl Notes {
     }
 
     /// Levels are asked: the last run goes on, or another begins.
+    #[inline(always)]
     fn note_levels(&mut self, levels: u16, offset: u32) -> Result<(), AllocError>
         requires { offset < 1000000 }
         ensures asked { OnOk result ((l j : ℕ) → list_any (is_asked_in l j) self.new.levels ≡ (list_any (is_asked_in l j) self.old.levels || (j == offset && bit levels l))) }
         ensures others { OnOk result (self.new ≡ record self.old { levels = self.new.levels }) }
     {
-        let end = offset + 1;
-        let run = match self.levels.pop() {
-            Some(last) if last.goes_on(levels, offset) => LevelRun {
-                first: last.first,
-                end,
-                levels,
-            },
-            Some(last) => {
-                self.levels.push(last)?;
-                LevelRun {
-                    first: offset,
-                    end,
-                    levels,
-                }
-            }
-            None => LevelRun {
-                first: offset,
-                end,
-                levels,
-            },
-        };
-        self.levels.push(run)?;
+        let count = self.levels.len();
+        if count > 0 && self.levels[count - 1].extend(levels, offset) {
+            return Ok(());
+        }
+        self.levels.reserve(1)?;
+        self.levels.push_reserved(LevelRun {
+            first: offset,
+            end: offset + 1,
+            levels,
+        });
         Ok(())
     }
 
@@ -299,11 +261,117 @@ impl Notes {
         Ok(())
     }
 
+    /// Takes a note of the first word that a step reads.
+    #[inline(always)]
+    fn note_fetch(&mut self, address: u32, offset: u32) -> Result<(), AllocError>
+        requires { offset < 1000000 }
+        ensures { OnOk result (Gains offset (Touch.Read address ∷ []) self.old self.new) }
+    {
+        if extend_last(&mut self.fetches, address, offset) {
+            return Ok(());
+        }
+        self.fetches.reserve(1)?;
+        self.fetches.push_reserved(WordRun::new(address, offset));
+        Ok(())
+    }
+
+    /// Takes a note of the only touch of a step, if it reads a word. Tells whether it does; else no note is taken.
+    #[inline(always)]
+    fn note_one(&mut self, touch: Touch, offset: u32) -> Result<bool, AllocError>
+        requires { offset < 1000000 }
+        ensures { IfOk result (λ done. MatchBool done (Gains offset (told (touch ∷ [])) self.old self.new) (self.new ≡ self.old)) }
+    {
+        match touch {
+            Touch::Read(fetched) => {
+                self.note_fetch(fetched, offset)?;
+                Ok(true)
+            }
+            _ => Ok(false),
+        }
+    }
+
+    /// The same of a step that touches twice: it reads a word, and reads a word or writes another one.
+    #[inline(always)]
+    fn note_two(&mut self, first: Touch, second: Touch, offset: u32) -> Result<bool, AllocError>
+        requires { offset < 1000000 }
+        ensures { IfOk result (λ done. MatchBool done (Gains offset (told (first ∷ second ∷ [])) self.old self.new) (self.new ≡ self.old)) }
+    {
+        match (first, second) {
+            (Touch::Read(fetched), Touch::Read(_)) => {
+                self.note_fetch(fetched, offset)?;
+                self.note(second, offset)?;
+                Ok(true)
+            }
+            (Touch::Read(fetched), Touch::Write(written)) if fetched != written => {
+                self.note_fetch(fetched, offset)?;
+                self.note(second, offset)?;
+                Ok(true)
+            }
+            _ => Ok(false),
+        }
+    }
+
+    /// The same of one touch or two: an instruction that is fetched, and its data.
+    #[inline(always)]
+    fn note_words(&mut self, touches: &[Touch], offset: u32) -> Result<bool, AllocError>
+        requires { offset < 1000000 }
+        ensures { IfOk result (λ done. MatchBool done (Gains offset (told touches.now) self.old self.new) (self.new ≡ self.old)) }
+    {
+        match touches {
+            [touch] => self.note_one(*touch, offset),
+            [first, second] => self.note_two(*first, *second, offset),
+            _ => Ok(false),
+        }
+    }
+
+    /// The same of a step that asks interrupt levels first.
+    #[inline(always)]
+    fn note_asking(
+        &mut self,
+        levels: u16,
+        touches: &[Touch],
+        offset: u32,
+    ) -> Result<bool, AllocError>
+        requires { offset < 1000000 }
+        ensures { IfOk result (λ done. MatchBool done (Gains offset (told (Touch.Levels levels ∷ touches.now)) self.old self.new) (self.new ≡ self.old)) }
+    {
+        if !self.note_words(touches, offset)? {
+            return Ok(false);
+        }
+        self.note_levels(levels, offset)?;
+        Ok(true)
+    }
+
+    /// Takes notes of a step, if it is one of the frequent ones: it fetches a word, may read or write one more, and may ask
+    /// interrupt levels before. Tells whether it is such a step; of another no note is taken.
+    ///
+    /// # Errors
+    ///
+    /// `AllocError` where memory for them cannot be had; some are then taken.
+    #[inline(always)]
+    pub(crate) fn note_frequent(
+        &mut self,
+        touches: &[Touch],
+        offset: u32,
+    ) -> Result<bool, AllocError>
+        requires { offset < 1000000 }
+        ensures { IfOk result (λ done. MatchBool done (Gains offset (told touches.now) self.old self.new) (self.new ≡ self.old)) }
+    {
+        match touches {
+            [] => Ok(false),
+            [first, rest @ ..] => match *first {
+                Touch::Levels(levels) => self.note_asking(levels, rest, offset),
+                _ => self.note_words(touches, offset),
+            },
+        }
+    }
+
     /// Takes notes of what a step touches.
     ///
     /// # Errors
     ///
     /// `AllocError` where memory for them cannot be had; some are then taken.
+    #[inline(never)]
     pub(crate) fn note_step(&mut self, touches: &[Touch], offset: u32) -> Result<(), AllocError>
         requires { offset < 1000000 }
         ensures { OnOk result (Gains offset touches.now self.old self.new) }
@@ -328,6 +396,7 @@ impl Notes {
         ensures grows { (a : ℕ) → mark_of marks.old a ≤ mark_of marks.new a }
         ensures marked { OnOk result ((a : ℕ) → mark_of marks.new a < mark → IsUntouched self.now a) }
     {
+        mark_runs(alloc, marks, &self.fetches, mark)?;
         mark_all(alloc, marks, &self.reads, mark)?;
         mark_all(alloc, marks, &self.writes, mark)?;
         Ok(())
@@ -344,12 +413,22 @@ impl Notes {
         found
     }
 
+    /// The first step from one offset on and below another that reads a word.
+    fn first_word_read(&self, address: u32, from: u32, end: u32) -> Option<u32>
+        ensures { IsFirstBelow (has_word self.now.reads address) from end result }
+    {
+        lesser(
+            first_of_runs(&self.fetches, address, from, end),
+            first_of_word(&self.reads, address, from, end),
+        )
+    }
+
     /// The first step that reads a cell.
     fn first_read(&self, cell: Cell, from: u32, end: u32) -> Option<u32>
         ensures { IsFirstBelow (λ n. (footprint_in self.now n).reads (cell_of cell)) from end result }
     {
         match cell {
-            Cell::Byte(address) => first_of_word(&self.reads, 4 * (address / 4), from, end),
+            Cell::Byte(address) => self.first_word_read(4 * (address / 4), from, end),
             Cell::Level(level) => self.first_asking(level, from, end),
         }
     }
@@ -383,6 +462,8 @@ impl Notes {
     pub(crate) fn touches_any(&self, low: u32, last: u32, from: u32, end: u32) -> bool
         ensures { result ≡ touches_any low last from end self.now }
     {
-        are_in(&self.reads, low, last, from, end) || are_in(&self.writes, low, last, from, end)
+        are_in_runs(&self.fetches, low, last, from, end)
+            || are_in(&self.reads, low, last, from, end)
+            || are_in(&self.writes, low, last, from, end)
     }
 }

@@ -22,7 +22,7 @@ use crate::kept::KeptList;
 use crate::step_notes::StepNotes;
 use std::alloc::AllocError;
 use sv8_cpu::{Machine, Work};
-use sv8_phys::Watch;
+use sv8_phys::{StepTouches, Touch, Watch, tell_all};
 use sv8_time::{Request, Timeline, WordPoke};
 
 /// Keeps what stands in a byte, if it is about to be poked.
@@ -153,14 +153,38 @@ fn keep_below<const NW: usize, const PAGES: usize>(
     Ok(())
 }
 
-/// Makes step n and records it, as the step with this offset in its interval. `touches` is a place for what it touches.
+/// Takes the notes of a step, the one with this offset, into those of its interval, and lets go what is kept of cells that
+/// it touches. `room` is a place for the notes of a step that are told otherwise than they came.
+#[inline(always)]
+fn record_notes(
+    interval: &mut Interval,
+    touches: &[Touch],
+    room: &mut StepTouches,
+    offset: u32,
+) -> Result<(), AllocError>
+    requires { offset < 1000000 }
+    ensures gained { OnOk result (Gains offset (told touches.now) interval.old.notes interval.new.notes) }
+    ensures kept { OnOk result ((j : ℕ) (c : model.Cell) → kept_in j c interval.new.kept ≡ cond (is_touched (told touches.now) c) None (kept_in j c interval.old.kept)) }
+    ensures signs { interval.new.signs ≡ interval.old.signs }
+{
+    interval.kept.forget(touches);
+    if interval.notes.note_frequent(touches, offset)? {
+        return Ok(());
+    }
+    room.clear();
+    tell_all(touches, room)?;
+    interval.notes.note_step(room.touches(), offset)?;
+    Ok(())
+}
+
+/// Makes step n and records it, as the step with this offset in its interval. `notes` is a place for what it touches.
 #[inline(always)]
 fn record_step<const NW: usize, const PAGES: usize>(
     machine: &mut Machine<NW, PAGES>,
     timeline: &Timeline,
     n: u32,
     offset: u32,
-    touches: &mut StepNotes,
+    notes: &mut StepNotes,
     interval: &mut Interval,
     work: &mut Work,
 ) -> Result<(), AllocError>
@@ -180,14 +204,13 @@ fn record_step<const NW: usize, const PAGES: usize>(
     ensures counted { OnOk result (work.new ≡ counted work.old) }
     ensures uncounted { OnErr result (work.new ≡ work.old ⊎ work.new ≡ counted work.old) }
 {
-    touches.clear();
+    notes.noted.clear();
     let ran = machine.is_running();
     interval.signs.note_before(machine);
     keep_below(&mut interval.kept, machine, timeline, n, offset)?;
-    machine.step_in_place(n, timeline, touches, work)?;
+    machine.watch(n, timeline, &mut notes.noted, work)?;
     interval.signs.note_after(ran, machine);
-    interval.notes.note_step(touches.touches(), offset)?;
-    interval.kept.forget(touches.touches());
+    record_notes(interval, notes.noted.touches(), &mut notes.told, offset)?;
     Ok(())
 }
 
@@ -197,7 +220,7 @@ pub(crate) fn record_watched<const NW: usize, const PAGES: usize>(
     timeline: &Timeline,
     n: u32,
     offset: u32,
-    touches: &mut StepNotes,
+    notes: &mut StepNotes,
     interval: &mut Interval,
     watch: &mut Watch,
     work: &mut Work,
@@ -219,20 +242,17 @@ pub(crate) fn record_watched<const NW: usize, const PAGES: usize>(
     ensures counted { OnOk result (work.new ≡ counted work.old) }
     ensures uncounted { OnErr result (work.new ≡ work.old ⊎ work.new ≡ counted work.old) }
 {
-    touches.clear();
     watch.clear();
     let ran = machine.is_running();
     interval.signs.note_before(machine);
     keep_below(&mut interval.kept, machine, timeline, n, offset)?;
     machine.watch(n, timeline, watch, work)?;
     interval.signs.note_after(ran, machine);
-    watch.tell(touches)?;
-    interval.notes.note_step(touches.touches(), offset)?;
-    interval.kept.forget(touches.touches());
+    record_notes(interval, watch.touches(), &mut notes.told, offset)?;
     Ok(())
 }
 
-/// Makes so many steps from the machine of step n on, and records them. `touches` and `draft` are places for what is gathered
+/// Makes so many steps from the machine of step n on, and records them. `notes` and `draft` are places for what is gathered
 /// meanwhile, whose memory the next call uses again.
 ///
 /// # Errors
@@ -244,7 +264,7 @@ pub(crate) fn record<const NW: usize, const PAGES: usize>(
     timeline: &Timeline,
     n: u32,
     count: u32,
-    touches: &mut StepNotes,
+    notes: &mut StepNotes,
     draft: &mut Interval,
     work: &mut Work,
 ) -> Result<(Machine<NW, PAGES>, Interval), AllocError>
@@ -267,7 +287,7 @@ pub(crate) fn record<const NW: usize, const PAGES: usize>(
             timeline,
             n + offset,
             offset,
-            touches,
+            notes,
             draft,
             work,
         )?;

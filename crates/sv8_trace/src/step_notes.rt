@@ -1,80 +1,31 @@
 //! The notes of one step.
 
-ghost use Rattle.std.specs.Prelude.{◌≡◌, [], OnOk, IfOk};
+ghost use Rattle.std.specs.Prelude.{◌≡◌};
 ghost use Rattle.sv8_model.specs.Words.{bit};
 ghost use Rattle.sv8_trace.specs.Touched.{is_touched, is_touched_by};
 ghost use Rattle.sv8_trace.specs.Cells.{cell_of};
 
 use crate::cell::Cell;
-use std::alloc::{AllocError, Global};
-use std::marker::Model;
-use sv8_phys::{Observation, Touch, Touches};
+use std::alloc::Global;
+use sv8_phys::{StepTouches, Touch};
 
 /// The interrupt level of the timer.
 pub(crate) const TIMER_LEVEL: u32 = 10;
 
-/// What a step touches, as it was told.
+/// A place for the notes of a step, as they come and as they are told, whose memory the next step uses again.
 #[derive(Drop)]
 pub(crate) struct StepNotes {
-    touches: Vec<Touch>,
-}
-
-impl Model for StepNotes {
-    ghost use Rattle.std.specs.Prelude.{List};
-    ghost use Rattle.sv8_model.specs.declared.touch.Touch.{Touch};
-
-    ghost Value = { List Touch };
-
-    ghost view = { λ n. n.touches.items };
-}
-
-impl Touches for StepNotes {
-    ghost use Rattle.std.specs.Prelude.{Bool, true, false};
-    ghost use Rattle.sv8_model.specs.Does.{touching};
-
-    const KEEPS: bool = true;
-
-    ghost KEEPS = { true };
-
-    ghost OBSERVES = { false };
-
-    ghost noted = { λ n. touching n };
-
-    #[inline(always)]
-    fn note(&mut self, touch: Touch) -> Result<(), AllocError> {
-        self.touches.reserve(1)?;
-        self.touches.push_reserved(touch);
-        Ok(())
-    }
-
-    #[inline(always)]
-    fn observe(&mut self, _observation: Observation) -> Result<(), AllocError> {
-        Ok(())
-    }
+    pub noted: StepTouches,
+    pub told: StepTouches,
 }
 
 impl StepNotes {
-    /// No notes.
-    pub(crate) fn new(alloc: Global) -> StepNotes
-        ensures { result ≡ [] }
-    {
+    /// With no notes. It takes no memory.
+    pub(crate) fn new(alloc: Global) -> StepNotes {
         StepNotes {
-            touches: Vec::new(alloc),
+            noted: StepTouches::new(alloc),
+            told: StepTouches::new(alloc),
         }
-    }
-
-    /// The notes, in order.
-    pub(crate) fn touches(&self) -> &[Touch]
-        ensures { result.now ≡ self.now }
-    {
-        &self.touches
-    }
-
-    /// Lets all notes go; the memory stays.
-    pub(crate) fn clear(&mut self)
-        ensures { self.new ≡ [] }
-    {
-        self.touches.clear();
     }
 }
 

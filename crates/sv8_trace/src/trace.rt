@@ -40,7 +40,7 @@ pub struct Trace<const NW: usize, const PAGES: usize, const K: u32> {
     intervals: Vec<Finished>,
     marks: Marks,
     /// Places for the notes of the step and of the interval under way.
-    touches: StepNotes,
+    notes: StepNotes,
     draft: Interval,
 }
 
@@ -79,7 +79,7 @@ impl<const NW: usize, const PAGES: usize, const K: u32> Trace<NW, PAGES, K> {
             points,
             intervals: Vec::new(alloc),
             marks: Marks::new(alloc),
-            touches: StepNotes::new(alloc),
+            notes: StepNotes::new(alloc),
             draft: Interval::new(alloc),
         })
     }
@@ -142,9 +142,9 @@ impl<const NW: usize, const PAGES: usize, const K: u32> Trace<NW, PAGES, K> {
         let count = self.intervals.len();
         let machine = self.points.snapshot(alloc, count)?;
         let n = K * count as u32;
-        let touches = &mut self.touches;
+        let notes = &mut self.notes;
         let draft = &mut self.draft;
-        let (machine, interval) = record(machine, timeline, n, K, touches, draft, work)?;
+        let (machine, interval) = record(machine, timeline, n, K, notes, draft, work)?;
         self.add(alloc, machine, interval)?;
         Ok(())
     }

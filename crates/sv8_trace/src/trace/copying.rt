@@ -32,7 +32,7 @@ impl<const NW: usize, const PAGES: usize, const K: u32> Trace<NW, PAGES, K> {
             points: self.points.copy(alloc)?,
             intervals: share_all(alloc, &self.intervals)?,
             marks: self.marks.copy(alloc)?,
-            touches: StepNotes::new(alloc),
+            notes: StepNotes::new(alloc),
             draft: Interval::new(alloc),
         })
     }

@@ -74,7 +74,7 @@ impl<const NW: usize, const PAGES: usize, const K: u32> Trace<NW, PAGES, K> {
             timeline,
             n,
             count,
-            &mut self.touches,
+            &mut self.notes,
             &mut draft.interval,
             watch,
             work,

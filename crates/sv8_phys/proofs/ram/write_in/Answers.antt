@@ -2,14 +2,15 @@ use Rattle.std.proofs.Common.{ℕ, List, [], ap, ◌∙◌, arith}
 use Rattle.std.proofs.lemmas.Result.{err_from_is_err_and}
 use Rattle.std.specs.declared.rc.Rc.{Rc}
 use Rattle.std.specs.declared.alloc.Global.{Global}
-use Rattle.sv8_phys.specs.declared.page.PageBytes.{PageBytes}
+use Rattle.sv8_phys.specs.declared.blocks.Blocks.{Blocks}
 use Rattle.sv8_phys.specs.Memory.{with_value}
+use Rattle.sv8_phys.specs.Parts.{page_bytes}
 use Rattle.sv8_phys.proofs.Handles.{changed, kept}
 use Rattle.sv8_phys.proofs.ram.write_in.Goals as goal
 
 -- the bytes behind a handle
-abbrev held : Rc PageBytes Global → List ℕ
-held h = h.value.bytes
+abbrev held : Rc Blocks Global → List ℕ
+held h = page_bytes h.value
 
 pub returns-then-write_unshared-clause-ok : goal.returns-then-write_unshared-clause-ok
 returns-then-write_unshared-clause-ok c =
@@ -21,10 +22,10 @@ pub returns-clause-ok : goal.returns-clause-ok
 returns-clause-ok c =
     let write = with_value c.args.size c.args.at c.args.value in
     changed held c.args.pages.now.items c.args.page c.index_mut-handle.result.now _ [] write (omega arith)
-    (c.in_ok-write_copying.ensures.ok ∙ ap (λ (v : PageBytes). write v.bytes) c.if-write_unshared.ensures ∙ ap (λ h. write (held h)) c.index_mut-handle.ensures.value)
+    (c.in_ok-write_copying.ensures.ok ∙ ap write c.if-write_unshared.ensures ∙ ap (λ h. write (held h)) c.index_mut-handle.ensures.value)
 
 pub returns-in_err-write_copying-clause-err : goal.returns-in_err-write_copying-clause-err
 returns-in_err-write_copying-clause-err c =
     let p = err_from_is_err_and c.from_residual.result c.from_residual.ensures.1 in
     rw p.1 (kept held c.args.pages.now.items c.args.page c.index_mut-handle.result.now _
-    (ap (λ (v : PageBytes). v.bytes) (c.in_err-write_copying.ensures.err ∙ c.if-write_unshared.ensures) ∙ ap held c.index_mut-handle.ensures.value))
+    (c.in_err-write_copying.ensures.err ∙ c.if-write_unshared.ensures ∙ ap held c.index_mut-handle.ensures.value))

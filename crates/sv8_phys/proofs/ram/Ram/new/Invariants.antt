@@ -1,5 +1,5 @@
 use Rattle.std.proofs.Common.{◌≡◌, replicate}
-use Rattle.sv8_phys.specs.Pages.{pages_of}
+use Rattle.sv8_phys.specs.Parts.{pages_of}
 use Rattle.sv8_phys.proofs.ram.Ram.new.Given as goal
 
 abbrev pub invariant-loop-place : goal.invariant-loop-place

@@ -1,0 +1,35 @@
+-- RAM in pages and pages in blocks: lists of bytes in parts of equal size, behind their handles.
+use Rattle.std.specs.Prelude.{ℕ, ◌+◌, ◌*◌, ◌/◌, ◌%◌, List, [], ◌++◌, map, take, drop, slice_index, slice_index_or}
+use Rattle.std.specs.List.{range_with_len}
+use Rattle.std.specs.declared.rc.Rc.{Rc}
+use Rattle.std.specs.declared.alloc.Global.{Global}
+use Rattle.sv8_phys.specs.declared.block.Block.{Block}
+use Rattle.sv8_phys.specs.declared.blocks.Blocks.{Blocks}
+
+-- part number p
+abbrev pub part_at : List (List ℕ) → ℕ → List ℕ
+part_at parts p = slice_index_or parts p []
+
+-- the bytes of so many parts of `size` bytes, in order
+unfoldable pub all_bytes : ℕ → ℕ → List (List ℕ) → List ℕ
+all_bytes size count parts = map (λ a. slice_index (part_at parts (a / size)) (a % size)) (range_with_len 0 (size * count))
+
+-- part number p of a list of bytes
+abbrev pub part_of : ℕ → List ℕ → ℕ → List ℕ
+part_of size bytes p = take size (drop (size * p) bytes)
+
+-- a list of bytes with other bytes in a part
+abbrev pub with_part : ℕ → List ℕ → ℕ → List ℕ → List ℕ
+with_part size bytes p part = take (size * p) bytes ++ part ++ drop (size * p + size) bytes
+
+-- the bytes of each block
+abbrev pub blocks_of : List (Rc Block Global) → List (List ℕ)
+blocks_of handles = map (λ h. h.value.bytes) handles
+
+-- the bytes of a page
+abbrev pub page_bytes : Blocks → List ℕ
+page_bytes page = all_bytes 256 16 (blocks_of page.blocks)
+
+-- the bytes of each page
+abbrev pub pages_of : List (Rc Blocks Global) → List (List ℕ)
+pages_of handles = map (λ h. page_bytes h.value) handles

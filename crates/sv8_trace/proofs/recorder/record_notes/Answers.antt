@@ -1,0 +1,18 @@
+use Rattle.std.proofs.Common.{ap, ◌∙◌, cond, None}
+use Rattle.sv8_trace.specs.Kept.{kept_in}
+use Rattle.sv8_trace.specs.Touched.{is_touched}
+use Rattle.sv8_trace.proofs.KeptLists.{kept_in-filter}
+use Rattle.sv8_trace.proofs.Told.{touches_told}
+use Rattle.sv8_trace.proofs.recorder.record_notes.Goals as goal
+
+pub returns-then-branch-clause-kept : goal.returns-then-branch-clause-kept
+returns-then-branch-clause-kept c = λ j cell.
+    ap (kept_in j cell) c.forget.ensures
+    ∙ kept_in-filter j cell (is_touched c.args.touches.now) c.args.interval.now.kept
+    ∙ ap (λ b. cond b None (kept_in j cell c.args.interval.now.kept)) (touches_told c.args.touches.now cell)
+
+pub returns-clause-kept : goal.returns-clause-kept
+returns-clause-kept c = λ j cell.
+    ap (kept_in j cell) c.forget.ensures
+    ∙ kept_in-filter j cell (is_touched c.args.touches.now) c.args.interval.now.kept
+    ∙ ap (λ b. cond b None (kept_in j cell c.args.interval.now.kept)) (touches_told c.args.touches.now cell)
