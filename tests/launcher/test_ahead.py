@@ -11,6 +11,7 @@ from rubliman.launcher import ahead
 from rubliman.launcher.progress import Progress
 from rubliman.launcher.schedule import tasks_of
 from rubliman.launcher.sources import WORKBENCH, Sources, crates_of
+from rubliman.launcher.ways import ByName
 
 from .support import CRATES, PAGE, PROVES, InRepository, processes_in
 
@@ -33,7 +34,7 @@ class Ahead(InRepository):
         libraries = [it for it in tasks if it.crate != WORKBENCH]
         with contextlib.redirect_stderr(io.StringIO()) as shown:
             rt = str(self.bin / "rt")
-            ahead.Ahead(libraries, rt, self.top, self.environment(), progress).prove(lanes, progress.tick)
+            ahead.Ahead(libraries, ByName(rt, self.top), self.environment(), progress).prove(lanes, progress.tick)
         self.assertEqual(processes_in(self.top), [])
         return shown.getvalue()
 
@@ -42,6 +43,11 @@ class Ahead(InRepository):
             with self.subTest(cores=cores, memory=memory):
                 self.assertEqual(ahead.lanes(cores, memory * GIB), due)
         self.assertGreater(ahead.free_memory(), 0)
+
+    def test_how_many_jobs_each(self) -> None:
+        for cores, memory, number, due in ((4, 24, 2, 4), (4, 13, 2, 3), (4, 10, 2, 2), (2, 64, 1, 2), (16, 64, 4, 4)):
+            with self.subTest(cores=cores, memory=memory, number=number):
+                self.assertEqual(ahead.jobs(cores, memory * GIB, number), due)
 
     def test_each_crate_behind_those_that_it_stands_on(self) -> None:
         shown = self.prove(SAYS, lanes=1)
@@ -74,6 +80,30 @@ class Ahead(InRepository):
         self.assertEqual((done.returncode, done.stdout), (0, "words \nlist\n"))
         calls = self.all_calls()
         self.assertEqual((calls[0], sorted(calls[1:4]), calls[4:]), ("ci", ["ci high", "ci low", "ci side"], ["ci"]))
+        self.assert_nothing_left()
+
+    def test_a_toolchain_that_takes_no_name(self) -> None:
+        # Its `rt ci NAME` prints how it is used; each crate is then proved in a folder of its own, and the programs last.
+        if not ahead.lanes(len(os.sched_getaffinity(0)), ahead.free_memory()):
+            self.skipTest("crates are not proved side by side here")
+        proves = f"""case $1 in
+          ci) sleep 100 & wait $!;;
+          lib) mkdir -p out/rlib; ls ../*/out -d >>{self.room}/libraries; touch out/rlib/it;;
+          run) mkdir -p out; cp {self.room}/program out/$(basename $PWD); cat ../../crates.txt >{self.room}/crates;;
+        esac
+        echo "logic=proved functions=3 sum=1"
+        """
+        self.fake(proves, ahead="echo usage: rt new FOLDER; exit 1")
+        done = self.sparc8(given="list\n")
+        self.assertEqual((done.returncode, done.stdout), (0, "words \nlist\n"))
+        calls = self.all_calls()
+        self.assertEqual(calls[0], "ci")
+        self.assertEqual(sorted(calls[1:3]), ["ci low", "ci side"])
+        self.assertEqual(sorted(it.split()[0] for it in calls[3:]), ["lib", "lib", "lib", "run"])
+        self.assertEqual(calls[-1].split()[:2], ["run", "--jobs"])
+        self.assertEqual((self.room / "crates").read_text(), "low: \nhigh: low\nside: \nsparc8: high side\n")
+        self.assertIn("../low/out", (self.room / "libraries").read_text())
+        self.assertIn("crate 4 of 4, sparc8: proved, 12 functions", done.stderr)
         self.assert_nothing_left()
 
     def test_one_that_fails_ends_all(self) -> None:

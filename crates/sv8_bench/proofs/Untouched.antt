@@ -22,7 +22,7 @@ use Rattle.sv8_trace.specs.declared.signs.Sign.TheVariants as sign
 use Rattle.sv8_trace.proofs.Common.{each_shows_none}
 use Rattle.sv8_bench.specs.Shown.{machine_state}
 use Rattle.sv8_bench.specs.Workbench.{Workbench, run_of_kept, IsRun}
-use Rattle.sv8_bench.specs.Touching.{NonePokes, IsUntouched, IsUnreached, IsTrapless}
+use Rattle.sv8_bench.specs.Touching.{NonePokes, IsUntouched, IsUnreached, IsTrapless, TakesNoneOf}
 
 -- ---- poked bytes
 
@@ -136,3 +136,8 @@ module _ (k : ℕ) (w : Workbench) (pos : 0 < k) (run : IsRun k w) (from to : �
       → MatchBool none (IsTrapless k w from to) (to ≤ recorded k w.recording → NoneShows sign.Trap k w.recording from to → ⊥)
   answer_trapless true h = record { recorded = within; apart = shown_none sign.Trap h }
   answer_trapless false h = λ it none. h none
+
+  pub answer_type : (type : ℕ) (none : Bool) → MatchBool none (NoneShows (sign.TrapType type) k w.recording from to) (NoneShows (sign.TrapType type) k w.recording from to → ⊥)
+      → MatchBool none (TakesNoneOf k w type from to) (to ≤ recorded k w.recording → NoneShows (sign.TrapType type) k w.recording from to → ⊥)
+  answer_type type true h = record { recorded = within; apart = shown_none (sign.TrapType type) h }
+  answer_type type false h = λ it none. h none

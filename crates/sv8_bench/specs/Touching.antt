@@ -2,7 +2,7 @@
 use Rattle.std.specs.Prelude.{◌≡◌, ℕ, ◌+◌, ◌<◌, ◌≤◌, false}
 use Rattle.sv8_time.specs.Schedule.{Schedule, pokes_of_step}
 use Rattle.sv8_cpu.specs.Touching.{IsUntranslated, SparesBytes, pokes_any}
-use Rattle.sv8_cpu.specs.Trapping.{may_have_trapped}
+use Rattle.sv8_cpu.specs.Trapping.{may_have_trapped, may_have_trapped_of}
 use Rattle.sv8_trace.specs.Recording.{recorded}
 use Rattle.sv8_bench.specs.Shown.{machine_state}
 use Rattle.sv8_bench.specs.Workbench.{Workbench}
@@ -26,3 +26,8 @@ pub record IsUnreached (k : ℕ) (w : Workbench) (address from to : ℕ) : Type 
 pub record IsTrapless (k : ℕ) (w : Workbench) (from to : ℕ) : Type 0 where
   pub recorded : to ≤ recorded k w.recording
   pub apart : (n : ℕ) → from ≤ n → n < to → may_have_trapped (machine_state w.kept n).processor (machine_state w.kept (n + 1)).processor ≡ false
+
+-- THE SAME OF A TRAP OF ONE TYPE: none of them takes one
+pub record TakesNoneOf (k : ℕ) (w : Workbench) (type from to : ℕ) : Type 0 where
+  pub recorded : to ≤ recorded k w.recording
+  pub apart : (n : ℕ) → from ≤ n → n < to → may_have_trapped_of type (machine_state w.kept n).processor (machine_state w.kept (n + 1)).processor ≡ false

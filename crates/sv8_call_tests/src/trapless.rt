@@ -55,6 +55,29 @@ const TRAPPED: [Range; 9] = [
 /// Ranges of the first twelve steps of `STOPS`: in error mode no step takes a trap.
 const STOPPED: [Range; 4] = [(0, 4, true), (3, 5, false), (4, 8, false), (8, 12, true)];
 
+/// A type of trap (tt), a range of steps, and whether the record shows that none of them takes a trap of the type.
+type TypedRange = (u8, u32, u32, bool);
+
+/// Of `TRAPS`, whose trap is `ta 0`, type 0x80.
+const TRAPPED_TYPES: [TypedRange; 8] = [
+    (0x80, 0, 4, true),
+    (0x80, 4, 5, false),
+    (0x80, 5, 8, false),
+    (0x80, 8, 12, true),
+    (0x80, 8, 13, false),
+    (0x81, 4, 8, true),
+    (0x00, 0, 12, true),
+    (0x05, 12, 13, false),
+];
+
+/// Of `STOPS`: in the interval in which error mode begins a trap may be of any type.
+const STOPPED_TYPES: [TypedRange; 4] = [
+    (0x80, 0, 4, true),
+    (0x80, 4, 8, false),
+    (0x05, 4, 8, false),
+    (0x80, 8, 12, true),
+];
+
 /// A step, and what is read of its checkpoint: whether the machine runs, how many bytes are taken, and how many put out.
 type Read = (u32, Option<(bool, u32, usize)>);
 
@@ -81,6 +104,15 @@ fn answers(bench: &Small, ranges: &[Range]) -> bool {
     let mut holds = true;
     for &(from, to, due) in ranges {
         holds = holds && bench.is_trapless(from, to) == due;
+    }
+    holds
+}
+
+/// The same of these ranges with types.
+fn answers_types(bench: &Small, ranges: &[TypedRange]) -> bool {
+    let mut holds = true;
+    for &(trap_type, from, to, due) in ranges {
+        holds = holds && bench.takes_none_of(trap_type, from, to) == due;
     }
     holds
 }
@@ -154,9 +186,18 @@ fn traps_are_noted_of_their_intervals(rt: HostRuntime) -> Result<(), Fail> {
 }
 
 #[test]
+fn types_of_traps_are_noted_of_their_intervals(rt: HostRuntime) -> Result<(), Fail> {
+    let mut bench = workbench(rt.alloc(), TRAPS)?;
+    bench.regs_at(12)?;
+    assert!(rt; answers_types(&bench, &TRAPPED_TYPES));
+    Ok(())
+}
+
+#[test]
 fn a_machine_in_error_mode_takes_no_trap(rt: HostRuntime) -> Result<(), Fail> {
     let mut bench = workbench(rt.alloc(), STOPS)?;
     assert!(rt; tells(&mut bench, 12, &STOPPED)?);
+    assert!(rt; answers_types(&bench, &STOPPED_TYPES));
     assert!(rt; reads(&bench, &ENDED));
     Ok(())
 }

@@ -6,5 +6,5 @@ pub use Rattle.sv8_cpu.proofs.Touched.{touched_is}
 pub use Rattle.sv8_cpu.proofs.Spared.{spared_bytes_stay}
 pub use Rattle.sv8_cpu.proofs.Seen.{steps_touch}
 pub use Rattle.sv8_cpu.proofs.Fetched.{annulled_steps_pass, fetches_touch}
-pub use Rattle.sv8_cpu.proofs.Trapping.{traps_lead_there}
+pub use Rattle.sv8_cpu.proofs.Trapping.{traps_lead_there, trap_types_lead_there, nowhere_of}
 pub use Rattle.sv8_cpu.proofs.Console.{consoles_grow}

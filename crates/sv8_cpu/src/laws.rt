@@ -9,7 +9,7 @@ ghost use Rattle.sv8_cpu.specs.RecordedLaws.{AccessFrames, StepFrames, RunsAgree
 ghost use Rattle.sv8_cpu.specs.DeviceLaws.{DevicesAreServed};
 ghost use Rattle.sv8_cpu.specs.Frames.{EventsCome, StepsAreWhole, RunsAreWhole, SetsFrame, RunsFrame, CellsStay, BytesFrame, WaitingFrames, LevelsFrame, RequestedLevelsAgree};
 ghost use Rattle.sv8_cpu.specs.Touching.{SparedBytesStay, AccessesTouch, StepsTouch, FetchesTouch, AnnulledStepsPass};
-ghost use Rattle.sv8_cpu.specs.Trapping.{TrapsLeadThere};
+ghost use Rattle.sv8_cpu.specs.Trapping.{TrapsLeadThere, TrapTypesLeadThere};
 ghost use Rattle.sv8_cpu.specs.Console.{ConsolesGrow};
 
 /// The steps of small programs, computed from the definition of a step.
@@ -226,6 +226,12 @@ pub fn annulled_steps_pass()
 /// to neither, and none of a step of a machine that is in error mode before it.
 pub fn traps_lead_there()
     ensures { TrapsLeadThere }
+{}
+
+/// A trap, or an interrupt, of a type leads into error mode, or to the address in TBR, whose tt is then that type (section 7.2). So
+/// no trap of the type is seen of a step that leads to neither.
+pub fn trap_types_lead_there()
+    ensures { TrapTypesLeadThere }
 {}
 
 /// After a step no fewer bytes are taken from the console, and no fewer are put out.

@@ -12,7 +12,7 @@ ghost use Rattle.sv8_phys.specs.Pieces.{piece_of};
 ghost use Rattle.sv8_mmu.specs.Place.{place_of};
 ghost use Rattle.sv8_cpu.specs.Sameness.{IsSameProcessor};
 ghost use Rattle.sv8_cpu.specs.State.{waiting};
-ghost use Rattle.sv8_cpu.specs.Trapping.{is_at_trap};
+ghost use Rattle.sv8_cpu.specs.Trapping.{is_at_trap, is_at_trap_of, trap_type_of};
 
 use crate::machine::Machine;
 use crate::parts::Parts;
@@ -69,6 +69,25 @@ impl<const NW: usize, const PAGES: usize> Machine<NW, PAGES> {
     {
         let processor = &self.parts.processor;
         !processor.is_running() || processor.pc() == processor.registers().tbr()
+    }
+
+    /// The same of a trap of one type: the machine is in error mode, or PC is the address in TBR, whose tt is the type. Where it
+    /// is neither after a step, the step took no trap of the type (law `trap_types_lead_there`).
+    #[inline(always)]
+    pub fn is_at_trap_of(&self, trap_type: u8) -> bool
+        ensures { result ≡ is_at_trap_of trap_type self.now.processor }
+    {
+        let processor = &self.parts.processor;
+        !processor.is_running()
+            || (processor.pc() == processor.registers().tbr() && self.trap_type() == trap_type)
+    }
+
+    /// The type of trap in the trap base register: tt of TBR (section 4.4).
+    #[inline(always)]
+    pub fn trap_type(&self) -> u8
+        ensures value { result ≡ trap_type_of self.now.processor.registers.tbr }
+    {
+        (self.parts.processor.registers().tbr() / 0x10 % 0x100) as u8
     }
 
     /// The registers of the memory management unit (Appendix H).

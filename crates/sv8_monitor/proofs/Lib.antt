@@ -1,5 +1,6 @@
 pub mod Searching
 pub mod Compared
+pub mod OldBytes
 pub mod Turned
 pub mod Falling
 pub mod Passed

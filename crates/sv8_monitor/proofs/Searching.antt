@@ -83,6 +83,13 @@ module _ (kept : Kept) (n m nw ram_pages : ℕ) (timeline : Schedule) where
       state ∙ next_state kept n ∙ ap (λ w. step w kept.pages kept.timeline n s) windows ∙ ap (λ p. step nw p kept.timeline n s) pages
       ∙ ap (λ t. step nw ram_pages t n s) (sym same) ∙ ap (λ i. step nw ram_pages timeline i s) (sym at)
 
+  pub touched_by : (ts : List Touch) → ts ≡ footprint kept.windows kept.pages kept.timeline n (machine_state kept n) → m ≡ n → timeline ≡ kept.timeline → kept.windows ≡ nw
+      → kept.pages ≡ ram_pages → ts ≡ footprint nw ram_pages timeline m (machine_state kept n)
+  touched_by ts is at same windows pages =
+      let s = machine_state kept n in
+      is ∙ ap (λ w. footprint w kept.pages kept.timeline n s) windows ∙ ap (λ p. footprint nw p kept.timeline n s) pages
+      ∙ ap (λ t. footprint nw ram_pages t n s) (sym same) ∙ ap (λ i. footprint nw ram_pages timeline i s) (sym at)
+
   pub not_added : (cs : List Condition) (left : ℕ) (found : List Found) → m ≡ n → timeline ≡ kept.timeline → kept.windows ≡ nw → kept.pages ≡ ram_pages
       → meets_any nw ram_pages timeline m (machine_state kept n) cs ≡ false → IsAdded (wanted_found kept cs n) left found found left
   not_added cs left found at same windows pages none =

@@ -6,17 +6,17 @@ use Rattle.std.proofs.Math.Nat.{div-add-mod, mul_comm}
 use Rattle.std.proofs.lemmas.Nat.{mod-mul-add}
 use Rattle.std.proofs.lemmas.Bool.Decides.{nat_tests}
 use Rattle.sv8_cpu.specs.State.{State}
-use Rattle.sv8_cpu.specs.Trapping.{may_have_trapped}
+use Rattle.sv8_cpu.specs.Run.{step}
+use Rattle.sv8_cpu.specs.Trapping.{may_have_trapped, may_have_trapped_of}
 use Rattle.sv8_cpu.proofs.Common.{consoles_grow}
 use Rattle.sv8_watch.specs.declared.condition.Condition.TheVariants as condition
 use Rattle.sv8_watch.specs.Happening.{happening, stands_at}
 use Rattle.sv8_watch.specs.Conditions.{meets}
-use Rattle.sv8_watch.specs.Quiet.{TakesNoTrap}
 use Rattle.sv8_watch.proofs.Running.{running_steps_miss}
-use Rattle.sv8_watch.proofs.Quiet.{trapless_steps_miss, quiet_steps_miss}
+use Rattle.sv8_watch.proofs.Quiet.{trapless_steps_miss, other_types_miss, quiet_steps_miss}
 use Rattle.sv8_bench.specs.Kept.{Kept}
 use Rattle.sv8_bench.specs.Shown.{machine_state}
-use Rattle.sv8_bench.specs.Touching.{IsTrapless}
+use Rattle.sv8_bench.specs.Touching.{IsTrapless, TakesNoneOf}
 use Rattle.sv8_bench.specs.Workbench.{Workbench}
 use Rattle.sv8_monitor.specs.Search.{MeetsNone}
 use Rattle.sv8_monitor.proofs.Searching.{next_state}
@@ -108,20 +108,24 @@ module _ (kept : Kept) where
 
 -- ---- traps
 
-module _ (k : ℕ) (w : Workbench) (from to : ℕ) (b : Bool) (Q : Type 0) (h : MatchBool b (IsTrapless k w from to) Q) (e : b ≡ true) where
-  trapless : IsTrapless k w from to
-  trapless = subst (λ x. MatchBool x (IsTrapless k w from to) Q) e h
+pub none_traps : (k : ℕ) (w : Workbench) (from to : ℕ) (b : Bool) (Q : Type 0) → MatchBool b (IsTrapless k w from to) Q → b ≡ true → MeetsNone w.kept condition.Trap from to
+none_traps k w from to b Q h e n low below = (trapless_steps_miss w.kept.windows w.kept.pages w.kept.timeline n (machine_state w.kept n) apart).none
+  where
+    it : IsTrapless k w from to
+    it = subst (λ x. MatchBool x (IsTrapless k w from to) Q) e h
 
-  apart : (n : ℕ) → from ≤ n → n < to → TakesNoTrap w.kept.windows w.kept.pages w.kept.timeline n (machine_state w.kept n)
-  apart n low below =
-      trapless_steps_miss w.kept.windows w.kept.pages w.kept.timeline n (machine_state w.kept n)
-      (ap (λ (s : State). may_have_trapped (machine_state w.kept n).processor s.processor) (sym (next_state w.kept n)) ∙ trapless.apart n low below)
+    apart : may_have_trapped (machine_state w.kept n).processor (step w.kept.windows w.kept.pages w.kept.timeline n (machine_state w.kept n)).processor ≡ false
+    apart = ap (λ (s : State). may_have_trapped (machine_state w.kept n).processor s.processor) (sym (next_state w.kept n)) ∙ it.apart n low below
 
-  pub none_traps : MeetsNone w.kept condition.Trap from to
-  none_traps n low below = (apart n low below).none
+pub none_traps_of : (k : ℕ) (w : Workbench) (type from to : ℕ) (b : Bool) (Q : Type 0) → MatchBool b (TakesNoneOf k w type from to) Q → b ≡ true
+    → MeetsNone w.kept (condition.TrapType type) from to
+none_traps_of k w type from to b Q h e n low below = other_types_miss type w.kept.windows w.kept.pages w.kept.timeline n (machine_state w.kept n) apart
+  where
+    it : TakesNoneOf k w type from to
+    it = subst (λ x. MatchBool x (TakesNoneOf k w type from to) Q) e h
 
-  pub none_traps_of : (tt : ℕ) → MeetsNone w.kept (condition.TrapType tt) from to
-  none_traps_of tt n low below = (apart n low below).none_of tt
+    apart : may_have_trapped_of type (machine_state w.kept n).processor (step w.kept.windows w.kept.pages w.kept.timeline n (machine_state w.kept n)).processor ≡ false
+    apart = ap (λ (s : State). may_have_trapped_of type (machine_state w.kept n).processor s.processor) (sym (next_state w.kept n)) ∙ it.apart n low below
 
 -- ---- multiples
 

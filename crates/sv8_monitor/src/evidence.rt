@@ -53,10 +53,21 @@ fn traps_none<const NW: usize, const PAGES: usize, const K: u32>(
     from: u32,
     to: u32,
 ) -> bool
-    ensures any { result ≡ true → MeetsNone bench.now.kept condition.Trap from to }
-    ensures types { (tt : ℕ) → result ≡ true → MeetsNone bench.now.kept (condition.TrapType tt) from to }
+    ensures { result ≡ true → MeetsNone bench.now.kept condition.Trap from to }
 {
     bench.is_trapless(from, to)
+}
+
+/// Whether the record shows that no step of a range takes a trap or an interrupt of a type.
+fn takes_none_of<const NW: usize, const PAGES: usize, const K: u32>(
+    bench: &Bench<NW, PAGES, K>,
+    trap_type: u8,
+    from: u32,
+    to: u32,
+) -> bool
+    ensures { result ≡ true → MeetsNone bench.now.kept (condition.TrapType trap_type) from to }
+{
+    bench.takes_none_of(trap_type, from, to)
 }
 
 /// Whether the record shows that no step of a range leads to error mode: the machine runs at the checkpoint at its end.
@@ -158,7 +169,8 @@ fn shows_none<const NW: usize, const PAGES: usize, const K: u32>(
 {
     match condition {
         Condition::Pc(address) => reaches_none(bench, address, from, to),
-        Condition::Trap | Condition::TrapType(_) => traps_none(bench, from, to),
+        Condition::Trap => traps_none(bench, from, to),
+        Condition::TrapType(trap_type) => takes_none_of(bench, trap_type, from, to),
         Condition::Error => errs_none(bench, from, to),
         Condition::Input => takes_none(bench, from, to),
         Condition::Output => puts_none(bench, from, to),

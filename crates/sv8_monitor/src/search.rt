@@ -7,7 +7,7 @@ ghost use Rattle.sv8_monitor.specs.Answers.{steps_refusal};
 ghost use Rattle.sv8_model.specs.Footprint.{expires};
 ghost use Rattle.sv8_phys.specs.Memory.{ram_size};
 ghost use Rattle.sv8_cpu.specs.State.{State};
-ghost use Rattle.sv8_cpu.specs.Run.{step};
+ghost use Rattle.sv8_cpu.specs.Run.{step, footprint};
 ghost use Rattle.sv8_watch.specs.declared.condition.Condition.TheVariants as condition;
 ghost use Rattle.sv8_watch.specs.Conditions.{is_met, meets, meets_any};
 ghost use Rattle.sv8_watch.specs.Happening.{happened};
@@ -24,7 +24,7 @@ use crate::old_bytes::{look_again, look_at_old, old_count};
 use std::alloc::AllocError;
 use sv8_bench::{Bench, BenchFault, LAST_STEP, Walk};
 use sv8_cpu::Machine;
-use sv8_phys::Watch;
+use sv8_phys::{Touch, Watch};
 use sv8_time::Timeline;
 use sv8_watch::{Before, Condition, MadeStep};
 
@@ -130,23 +130,26 @@ fn add_wanted<const NW: usize, const PAGES: usize>(
     Ok(left - 1)
 }
 
-/// Whether a step may meet one of some conditions, by what was kept of the machine before it and by the machine after it.
+/// Whether a step may meet one of some conditions, by what was kept of the machine before it, by the machine after it, and by
+/// what it touches.
 #[inline(always)]
 fn may_meet_any<const NW: usize, const PAGES: usize>(
     n: u32,
     timeline: &Timeline,
     before: &Before,
     after: &Machine<NW, PAGES>,
+    touches: &[Touch],
     conditions: &[Condition],
 ) -> bool
     requires few_windows { NW ≤ 32 }
     requires few_pages { PAGES ≤ 65536 }
-    ensures { (s : State) → IsBefore s before.now → after.now ≡ step NW PAGES timeline.now n s → result ≡ false
-        → list_any (meets NW PAGES timeline.now n s) conditions.now ≡ false }
+    requires inside { are_inside (ram_size PAGES) conditions.now ≡ true }
+    ensures { (s : State) → IsBefore s before.now → after.now ≡ step NW PAGES timeline.now n s
+        → touches.now ≡ footprint NW PAGES timeline.now n s → result ≡ false → list_any (meets NW PAGES timeline.now n s) conditions.now ≡ false }
 {
     let mut rest = conditions;
     while let [first, others @ ..] = rest {
-        if first.may_be_met(n, timeline, before, after) {
+        if first.may_be_met(n, timeline, before, after, touches) {
             return true;
         }
         rest = others;
@@ -154,23 +157,29 @@ fn may_meet_any<const NW: usize, const PAGES: usize>(
     false
 }
 
-/// The same, and also where there is no condition.
+/// The same, and also where there is no condition. A step that meets none leaves the bytes that conditions compare as they are.
 #[inline(always)]
 fn may_be_wanted<const NW: usize, const PAGES: usize>(
     n: u32,
     timeline: &Timeline,
     before: &Before,
     after: &Machine<NW, PAGES>,
+    touches: &[Touch],
     conditions: &[Condition],
 ) -> bool
     requires few_windows { NW ≤ 32 }
     requires few_pages { PAGES ≤ 65536 }
-    ensures { (s : State) → IsBefore s before.now → after.now ≡ step NW PAGES timeline.now n s → result ≡ false
-        → meets_any NW PAGES timeline.now n s conditions.now ≡ false }
+    requires inside { are_inside (ram_size PAGES) conditions.now ≡ true }
+    ensures wanted { (s : State) → IsBefore s before.now → after.now ≡ step NW PAGES timeline.now n s
+        → touches.now ≡ footprint NW PAGES timeline.now n s → result ≡ false → meets_any NW PAGES timeline.now n s conditions.now ≡ false }
+    ensures bytes { (s : State) → IsBefore s before.now → after.now ≡ step NW PAGES timeline.now n s
+        → touches.now ≡ footprint NW PAGES timeline.now n s → length s.memory.ram ≡ ram_size PAGES → result ≡ false
+        → olds_of conditions.now s.memory.ram ≡ olds_of conditions.now after.now.memory.ram }
 {
+    let _size = after.ram_size();
     match conditions {
         [] => true,
-        [_, ..] => may_meet_any(n, timeline, before, after, conditions),
+        [_, ..] => may_meet_any(n, timeline, before, after, touches, conditions),
     }
 }
 
@@ -209,9 +218,11 @@ fn look<const NW: usize, const PAGES: usize, const K: u32>(
     bench.sizes();
     let n = walk.step();
     let before = Before::of(walk.machine());
+    let _size = walk.machine().ram_size();
     bench.walk_on(walk, watch)?;
-    if !may_be_wanted(n, bench.timeline(), &before, walk.machine(), conditions) {
-        look_again(old, conditions, walk.machine())?;
+    let after = walk.machine();
+    let touches = watch.touches();
+    if !may_be_wanted(n, bench.timeline(), &before, after, touches, conditions) {
         return Ok(left);
     }
     let rest = add_wanted(

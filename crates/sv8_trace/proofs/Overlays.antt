@@ -4,6 +4,7 @@ use Rattle.std.specs.Bool.{⊤}
 use Rattle.std.specs.List.{AllZip}
 use Rattle.std.specs.declared.rc.Rc.{Rc}
 use Rattle.std.specs.declared.alloc.Global.{Global}
+use Rattle.std.proofs.Math.ListN.{get_or-map as map_at}
 use Rattle.std.proofs.lemmas.Bool.{cases_lt}
 use Rattle.std.proofs.lemmas.List.{get_or-take, ext_get_or, length-map, length-take, length-replicate, map-append, take-map, take_all, drop_all, get_or-map, get_or_past, append-nil}
 use Rattle.sv8_phys.specs.Memory.{ram_size, page_of, with_page}
@@ -14,7 +15,7 @@ use Rattle.sv8_trace.specs.Checkpoints.{IsCheckpoint}
 use Rattle.sv8_trace.specs.Recording.{blank}
 use Rattle.sv8_trace.specs.Prepared.{placed_pages, placed_levels}
 use Rattle.sv8_trace.specs.Placing.{placed_pages_in, placed_levels_in, AreSound, IsSound}
-use Rattle.sv8_trace.specs.Overlaid.{live, byte_over, page_over, level_over, pages_from, levels_from, overlaid, taken, all_overlaid, cut_column, put_over, ArePut, ArePages, AreFull, AreOverlaid}
+use Rattle.sv8_trace.specs.Overlaid.{live, byte_over, page_over, level_over, pages_from, levels_from, overlaid, taken, all_overlaid, cut_column, put_over, ArePut, ArePages, AreFull, AreIdleFrom, AreOverlaid}
 use Rattle.sv8_trace.proofs.Growing.{longer, sound_more}
 use Rattle.sv8_trace.proofs.Preparing.{get_none}
 use Rattle.sv8_trace.proofs.Placed.{page_byte, page_length, pages_length, pages_get, levels_length, levels_get, shown_byte, shown_level}
@@ -315,6 +316,9 @@ taken_at ms i m h is = ap (λ (x : Rc State Global). x.value) is ∙ sym (get_or
 pub taken_long : (ms : List (Rc State Global)) → length (taken ms) ≡ length ms
 taken_long ms = length-map ms (λ (x : Rc State Global). x.value)
 
+pub taken_count : (ms : List (Rc State Global)) → length (taken ms) ≡ length ms
+taken_count ms = length-map ms (λ (m : Rc State Global). m.value)
+
 pub taken_more : (ms more : List (Rc State Global)) (m : Rc State Global) → more ≡ ms ++ m ∷ [] → taken more ≡ taken ms ++ m.value ∷ []
 taken_more ms more m is = ap taken is ∙ map-append (λ (x : Rc State Global). x.value) ms (m ∷ [])
 
@@ -377,6 +381,50 @@ module _ (pages : ℕ) (ps : Pages) (ls : Levels) (ms : List State) (fits : AreO
   level_is_seen l b o e = ap (λ x. level_over i (live i x) (get_or m.memory.pending l false)) (sym e) ∙ sym (ap (λ (s : State). get_or s.memory.pending l false) whole_is ∙ level_overlaid pages ps ls ms fits i m sound_is l b)
 
 -- ---- invariants
+
+-- there are no columns
+pub none_idle : (pages : ℕ) (ps : Pages) (ls : Levels) → ps ≡ replicate pages None → ls ≡ replicate 16 None → AreIdleFrom 0 ps ls
+none_idle pages ps ls e f = record {
+  idle_pages = λ p. subst (λ o. MatchOption o ⊤ (λ c. length c ≤ 0)) (sym (ap (λ cs. get_or cs p None) e ∙ get_none pages p)) tt;
+  idle_levels = λ l. subst (λ o. MatchOption o ⊤ (λ c. length c ≤ 0)) (sym (ap (λ cs. get_or cs l None) f ∙ get_none 16 l)) tt;
+}
+
+-- no column goes on behind the last checkpoint
+pub all_idle : (pages n : ℕ) (ps : Pages) (ls : Levels) (ms : List State) → AreOverlaid pages ps ls ms → n ≡ length ms → AreIdleFrom n ps ls
+all_idle pages n ps ls ms fits e = record {
+  idle_pages = λ p. short_to (get_or ps p None) (short_pages (length ms) (get_or ps p None) (fits.whole_pages p));
+  idle_levels = λ l. subst (λ k. MatchOption (get_or ls l None) ⊤ (λ c. length c ≤ k)) (sym e) (fits.some_levels l);
+}
+  where
+    short_to : (o : Option (List (List ℕ))) → MatchOption o ⊤ (λ c. length c ≤ length ms) → MatchOption o ⊤ (λ c. length c ≤ n)
+    short_to o h = subst (λ k. MatchOption o ⊤ (λ c. length c ≤ k)) (sym e) h
+
+cut_short : {X : Type 0} (n k : ℕ) (o : Option (List X)) → MatchOption o ⊤ (λ c. length c ≤ n) → MatchOption (cut_column k o) ⊤ (λ c. length c ≤ min n k)
+cut_short n k None h = tt
+cut_short n k (Some c) h = let cut = length-take k c in omega (arith, cut, h)
+
+-- where columns are cut
+pub cut_idle : (from n less : ℕ) (ps ps' : Pages) (ls ls' : Levels) → AreIdleFrom from ps ls → ps' ≡ map (cut_column n) ps → ls' ≡ map (cut_column n) ls → less ≡ min from n
+    → AreIdleFrom less ps' ls'
+cut_idle from n less ps ps' ls ls' idle e f g = record {
+  idle_pages = λ p. subst (λ o. MatchOption o ⊤ (λ c. length c ≤ less)) (sym (ap (λ cs. get_or cs p None) e ∙ map_at (cut_column n) ps p None))
+      (subst (λ k. MatchOption (cut_column n (get_or ps p None)) ⊤ (λ c. length c ≤ k)) (sym g) (cut_short from n (get_or ps p None) (idle.idle_pages p)));
+  idle_levels = λ l. subst (λ o. MatchOption o ⊤ (λ c. length c ≤ less)) (sym (ap (λ cs. get_or cs l None) f ∙ map_at (cut_column n) ls l None))
+      (subst (λ k. MatchOption (cut_column n (get_or ls l None)) ⊤ (λ c. length c ≤ k)) (sym g) (cut_short from n (get_or ls l None) (idle.idle_levels l)));
+}
+
+later : {X : Type 0} (from i : ℕ) (o : Option (List X)) → from ≤ i → MatchOption o ⊤ (λ c. length c ≤ from) → MatchOption o ⊤ (λ c. length c ≤ i)
+later from i None h short = tt
+later from i (Some c) h short = omega (arith, h, short)
+
+-- a checkpoint for which no column has anything is as it was taken
+pub idle_is : (pages : ℕ) (ps : Pages) (ls : Levels) (ms : List State) (from i : ℕ) (m : State) → AreOverlaid pages ps ls ms → AreIdleFrom from ps ls → from ≤ i → i < length ms
+    → m ≡ get_or ms i blank → m ≡ get_or (all_overlaid ps ls 0 ms) i blank
+idle_is pages ps ls ms from i m fits idle late h is =
+    ap₂ (λ ram pending. record m { memory = record m.memory { ram = ram; pending = pending } })
+    (sym (idle_pages 0 i ps m.memory.ram (λ q. later from i (get_or ps q None) late (idle.idle_pages q))))
+    (sym (idle_levels 0 i ls m.memory.pending (λ q. later from i (get_or ls q None) late (idle.idle_levels q))))
+    ∙ sym (whole_is pages ps ls ms fits i h m is)
 
 pub pushed_fits : (pages : ℕ) (ps : Pages) (ls : Levels) (ms more : List State) (m : State) → AreOverlaid pages ps ls ms → more ≡ ms ++ m ∷ [] → IsSound pages m.memory → AreOverlaid pages ps ls more
 pushed_fits pages ps ls ms more m fits is here = record {

@@ -63,6 +63,11 @@ pub record AreOverlaid (pages : ℕ) (columns : List (Option (List (List ℕ))))
   pub some_levels : (l : ℕ) → MatchOption (slice_index_or levels l None) ⊤ (λ c. length c ≤ length points)
   pub sound : AreSound pages points
 
+-- no column has anything for the checkpoints from one on
+pub record AreIdleFrom (from : ℕ) (columns : List (Option (List (List ℕ)))) (levels : List (Option (List Bool))) : Type 0 where
+  pub idle_pages : (p : ℕ) → MatchOption (slice_index_or columns p None) ⊤ (λ c. length c ≤ from)
+  pub idle_levels : (l : ℕ) → MatchOption (slice_index_or levels l None) ⊤ (λ c. length c ≤ from)
+
 -- the columns of the first checkpoints alone
 abbrev pub cut_column : {X : Type 0} → ℕ → Option (List X) → Option (List X)
 cut_column count None = None

@@ -55,10 +55,10 @@ impl Finished {
     }
 
     /// The signs of the steps.
-    pub(crate) fn signs(&self) -> Signs
-        ensures { result ≡ self.now.signs }
+    pub(crate) fn signs(&self) -> &Signs
+        ensures { result.now ≡ self.now.signs }
     {
-        self.signs
+        &self.signs
     }
 
     /// Puts a list of kept values in the place of that of the interval.

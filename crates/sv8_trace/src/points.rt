@@ -35,18 +35,21 @@ pub(crate) struct Points<const NW: usize, const PAGES: usize> {
     machines: Vec<Rc<Machine<NW, PAGES>>>,
     pages: Vec<Option<PageColumn>>,
     levels: Vec<Option<LevelColumn>>,
+    /// No column has anything for a checkpoint from this one on.
+    idle: usize,
 }
 
 impl<const NW: usize, const PAGES: usize> Model for Points<NW, PAGES> {
     ghost use Rattle.std.specs.Prelude.{List, ◌≤◌};
     ghost use Rattle.sv8_cpu.specs.State.{State};
-    ghost use Rattle.sv8_trace.specs.Overlaid.{taken, all_overlaid, AreOverlaid};
+    ghost use Rattle.sv8_trace.specs.Overlaid.{taken, all_overlaid, AreIdleFrom, AreOverlaid};
 
     ghost Value = { List State };
 
     ghost view = { λ p. all_overlaid p.pages.items p.levels.items 0 (taken p.machines.items) };
 
-    ghost invariant = { λ p. (2 ≤ NW) × (NW ≤ 32) × (PAGES ≤ 65536) × AreOverlaid PAGES p.pages.items p.levels.items (taken p.machines.items) };
+    ghost invariant = { λ p. (2 ≤ NW) × (NW ≤ 32) × (PAGES ≤ 65536) × AreOverlaid PAGES p.pages.items p.levels.items (taken p.machines.items)
+        × AreIdleFrom p.idle p.pages.items p.levels.items };
 }
 
 impl<const NW: usize, const PAGES: usize> Points<NW, PAGES> {
@@ -70,6 +73,7 @@ impl<const NW: usize, const PAGES: usize> Points<NW, PAGES> {
             machines,
             pages: empty_places(alloc, PAGES)?,
             levels: empty_places(alloc, LEVELS)?,
+            idle: 0,
         })
     }
 
@@ -88,6 +92,9 @@ impl<const NW: usize, const PAGES: usize> Points<NW, PAGES> {
     {
         let taken = &*self.machines[index];
         let mut machine = taken.snapshot(alloc)?;
+        if self.idle <= index {
+            return Ok(machine);
+        }
         put_pages(&mut machine, &self.pages, index)?;
         put_levels(&mut machine, &self.levels[1..], index);
         Ok(machine)
@@ -211,6 +218,7 @@ impl<const NW: usize, const PAGES: usize> Points<NW, PAGES> {
         self.machines.truncate(count);
         cut_pages(&mut self.pages, count);
         cut_levels(&mut self.levels, count);
+        self.idle = self.idle.min(count);
     }
 
     /// Puts other pages and levels in their places. It takes no memory.
@@ -227,6 +235,7 @@ impl<const NW: usize, const PAGES: usize> Points<NW, PAGES> {
     {
         put_all(&mut self.pages, pages);
         put_all(&mut self.levels, levels);
+        self.idle = self.machines.len();
     }
 
     /// The same checkpoints once more, which share the machines that were taken.
@@ -245,6 +254,7 @@ impl<const NW: usize, const PAGES: usize> Points<NW, PAGES> {
             machines,
             pages,
             levels,
+            idle: self.idle,
         })
     }
 }

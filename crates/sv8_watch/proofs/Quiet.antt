@@ -1,5 +1,5 @@
 -- Steps that take no trap, and steps that leave the console alone.
-use Rattle.std.proofs.Common.{◌≡◌, ◌∙◌, ◌⊎◌, inl, inr, ℕ, ◌≤◌, ◌==◌, Bool, true, false, List, [], ◌∷◌, length, None, refl, sym, ap, arith, le-ltb}
+use Rattle.std.proofs.Common.{◌≡◌, ◌∙◌, ◌⊎◌, inl, inr, ℕ, ◌≤◌, ◌==◌, Bool, true, false, List, [], ◌∷◌, length, Some, None, refl, sym, ap, arith, le-ltb}
 use Rattle.std.specs.Prelude.{not, ◌&&◌, is_some, if◌then◌else◌, slice_get}
 use Rattle.std.proofs.Math.Bool.{and-false}
 use Rattle.std.proofs.lemmas.Bool.Decides.{nat_tests}
@@ -12,13 +12,13 @@ use Rattle.sv8_phys.specs.declared.output.OutputPlace.{OutputPlace}
 use Rattle.sv8_phys.specs.Ends.{IsEnd}
 use Rattle.sv8_cpu.specs.State.{State}
 use Rattle.sv8_cpu.specs.Run.{step, observed}
-use Rattle.sv8_cpu.specs.Trapping.{is_at_trap, may_have_trapped, IsNoTrap}
-use Rattle.sv8_cpu.proofs.Common.{traps_lead_there}
+use Rattle.sv8_cpu.specs.Trapping.{is_at_trap, is_at_trap_of, may_have_trapped, may_have_trapped_of, IsNoTrap, IsNoTrapOf}
+use Rattle.sv8_cpu.proofs.Common.{traps_lead_there, trap_types_lead_there}
 use Rattle.sv8_watch.specs.Happening.{happening, outcome_of, trap_in, byte_taken}
 use Rattle.sv8_watch.specs.declared.condition.Condition.{Condition}
 use Rattle.sv8_watch.specs.declared.condition.Condition.TheVariants as condition
 use Rattle.sv8_watch.specs.Conditions.{is_reached, is_trap, is_trap_of, is_error, meets}
-use Rattle.sv8_watch.specs.Quiet.{TakesNoTrap, TraplessStepsMiss, QuietStepsMiss}
+use Rattle.sv8_watch.specs.Quiet.{TakesNoTrap, TraplessStepsMiss, OtherTypesMiss, QuietStepsMiss}
 
 -- ---- traps
 
@@ -58,6 +58,27 @@ trapless_steps_miss windows pages schedule n s h =
           ∙ no_error s.processor.running s.processor.annul next.processor.running;
     }
 
+-- the first trap that is seen is none of a type
+first_of_type : (type : ℕ) (os : List Observation) → Each (IsNoTrapOf type) os → (running annul runs : Bool) → is_trap_of type (outcome_of running annul runs (trap_in os)) ≡ false
+first_of_type type [] h running annul runs = no_trap_of type running annul runs
+first_of_type type (seen.Fetch from word ∷ os) h running annul runs = first_of_type type os h.1 running annul runs
+first_of_type type (seen.Access kind bytes va pa ∷ os) h running annul runs = first_of_type type os h.1 running annul runs
+first_of_type type (seen.Trap t ∷ os) h running annul runs = by_outcome running annul runs
+  where
+    other : (t == type) ≡ false
+    other = grind (arith, nat_tests, h.0)
+
+    by_outcome : (running annul runs : Bool) → is_trap_of type (outcome_of running annul runs (Some t)) ≡ false
+    by_outcome false annul runs = refl
+    by_outcome true annul true = other
+    by_outcome true annul false = other
+
+pub other_types_miss : OtherTypesMiss
+unfolding happening
+other_types_miss type windows pages schedule n s h =
+    first_of_type type (observed windows pages schedule n s) (trap_types_lead_there type windows pages schedule n s h)
+    s.processor.running s.processor.annul (step windows pages schedule n s).processor.running
+
 -- ---- the console
 
 none_taken : (schedule : Schedule) (before after : ℕ) → before ≡ after → is_some (byte_taken schedule before after) ≡ false
@@ -77,19 +98,17 @@ quiet_steps_miss = record {
 
 -- ---- by a glance at the states before and after a step
 
--- a condition on traps
-pub no_trap_met : (windows pages : ℕ) (schedule : Schedule) (n : ℕ) (s : State) (c : Condition)
-    → (c ≡ condition.Trap) ⊎ (((x : ℕ) × (c ≡ condition.TrapType x)) ⊎ (c ≡ condition.Error))
+-- a condition on traps of any type
+pub no_trap_met : (windows pages : ℕ) (schedule : Schedule) (n : ℕ) (s : State) (c : Condition) → (c ≡ condition.Trap) ⊎ (c ≡ condition.Error)
     → may_have_trapped s.processor (step windows pages schedule n s).processor ≡ false → meets windows pages schedule n s c ≡ false
 no_trap_met windows pages schedule n s c which h = by_kind which
   where
     it : TakesNoTrap windows pages schedule n s
     it = trapless_steps_miss windows pages schedule n s h
 
-    by_kind : (c ≡ condition.Trap) ⊎ (((x : ℕ) × (c ≡ condition.TrapType x)) ⊎ (c ≡ condition.Error)) → meets windows pages schedule n s c ≡ false
+    by_kind : (c ≡ condition.Trap) ⊎ (c ≡ condition.Error) → meets windows pages schedule n s c ≡ false
     by_kind (inl e) = ap (meets windows pages schedule n s) e ∙ it.none
-    by_kind (inr (inl (x, e))) = ap (meets windows pages schedule n s) e ∙ it.none_of x
-    by_kind (inr (inr e)) = ap (meets windows pages schedule n s) e ∙ it.no_error
+    by_kind (inr e) = ap (meets windows pages schedule n s) e ∙ it.no_error
 
 -- the processor is another place, or in error mode already
 pub led_elsewhere : (s next : State) → is_at_trap next.processor ≡ false → may_have_trapped s.processor next.processor ≡ false
@@ -97,6 +116,12 @@ led_elsewhere s next h = ap (λ b. s.processor.running && b) h ∙ and-false s.p
 
 pub stood_still : (s next : State) → s.processor.running ≡ false → may_have_trapped s.processor next.processor ≡ false
 stood_still s next h = ap (λ b. b && is_at_trap next.processor) h
+
+pub led_elsewhere_of : (type : ℕ) (s next : State) → is_at_trap_of type next.processor ≡ false → may_have_trapped_of type s.processor next.processor ≡ false
+led_elsewhere_of type s next h = ap (λ b. s.processor.running && b) h ∙ and-false s.processor.running
+
+pub stood_still_of : (type : ℕ) (s next : State) → s.processor.running ≡ false → may_have_trapped_of type s.processor next.processor ≡ false
+stood_still_of type s next h = ap (λ b. b && is_at_trap_of type next.processor) h
 
 -- another PC
 pub pc_missed : (windows pages : ℕ) (schedule : Schedule) (n : ℕ) (s : State) (pc address : ℕ) → pc ≡ s.processor.pc → (pc == address) ≡ false

@@ -4,10 +4,10 @@ use Rattle.std.proofs.lemmas.Bool.{true≢false}
 use Rattle.sv8_time.specs.Schedule.{Schedule}
 use Rattle.sv8_phys.specs.Memory.{ram_size}
 use Rattle.sv8_phys.specs.Contents.{arrived}
-use Rattle.sv8_model.specs.Action.{Action, done}
+use Rattle.sv8_model.specs.Action.{done}
 use Rattle.sv8_cpu.specs.State.{State, inner_of}
-use Rattle.sv8_cpu.specs.Step.{Inner, awake, action}
-use Rattle.sv8_cpu.specs.Run.{step, observed, acted_on, eventful, step_action}
+use Rattle.sv8_cpu.specs.Step.{awake, action}
+use Rattle.sv8_cpu.specs.Run.{step, observed, acted_on, eventful}
 use Rattle.sv8_watch.specs.Happening.{happening, outcome_of, trap_in}
 use Rattle.sv8_watch.specs.Conditions.{is_error}
 use Rattle.sv8_watch.specs.Running.{RunningStepsMiss}

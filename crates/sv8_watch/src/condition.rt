@@ -1,10 +1,11 @@
 //! Conditions on a step.
 
-ghost use Rattle.std.specs.Prelude.{◌≡◌, ◌≤◌, ◌+◌, false, List, length};
+ghost use Rattle.std.specs.Prelude.{◌≡◌, ℕ, ◌≤◌, ◌+◌, false, List, length, IfSome};
 ghost use Rattle.sv8_phys.specs.Memory.{ram_size};
 ghost use Rattle.sv8_cpu.specs.State.{State};
-ghost use Rattle.sv8_cpu.specs.Run.{step};
+ghost use Rattle.sv8_cpu.specs.Run.{step, footprint};
 ghost use Rattle.sv8_watch.specs.Watched.{IsBefore, happening_of};
+ghost use Rattle.sv8_watch.specs.Touching.{span_of};
 ghost use Rattle.sv8_watch.specs.Conditions.{overlap, loads, stores, accesses, is_interrupt, is_reached, is_trap, is_trap_of, is_error, is_touched, differ_from, is_met, meets, AreOld, IsWithin};
 
 use crate::happening::{Access, Outcome};
@@ -186,9 +187,21 @@ fn is_other_end(before: OutputPlace, after: OutputPlace) -> bool
 }
 
 impl Condition {
-    /// Whether a step may meet the condition, by what was kept of the machine before it and by the machine after it: where
-    /// the answer is false, the step does not. It asks for no observation, and takes less time than `is_met`. That the answer
-    /// is false wherever it could be is no part of the contract: true costs time alone.
+    /// Whether a step may touch the word of one of the bytes that the condition is about, or its events poke one of them.
+    #[inline(always)]
+    fn may_be_reached(self, n: u32, timeline: &Timeline, touches: &[Touch]) -> bool
+        ensures { (windows pages : ℕ) (s : State) → pages ≤ 65536 → touches.now ≡ footprint windows pages timeline.now n s
+            → IfSome (span_of self) (λ span. span.address + span.count ≤ ram_size pages) → result ≡ false → meets windows pages timeline.now n s self ≡ false }
+    {
+        match self.span() {
+            Some(span) => span.is_reached(touches) || timeline.may_have_events(n),
+            None => true,
+        }
+    }
+
+    /// Whether a step may meet the condition, by what was kept of the machine before it, by the machine after it, and by what
+    /// it touches: where the answer is false, the step does not. It asks for no observation, and takes less time than
+    /// `is_met`. That the answer is false wherever it could be is no part of the contract: true costs time alone.
     #[inline(always)]
     pub fn may_be_met<const NW: usize, const PAGES: usize>(
         self,
@@ -196,22 +209,26 @@ impl Condition {
         timeline: &Timeline,
         before: &Before,
         after: &Machine<NW, PAGES>,
+        touches: &[Touch],
     ) -> bool
         requires few_windows { NW ≤ 32 }
         requires few_pages { PAGES ≤ 65536 }
-        ensures { (s : State) → IsBefore s before.now → after.now ≡ step NW PAGES timeline.now n s → result ≡ false
-            → meets NW PAGES timeline.now n s self ≡ false }
+        requires inside { IfSome (span_of self) (λ span. span.address + span.count ≤ ram_size PAGES) }
+        ensures { (s : State) → IsBefore s before.now → after.now ≡ step NW PAGES timeline.now n s
+            → touches.now ≡ footprint NW PAGES timeline.now n s → result ≡ false → meets NW PAGES timeline.now n s self ≡ false }
     {
         match self {
             Condition::Pc(address) => before.pc == address,
-            Condition::Trap | Condition::TrapType(_) | Condition::Error => {
-                before.running && after.is_at_trap()
-            }
+            Condition::Trap | Condition::Error => before.running && after.is_at_trap(),
+            Condition::TrapType(trap_type) => before.running && after.is_at_trap_of(trap_type),
             Condition::Input => before.taken != after.taken(),
             Condition::Output => is_other_end(before.put, after.output_end()),
             Condition::Event => timeline.may_have_events(n),
             Condition::Every(number) => number > 0 && n % number == 0,
-            _ => true,
+            Condition::Load { .. }
+            | Condition::Store { .. }
+            | Condition::Touch(_)
+            | Condition::Change { .. } => self.may_be_reached(n, timeline, touches),
         }
     }
 

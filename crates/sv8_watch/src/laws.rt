@@ -1,6 +1,6 @@
 //! Laws of the conditions, each a function that does nothing and whose contract is the law.
 
-ghost use Rattle.sv8_watch.specs.Quiet.{TraplessStepsMiss, QuietStepsMiss};
+ghost use Rattle.sv8_watch.specs.Quiet.{TraplessStepsMiss, OtherTypesMiss, QuietStepsMiss};
 ghost use Rattle.sv8_watch.specs.Running.{RunningStepsMiss};
 ghost use Rattle.sv8_watch.specs.Touching.{SparedStepsMiss, SparedPcsMiss};
 
@@ -31,6 +31,14 @@ pub fn running_steps_miss()
 /// So a search for `Trap`, `TrapType` or `Error` may pass over all steps of which none leads there.
 pub fn trapless_steps_miss()
     ensures { TraplessStepsMiss }
+{}
+
+/// A step that leads neither to error mode nor to the address in TBR with a type of trap there takes no trap and no interrupt of
+/// this type.
+///
+/// So a search for `TrapType` may pass over all steps of which none leads there.
+pub fn other_types_miss()
+    ensures { OtherTypesMiss }
 {}
 
 /// A step after which as many bytes are taken from the console as before takes none, and one after which as many are put out puts

@@ -1,12 +1,9 @@
-"""Proves crates side by side, each by an `rt ci NAME` of its own, before `rt ci` takes all that these have proved.
-
-It comes in once `rt ci` of all has taken what is kept, and would begin to prove.
+"""Proves crates side by side, each by a command of its own (`ways` says which), once something is to be proved.
 
 One `rt ci` of all crates gives most proofs one processor, also while others have nothing to do: it counts with the
-tests that each crate might have. Asked for one crate, whose libraries are proved, it gives that crate half of the
-processors, and four at most. So crates are asked for one by one, those with the longest way above them first, two at a
-time on four processors: with three the longest way went slower. The toolchain keeps what passes, by the checksums of
-all that it read.
+tests that each crate might have. So crates are asked for one by one, those with the longest way above them first, two
+at a time on four processors: with three the longest way went slower. Each may use all processors, where the toolchain
+lets the launcher say so, and the one on the longest way has them first: the other goes on with what it leaves.
 """
 from __future__ import annotations
 
@@ -22,11 +19,16 @@ from typing import IO
 from . import running, schedule
 from .progress import Progress
 from .schedule import Task
+from .ways import Way
 
-# What a check of a large crate with two jobs takes, seen on the crates as they are.
-_CHECK_BYTES = 5 << 30
+# What a check of a large crate takes with two jobs, and with each job more, seen on the crates as they are.
+_CHECK_BYTES, _JOB_BYTES = 5 << 30, 3 << 29
 _LOOK_SECONDS = 0.2
 _MOST_SAID = 1 << 20
+# More jobs than this make no crate quicker.
+_MOST_JOBS = 4
+# How nice a crate is to one with a longer way above it.
+_NICENESS = 10
 
 
 def lanes(cores: int, memory: int) -> int:
@@ -43,6 +45,16 @@ def free_memory() -> int:
     return 0
 
 
+class UnknownWay(Exception):
+    """The toolchain does not know the command."""
+
+
+def jobs(cores: int, memory: int, number: int) -> int:
+    """How many jobs each of so many crates may use, by the processors and what memory holds."""
+    spare = max(memory // number - _CHECK_BYTES, 0) // _JOB_BYTES
+    return max(1, min(_MOST_JOBS, cores, 2 + spare))
+
+
 @dataclass
 class _Begun:
     """A crate under way: its process, and what it says."""
@@ -56,24 +68,31 @@ class Ahead:
     """The crates that are left, and those that are under way."""
 
     def __init__(
-        self, tasks: Iterable[Task], rt: str, copy: Path, environment: dict[str, str], progress: Progress
+        self, tasks: Iterable[Task], way: Way, environment: dict[str, str], progress: Progress, jobs: int = 1
     ) -> None:
         self._tasks = list(tasks)
-        self._rt, self._copy, self._environment, self._progress = rt, copy, environment, progress
+        self._way, self._environment, self._progress, self._jobs = way, environment, progress, jobs
         self._proved = set(progress.proved)
-        self._left = [it for it in schedule.longest_first(self._tasks) if it not in self._proved]
+        self._order = schedule.longest_first(self._tasks)
+        self._left = [it for it in self._order if it not in self._proved]
         self._below = {it.crate: set(it.below) for it in self._tasks if not it.of_tests}
         self._under_way: list[_Begun] = []
+        self.said: list[str] = []
 
-    def prove(self, number: int, tick: Callable[[], None]) -> None:
-        """Proves crates, so many at a time, until none is left or one fails. Leaves no process behind."""
+    def prove(self, number: int, tick: Callable[[], None]) -> bool:
+        """Proves crates, so many at a time, until none is left or one fails. Leaves no process behind.
+
+        Gives whether none failed; if not, `said` is what the toolchain said of the one. Raises `UnknownWay` where it does
+        not know the command.
+        """
         try:
             while self._begin(number):
                 time.sleep(_LOOK_SECONDS)
                 tick()
                 self._look()
                 if not self._end():
-                    return
+                    return False
+            return True
         finally:
             for it in self._under_way:
                 running.end(it.process)
@@ -89,10 +108,14 @@ class Ahead:
 
     def _of(self, crate: str) -> _Begun:
         """The proof of a crate, begun."""
+        words, folder = self._way.begin(crate, self._jobs)
+        gives_way = any(self._order.index(it.crate) < self._order.index(crate) for it in self._under_way)
+        if gives_way:
+            words = ["nice", "-n", str(_NICENESS), *words]
         said = tempfile.TemporaryFile()
         process = subprocess.Popen(
-            [self._rt, "ci", crate],
-            cwd=self._copy,
+            words,
+            cwd=folder,
             env=self._environment,
             stdin=subprocess.DEVNULL,
             stdout=said,
@@ -102,10 +125,9 @@ class Ahead:
         return _Begun(crate, process, said)
 
     def _look(self) -> None:
-        """Notes which crates are proved. Their tests may still be under way, and no other crate waits for those."""
+        """Notes which crates are proved. What is left of their commands holds no other crate back."""
         for it in self._under_way:
-            said = os.pread(it.said.fileno(), _MOST_SAID, 0)
-            if f"rt: {it.crate} proved\n".encode() in said:
+            if self._way.is_proved(it.crate, os.pread(it.said.fileno(), _MOST_SAID, 0)):
                 self._proved.add(it.crate)
 
     def _end(self) -> bool:
@@ -114,10 +136,13 @@ class Ahead:
             self._under_way.remove(it)
             with it.said as said:
                 said.seek(0)
-                lines = said.read().decode(errors="replace").splitlines()
+                words = said.read()
+            self.said = words.decode(errors="replace").splitlines()
             if it.process.returncode:
+                if not self._way.knows(words):
+                    raise UnknownWay
                 return False
-            for line in lines:
+            for line in [*self.said, *self._way.end(it.crate)]:
                 self._progress.line(line)
             self._proved.add(it.crate)
         return True

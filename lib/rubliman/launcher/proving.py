@@ -2,9 +2,10 @@
 
 Two ways lead there, both the toolchain's own. `rt ci`, on a copy of the needed crates without their must-fail edits,
 proves crates side by side from nothing (`ahead` says how), and shares what it proves with every `rt ci` on this
-machine: what the gate proved is taken in seconds, and the gate takes what was proved here. `rt run`, in the checkout,
-proves over what `rt check` kept, so it is quicker where most was checked and a little was changed since. The first is
-begun; where much is left of it after some seconds, and checks have kept their work, the second takes over.
+machine: what the gate proved is taken in seconds, and the gate takes what was proved here. A toolchain whose `rt ci`
+takes no crate's name shares nothing; there `rt lib` and `rt run` prove the crates of the copy. `rt run`, in the
+checkout, proves over what `rt check` kept, so it is quicker where most was checked and a little was changed since. The
+first is begun; where much is left of it after some seconds, and checks have kept their work, the second takes over.
 """
 from __future__ import annotations
 
@@ -20,12 +21,13 @@ from dataclasses import dataclass
 from pathlib import Path
 
 from . import ahead, kept, places, running, schedule, toolchain
-from .ahead import Ahead
+from .ahead import Ahead, UnknownWay
 from .kept import Kept, Record
 from .problem import Interrupted, Problem, say
 from .progress import Progress
 from .schedule import Task
 from .sources import PROGRAMS, Sources, read_sources
+from .ways import ByName, InTrees
 
 BY_GATE, BY_RUN = "rt ci", "rt run"
 # Where so many seconds go by with no crate, `rt ci` proves and takes no more, and more than so many minutes are much.
@@ -97,6 +99,9 @@ def _prove(asked: Asked) -> Kept:
     with tempfile.TemporaryDirectory(prefix="work-", dir=places.cache(), ignore_cleanup_errors=True) as room:
         try:
             made = _by_gate(asked, Path(room), tasks, lanes, progress)
+        except UnknownWay:
+            progress, way = Progress(tasks, cores, lanes), BY_RUN
+            made = _in_trees(asked, Path(room), tasks, lanes, progress)
         except _Lags:
             say("going on by rt run, over what rt check kept of most crates on this machine")
             progress, way = Progress(tasks, cores, foretells=False), BY_RUN
@@ -186,13 +191,25 @@ def _by_gate(asked: Asked, room: Path, tasks: list[Task], lanes: int, progress: 
                 first = _until_it_proves(libraries, progress, tick) if lanes else tick
                 _ran([asked.rt, "ci"], copy, environment, progress, first)
             except _Proves:
-                Ahead(libraries, asked.rt, copy, environment, progress).prove(lanes, tick)
+                Ahead(libraries, ByName(asked.rt, copy), environment, progress).prove(lanes, tick)
                 _ran([asked.rt, "ci"], copy, environment, progress, tick)
         except Refused as refused:
             if not progress.is_all_proved():
                 raise
             # The proof is all that a run needs. That a test fails, say, is for the gate to judge.
             say("\n".join(["every crate is proved, but the toolchain refuses something else; it said:", *refused.said]))
+    return built(copy, asked.programs)
+
+
+def _in_trees(asked: Asked, room: Path, tasks: list[Task], lanes: int, progress: Progress) -> dict[str, Path]:
+    """Proves each crate by `rt lib` or `rt run`, side by side, on a copy that is removed again."""
+    copy, jobs = room / "copy", ahead.jobs(len(os.sched_getaffinity(0)), ahead.free_memory(), lanes)
+    shutil.rmtree(copy, ignore_errors=True)
+    write_copy(asked.sources, copy)
+    way = InTrees(asked.rt, copy, room / "trees", asked.sources.crates, asked.programs)
+    proofs = Ahead([it for it in tasks if not it.of_tests], way, toolchain.environment(), progress, jobs)
+    if not proofs.prove(lanes, progress.tick):
+        raise Refused(proofs.said[-_SHOWN_LINES:])
     return built(copy, asked.programs)
 
 

@@ -8,7 +8,7 @@ ghost use Rattle.sv8_trace.specs.Recording.{recorded};
 ghost use Rattle.sv8_trace.specs.Showing.{NoneShows};
 ghost use Rattle.sv8_trace.specs.declared.signs.Sign.TheVariants as sign;
 ghost use Rattle.sv8_bench.specs.Shown.{machine_state};
-ghost use Rattle.sv8_bench.specs.Touching.{NonePokes, IsUntouched, IsUnreached, IsTrapless};
+ghost use Rattle.sv8_bench.specs.Touching.{NonePokes, IsUntouched, IsUnreached, IsTrapless, TakesNoneOf};
 
 use crate::bench::Bench;
 use sv8_time::{Timeline, WordPoke};
@@ -108,6 +108,21 @@ impl<const NW: usize, const PAGES: usize, const K: u32> Bench<NW, PAGES, K> {
             return false;
         }
         self.trace.shows_none(Sign::Trap, from, to)
+    }
+
+    /// Whether the steps from `from` on and below `to` are recorded, and none of the intervals in which they lie has a step
+    /// that led a machine that ran where a trap of a type (tt) leads: to error mode, or to the address in TBR, whose tt is the
+    /// type. It makes no step.
+    ///
+    /// None of these steps then takes a trap or an interrupt of the type (`other_types_miss` of `sv8_watch`).
+    pub fn takes_none_of(&self, trap_type: u8, from: u32, to: u32) -> bool
+        ensures { MatchBool result (TakesNoneOf K self.now trap_type from to)
+            (to ≤ recorded K self.now.recording → NoneShows (sign.TrapType trap_type) K self.now.recording from to → ⊥) }
+    {
+        if self.trace.recorded() < to {
+            return false;
+        }
+        self.trace.shows_none(Sign::TrapType(trap_type), from, to)
     }
 
     /// What is read of the checkpoint of a step, where the step is a multiple of `K` and recorded; `None` elsewhere. It makes

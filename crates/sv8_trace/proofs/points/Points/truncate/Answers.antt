@@ -1,6 +1,6 @@
 use Rattle.std.proofs.Common.{ap, take, ◌∙◌}
 use Rattle.sv8_trace.specs.Overlaid.{taken}
-use Rattle.sv8_trace.proofs.Overlays.{truncated, cut_fits, sound_overlaid, taken_less}
+use Rattle.sv8_trace.proofs.Overlays.{truncated, cut_fits, cut_idle, sound_overlaid, taken_less}
 use Rattle.sv8_trace.proofs.points.Points.truncate.Goals as goal
 
 pub invariant_of-self : goal.invariant_of-self
@@ -12,6 +12,8 @@ invariant_of-self g c =
       inv.2,
       cut_fits g.row.PAGES c.args.count c.self.inside.pages.items c.cut_pages.new.places.items c.self.inside.levels.items c.cut_levels.new.places.items (taken ms) (taken c.truncate.new.self.items)
           inv.3 c.cut_pages.ensures c.cut_levels.ensures (taken_less ms c.truncate.new.self.items c.args.count c.truncate.ensures.items),
+      cut_idle c.self.inside.idle c.args.count c.min-self-inside.result c.self.inside.pages.items c.cut_pages.new.places.items c.self.inside.levels.items c.cut_levels.new.places.items inv.4
+          c.cut_pages.ensures c.cut_levels.ensures c.min-self-inside.ensures,
     )
 
 pub returns-clause-first : goal.returns-clause-first

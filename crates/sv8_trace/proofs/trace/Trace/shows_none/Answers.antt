@@ -12,7 +12,7 @@ loop-start-preserved g c =
     let same = ap (λ (r : Recording). r.intervals) c.self.view_is in
     let all : k * length c.args.self.now.intervals ≡ k * length xs = ap (λ ys. k * length ys) (sym same) in
     let end_is : c.args.to ≤ k * length xs = omega (arith, c.requires.recorded, all) in
-    let is = sign_of c.args.sign k c.loop-start.start c.args.to xs c.args.self.now c.index.result.now _ c.signs.result c.has.result pos same c.loop-start-test.true end_is c.index.ensures c.signs.ensures c.has.ensures in
+    let is = sign_of c.args.sign k c.loop-start.start c.args.to xs c.args.self.now c.index.result.now _ c.signs.result.now c.has.result pos same c.loop-start-test.true end_is c.index.ensures c.signs.ensures c.has.ensures in
     let split = div-add-mod c.loop-start.start k in
     let few : c.min.result ≤ k = omega (arith, c.min.ensures) in
     record {

@@ -1,0 +1,70 @@
+-- The bytes that conditions compare, in front of a step that meets none of them and after it.
+use Rattle.std.proofs.Common.{◌≡◌, ◌∙◌, ℕ, zero, suc, ◌+◌, ◌≤◌, ◌==◌, Bool, true, false, List, [], ◌∷◌, ◌++◌, length, take, drop, get_or, refl, sym, ap, ap₂, arith}
+use Rattle.std.specs.Prelude.{not, ◌||◌}
+use Rattle.std.specs.List.{list_any}
+use Rattle.std.proofs.Math.Seq.{drop-cons}
+use Rattle.std.proofs.lemmas.Bool.{leb-true, and_parts, true≢false}
+use Rattle.std.proofs.lemmas.Bool.Decides.{nat_tests}
+use Rattle.sv8_time.specs.Schedule.{Schedule}
+use Rattle.sv8_phys.specs.Memory.{ram_size}
+use Rattle.sv8_cpu.specs.State.{State}
+use Rattle.sv8_cpu.specs.Run.{step}
+use Rattle.sv8_watch.specs.declared.condition.Condition.{Condition}
+use Rattle.sv8_watch.specs.declared.condition.Condition.TheVariants.{Pc, Load, Store, Touch, Change, Trap, TrapType, Error, Input, Output, Event, Every}
+use Rattle.sv8_watch.specs.Conditions.{differ_from, bytes_from, meets}
+use Rattle.sv8_monitor.specs.Search.{is_inside, are_inside, old_of, olds_of}
+
+front_false : (a b : Bool) → (a || b) ≡ false → a ≡ false
+front_false true b h = h
+front_false false b h = refl
+
+rest_false : (a b : Bool) → (a || b) ≡ false → b ≡ false
+rest_false true b h = absurd (true≢false h)
+rest_false false b h = h
+
+equal_byte : (a b : ℕ) → not (a == b) ≡ false → a ≡ b
+equal_byte a b h = grind (arith, nat_tests, h)
+
+same_bytes : (count address : ℕ) (ram now : List ℕ) → address + count ≤ length ram → address + count ≤ length now → differ_from (take count (drop address ram)) address now ≡ false
+    → take count (drop address ram) ≡ take count (drop address now)
+same_bytes zero address ram now long longer h = refl
+same_bytes (suc count) address ram now long longer h =
+    let next : suc address ≡ address + 1 = omega arith in
+    let first = drop-cons ram address 0 (omega (arith, long)) in
+    let second = drop-cons now address 0 (omega (arith, longer)) in
+    let apart = ap (λ bs. differ_from (take (suc count) bs) address now) (sym first) ∙ h in
+    let byte = equal_byte (get_or ram address 0) (get_or now address 0) (front_false (not (get_or ram address 0 == get_or now address 0)) (differ_from (take count (drop (suc address) ram)) (address + 1) now) apart) in
+    let rest = rest_false (not (get_or ram address 0 == get_or now address 0)) (differ_from (take count (drop (suc address) ram)) (address + 1) now) apart in
+    let behind = ap (λ at. differ_from (take count (drop at ram)) (address + 1) now) (sym next) ∙ rest in
+    let others = same_bytes count (address + 1) ram now (omega (arith, long)) (omega (arith, longer)) behind in
+    ap (take (suc count)) first ∙ ap₂ (λ b bs. b ∷ bs) byte (ap (λ at. take count (drop at ram)) next ∙ others ∙ ap (λ at. take count (drop at now)) (sym next))
+    ∙ ap (take (suc count)) (sym second)
+
+module _ (windows pages : ℕ) (schedule : Schedule) (n : ℕ) (s : State) (after : State) where
+  old_stays : (c : Condition) → after ≡ step windows pages schedule n s → is_inside (ram_size pages) c ≡ true → length s.memory.ram ≡ ram_size pages
+      → length after.memory.ram ≡ ram_size pages → meets windows pages schedule n s c ≡ false → old_of c s.memory.ram ≡ old_of c after.memory.ram
+  old_stays (Pc address) is inside size longer h = refl
+  old_stays (Load address count) is inside size longer h = refl
+  old_stays (Store address count) is inside size longer h = refl
+  old_stays (Touch address) is inside size longer h = refl
+  old_stays (Change address count) is inside size longer h =
+      let all : address + count ≤ ram_size pages = leb-true (address + count) (ram_size pages) inside in
+      let there = ap (λ (t : State). differ_from (bytes_from address count s.memory.ram) address t.memory.ram) is ∙ h in
+      same_bytes count address s.memory.ram after.memory.ram (omega (arith, all, size)) (omega (arith, all, longer)) there
+  old_stays Trap is inside size longer h = refl
+  old_stays (TrapType type) is inside size longer h = refl
+  old_stays Error is inside size longer h = refl
+  old_stays Input is inside size longer h = refl
+  old_stays Output is inside size longer h = refl
+  old_stays Event is inside size longer h = refl
+  old_stays (Every number) is inside size longer h = refl
+
+  -- a step that meets none leaves all of them
+  pub olds_stay : (cs : List Condition) → after ≡ step windows pages schedule n s → are_inside (ram_size pages) cs ≡ true → length s.memory.ram ≡ ram_size pages
+      → length after.memory.ram ≡ ram_size pages → list_any (meets windows pages schedule n s) cs ≡ false → olds_of cs s.memory.ram ≡ olds_of cs after.memory.ram
+  olds_stay [] is inside size longer h = refl
+  olds_stay (c ∷ cs) is inside size longer h =
+      let both = and_parts (is_inside (ram_size pages) c) (are_inside (ram_size pages) cs) inside in
+      ap₂ (λ xs ys. xs ++ ys)
+      (old_stays c is both.0 size longer (front_false (meets windows pages schedule n s c) (list_any (meets windows pages schedule n s) cs) h))
+      (olds_stay cs is both.1 size longer (rest_false (meets windows pages schedule n s c) (list_any (meets windows pages schedule n s) cs) h))
