@@ -2,7 +2,7 @@
 use Rattle.std.proofs.Common.{◌≡◌, ℕ, ◌+◌, ◌*◌, ◌<◌, ◌≤◌, ◌==◌, Bool, true, false, List, [], ◌∷◌, get_or, set, refl, sym, ◌∙◌, ap, arith}
 use Rattle.std.specs.Prelude.{nat_le, nat_lt, ◌&&◌, ◌||◌}
 use Rattle.std.specs.List.{list_any}
-use Rattle.std.proofs.lemmas.Bool.{true≢false}
+use Rattle.std.proofs.lemmas.Bool.{or_parts}
 use Rattle.std.proofs.lemmas.Bool.Decides.{nat_tests}
 use Rattle.std.proofs.lemmas.List.{get_or-set_other}
 use Rattle.sv8_model.specs.Outside.{Outside, with_byte, with_word, word_address}
@@ -17,14 +17,6 @@ use Rattle.sv8_cpu.proofs.Touched.{is_touch_of, touched_is}
 
 -- ---- an action
 
-front_false : (a b : Bool) → (a || b) ≡ false → a ≡ false
-front_false true b h = h
-front_false false b h = refl
-
-rest_false : (a b : Bool) → (a || b) ≡ false → b ≡ false
-rest_false true b h = absurd (true≢false h)
-rest_false false b h = h
-
 word_stays : (ram : List ℕ) (k v i : ℕ) → (4 * k == word_address i) ≡ false → get_or (with_word ram k v) i 0 ≡ get_or ram i 0
 word_stays ram k v i apart = word_other ram k v i (λ e. let same : 4 * k ≡ word_address i = omega (arith, e) in grind (arith, nat_tests, same, apart))
 
@@ -35,10 +27,10 @@ byte_stays ram j v i apart =
 
 stays : {R : Type 0} (a : Action R) (o : Outside) (i : ℕ) → list_any (is_touch_of (word_address i)) (touches a o) ≡ false → get_or (after a o).ram i 0 ≡ get_or o.ram i 0
 stays (done x) o i h = refl
-stays (load_word k g) o i h = stays (g _) o i (rest_false _ _ h)
-stays (store_word k v a) o i h = stays a _ i (rest_false _ _ h) ∙ word_stays o.ram k v i (front_false _ _ h)
-stays (load_byte j g) o i h = stays (g _) o i (rest_false _ _ h)
-stays (store_byte j v a) o i h = stays a _ i (rest_false _ _ h) ∙ byte_stays o.ram j v i (front_false _ _ h)
+stays (load_word k g) o i h = stays (g _) o i (or_parts _ _ h).1
+stays (store_word k v a) o i h = stays a _ i (or_parts _ _ h).1 ∙ word_stays o.ram k v i (or_parts _ _ h).0
+stays (load_byte j g) o i h = stays (g _) o i (or_parts _ _ h).1
+stays (store_byte j v a) o i h = stays a _ i (or_parts _ _ h).1 ∙ byte_stays o.ram j v i (or_parts _ _ h).0
 stays (take_input g) o i h = stays (g _) _ i h
 stays (count_waiting g) o i h = stays (g _) o i h
 stays (emit b a) o i h = stays a _ i h
@@ -53,8 +45,8 @@ unpoked : (address count i : ℕ) → address ≤ i → i < address + count → 
     → get_or (poked ps ram) i 0 ≡ get_or ram i 0
 unpoked address count i low high [] ram h = refl
 unpoked address count i low high (p ∷ ps) ram h =
-    let apart = front_false (is_within address count p.address) (pokes_any address count ps) h in
-    unpoked address count i low high ps (set ram p.address p.value) (rest_false (is_within address count p.address) (pokes_any address count ps) h)
+    let apart = (or_parts (is_within address count p.address) (pokes_any address count ps) h).0 in
+    unpoked address count i low high ps (set ram p.address p.value) (or_parts (is_within address count p.address) (pokes_any address count ps) h).1
     ∙ get_or-set_other ram p.address i p.value 0 (λ e. elsewhere p.address e apart)
   where
     elsewhere : (a : ℕ) → i ≡ a → (nat_le address a && nat_lt a (address + count)) ≡ false → ⊥

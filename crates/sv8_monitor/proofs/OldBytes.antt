@@ -3,7 +3,7 @@ use Rattle.std.proofs.Common.{◌≡◌, ◌∙◌, ℕ, zero, suc, ◌+◌, ◌
 use Rattle.std.specs.Prelude.{not, ◌||◌}
 use Rattle.std.specs.List.{list_any}
 use Rattle.std.proofs.Math.Seq.{drop-cons}
-use Rattle.std.proofs.lemmas.Bool.{leb-true, and_parts, true≢false}
+use Rattle.std.proofs.lemmas.Bool.{leb-true, and_parts, or_parts}
 use Rattle.std.proofs.lemmas.Bool.Decides.{nat_tests}
 use Rattle.sv8_time.specs.Schedule.{Schedule}
 use Rattle.sv8_phys.specs.Memory.{ram_size}
@@ -13,14 +13,6 @@ use Rattle.sv8_watch.specs.declared.condition.Condition.{Condition}
 use Rattle.sv8_watch.specs.declared.condition.Condition.TheVariants.{Pc, Load, Store, Touch, Change, Trap, TrapType, Error, Input, Output, Event, Every}
 use Rattle.sv8_watch.specs.Conditions.{differ_from, bytes_from, meets}
 use Rattle.sv8_monitor.specs.Search.{is_inside, are_inside, old_of, olds_of}
-
-front_false : (a b : Bool) → (a || b) ≡ false → a ≡ false
-front_false true b h = h
-front_false false b h = refl
-
-rest_false : (a b : Bool) → (a || b) ≡ false → b ≡ false
-rest_false true b h = absurd (true≢false h)
-rest_false false b h = h
 
 equal_byte : (a b : ℕ) → not (a == b) ≡ false → a ≡ b
 equal_byte a b h = grind (arith, nat_tests, h)
@@ -33,9 +25,9 @@ same_bytes (suc count) address ram now long longer h =
     let first = drop-cons ram address 0 (omega (arith, long)) in
     let second = drop-cons now address 0 (omega (arith, longer)) in
     let apart = ap (λ bs. differ_from (take (suc count) bs) address now) (sym first) ∙ h in
-    let byte = equal_byte (get_or ram address 0) (get_or now address 0) (front_false (not (get_or ram address 0 == get_or now address 0)) (differ_from (take count (drop (suc address) ram)) (address + 1) now) apart) in
-    let rest = rest_false (not (get_or ram address 0 == get_or now address 0)) (differ_from (take count (drop (suc address) ram)) (address + 1) now) apart in
-    let behind = ap (λ at. differ_from (take count (drop at ram)) (address + 1) now) (sym next) ∙ rest in
+    let both = or_parts (not (get_or ram address 0 == get_or now address 0)) (differ_from (take count (drop (suc address) ram)) (address + 1) now) apart in
+    let byte = equal_byte (get_or ram address 0) (get_or now address 0) both.0 in
+    let behind = ap (λ at. differ_from (take count (drop at ram)) (address + 1) now) (sym next) ∙ both.1 in
     let others = same_bytes count (address + 1) ram now (omega (arith, long)) (omega (arith, longer)) behind in
     ap (take (suc count)) first ∙ ap₂ (λ b bs. b ∷ bs) byte (ap (λ at. take count (drop at ram)) next ∙ others ∙ ap (λ at. take count (drop at now)) (sym next))
     ∙ ap (take (suc count)) (sym second)
@@ -64,7 +56,6 @@ module _ (windows pages : ℕ) (schedule : Schedule) (n : ℕ) (s : State) (afte
       → length after.memory.ram ≡ ram_size pages → list_any (meets windows pages schedule n s) cs ≡ false → olds_of cs s.memory.ram ≡ olds_of cs after.memory.ram
   olds_stay [] is inside size longer h = refl
   olds_stay (c ∷ cs) is inside size longer h =
-      let both = and_parts (is_inside (ram_size pages) c) (are_inside (ram_size pages) cs) inside in
-      ap₂ (λ xs ys. xs ++ ys)
-      (old_stays c is both.0 size longer (front_false (meets windows pages schedule n s c) (list_any (meets windows pages schedule n s) cs) h))
-      (olds_stay cs is both.1 size longer (rest_false (meets windows pages schedule n s c) (list_any (meets windows pages schedule n s) cs) h))
+      let within = and_parts (is_inside (ram_size pages) c) (are_inside (ram_size pages) cs) inside in
+      let missed = or_parts (meets windows pages schedule n s c) (list_any (meets windows pages schedule n s) cs) h in
+      ap₂ (λ xs ys. xs ++ ys) (old_stays c is within.0 size longer missed.0) (olds_stay cs is within.1 size longer missed.1)

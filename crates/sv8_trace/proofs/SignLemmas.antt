@@ -3,7 +3,7 @@ use Rattle.std.proofs.Common.{◌≡◌, ◌≢◌, ◌⊎◌, inl, inr, ℕ, ze
 use Rattle.std.specs.Prelude.{not, ◌&&◌, ◌||◌, slice_set, slice_index_or}
 use Rattle.std.proofs.Math.Bool.{and-false, or-false, or-true}
 use Rattle.std.proofs.Math.Nat.{div-eq_of_lt-le}
-use Rattle.std.proofs.lemmas.Bool.{cases_eq, cases_lt, true≢false}
+use Rattle.std.proofs.lemmas.Bool.{cases_eq, cases_lt, true≢false, or_parts}
 use Rattle.std.proofs.lemmas.Bool.Decides.{nat_tests}
 use Rattle.std.proofs.lemmas.Grind.{get_or-set_at}
 use Rattle.std.proofs.lemmas.List.{get_or_default, get_or-set_other, length-replicate, length-set}
@@ -60,14 +60,6 @@ signs_alike f g (suc count) same =
     ∙ ap₂ (λ mmu p. stepped (signs_among g count) mmu (f count).processor p) before.mmu after.processor
     ∙ ap (λ p. stepped (signs_among g count) (g count).mmu p (g (suc count)).processor) before.processor
 
-first_false : (a b : Bool) → (a || b) ≡ false → a ≡ false
-first_false false b h = refl
-first_false true b h = h
-
-last_false : (a b : Bool) → (a || b) ≡ false → b ≡ false
-last_false false b h = h
-last_false true b h = absurd cc
-
 -- ---- one step more
 
 -- the signs with a trap, where one may have been taken, by whether the machine runs after it
@@ -112,7 +104,7 @@ module _ (type : ℕ) (s : Signs) (p : Processor) (long : length s.types ≡ 2 ^
   other_type none = by_type (cases_eq (type % 2 ^ 8) there)
     where
       unset : slice_index_or (slice_set s.types there true) (type % 2 ^ 8) false ≡ false
-      unset = last_false s.error _ none
+      unset = (or_parts s.error _ none).1
 
       by_type : ((type % 2 ^ 8) ≡ there) ⊎ ((type % 2 ^ 8) ≢ there) → (s.error || slice_index_or s.types (type % 2 ^ 8) false ≡ false) × ((there == type % 2 ^ 8) ≡ false)
       by_type (inl e) =
@@ -143,12 +135,12 @@ both_missed sign.Translation signs before after long none =
     let p = after.processor in
     let own = signs.translation || translates before.mmu in
     let it : own ≡ false = sym (noted_translation (trap_type_of p.registers.tbr) (before.processor.running && is_at_trap p) p.running (record signs { translation = own })) ∙ none in
-    (first_false signs.translation (translates before.mmu) it, last_false signs.translation (translates before.mmu) it)
+    or_parts signs.translation (translates before.mmu) it
 both_missed sign.Trap signs before after long none =
     let p = after.processor in
     let own = signs.translation || translates before.mmu in
     let it = sym (noted_trap (trap_type_of p.registers.tbr) (before.processor.running && is_at_trap p) p.running (record signs { translation = own })) ∙ none in
-    (first_false signs.trap _ it, last_false signs.trap _ it)
+    or_parts signs.trap _ it
 both_missed (sign.TrapType type) signs before after long none =
     let p = after.processor in
     let own = signs.translation || translates before.mmu in

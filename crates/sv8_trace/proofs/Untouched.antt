@@ -2,7 +2,7 @@
 use Rattle.std.proofs.Common.{◌≡◌, ◌⊎◌, inl, inr, ℕ, ◌+◌, ◌*◌, ◌/◌, ◌%◌, ◌≤◌, ◌<◌, ◌==◌, Bool, true, false, List, [], ◌∷◌, get_or, refl, sym, ◌∙◌, ap, subst, arith}
 use Rattle.std.specs.Prelude.{nat_le, nat_lt, ◌&&◌, ◌||◌}
 use Rattle.std.proofs.Math.Nat.{div-add-mod}
-use Rattle.std.proofs.lemmas.Bool.{cases_lt, true≢false}
+use Rattle.std.proofs.lemmas.Bool.{cases_lt, or_parts, true≢false}
 use Rattle.std.proofs.lemmas.Bool.Decides.{nat_tests}
 use Rattle.sv8_model.specs.Outside.{word_address}
 use Rattle.sv8_trace.specs.declared.cell.Cell.TheVariants.{Byte}
@@ -19,14 +19,6 @@ both a b p q = ap (λ x. x && b) p ∙ q
 
 neither : (a b : Bool) → a ≡ false → b ≡ false → (a || b) ≡ false
 neither a b p q = ap (λ x. x || b) p ∙ q
-
-front_false : (a b : Bool) → (a || b) ≡ false → a ≡ false
-front_false true b h = h
-front_false false b h = refl
-
-rest_false : (a b : Bool) → (a || b) ≡ false → b ≡ false
-rest_false true b h = absurd (true≢false h)
-rest_false false b h = h
 
 -- one of two holds
 first_or : (a b : Bool) → (a || b) ≡ true → (a ≡ true) ⊎ (b ≡ true)
@@ -89,8 +81,8 @@ module _ (low last from end : ℕ) where
   none_of_word : (w j : ℕ) → w % 4 ≡ 0 → low ≤ w → w ≤ last → from ≤ j → j < end → (notes : List WordNote) → are_notes_in low last from end notes ≡ false → has_word notes w j ≡ false
   none_of_word w j aligned a b c d [] h = refl
   none_of_word w j aligned a b c d (note ∷ notes) h =
-      neither (is_word_of w j note) (has_word notes w j) (by_case (is_word_of w j note) refl (front_false (is_note_in low last from end note) (are_notes_in low last from end notes) h))
-      (none_of_word w j aligned a b c d notes (rest_false (is_note_in low last from end note) (are_notes_in low last from end notes) h))
+      neither (is_word_of w j note) (has_word notes w j) (by_case (is_word_of w j note) refl (or_parts (is_note_in low last from end note) (are_notes_in low last from end notes) h).0)
+      (none_of_word w j aligned a b c d notes (or_parts (is_note_in low last from end note) (are_notes_in low last from end notes) h).1)
     where
       by_case : (b : Bool) → is_word_of w j note ≡ b → is_note_in low last from end note ≡ false → b ≡ false
       by_case false e n = refl
@@ -158,8 +150,8 @@ module _ (address count low last from end : ℕ) (word : low ≡ word_address ad
       let above : low ≤ word_address i = omega (arith, word, c) in
       let below : word_address i ≤ last = omega (arith, last_is, d) in
       neither (has_word s.reads (word_address i) j) (has_word s.writes (word_address i) j)
-      (none_of_word low last from end (word_address i) j aligned above below a b s.reads (front_false (are_notes_in low last from end s.reads) (are_notes_in low last from end s.writes) h))
-      (none_of_word low last from end (word_address i) j aligned above below a b s.writes (rest_false (are_notes_in low last from end s.reads) (are_notes_in low last from end s.writes) h))
+      (none_of_word low last from end (word_address i) j aligned above below a b s.reads (or_parts (are_notes_in low last from end s.reads) (are_notes_in low last from end s.writes) h).0)
+      (none_of_word low last from end (word_address i) j aligned above below a b s.writes (or_parts (are_notes_in low last from end s.reads) (are_notes_in low last from end s.writes) h).1)
 
   -- a byte whose word is touched
   record Touched (s : Steps) : Type 0 where

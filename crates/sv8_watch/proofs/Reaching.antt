@@ -2,7 +2,7 @@
 use Rattle.std.proofs.Common.{◌≡◌, ◌∙◌, ℕ, ◌+◌, ◌<◌, ◌≤◌, ◌==◌, Bool, true, false, nat_le, nat_lt, List, [], ◌∷◌, Some, refl, sym, ap, subst, arith}
 use Rattle.std.specs.Prelude.{◌&&◌, ◌||◌}
 use Rattle.std.specs.List.{list_any}
-use Rattle.std.proofs.lemmas.Bool.{true≢false}
+use Rattle.std.proofs.lemmas.Bool.{true≢false, or_parts}
 use Rattle.std.proofs.lemmas.Bool.Decides.{nat_tests}
 use Rattle.sv8_model.specs.declared.touch.Touch.{Touch}
 use Rattle.sv8_model.specs.declared.touch.Touch.TheVariants.{Read, Write, Input, Levels, Expiry}
@@ -19,14 +19,6 @@ use Rattle.sv8_watch.specs.declared.span.Span.{Span}
 use Rattle.sv8_watch.specs.Conditions.{meets}
 use Rattle.sv8_watch.specs.Touching.{span_of, is_reached_from, reaches}
 use Rattle.sv8_watch.proofs.Sparing.{spared_steps_miss}
-
-front_false : (a b : Bool) → (a || b) ≡ false → a ≡ false
-front_false true b h = h
-front_false false b h = refl
-
-rest_false : (a b : Bool) → (a || b) ≡ false → b ≡ false
-rest_false true b h = absurd (true≢false h)
-rest_false false b h = h
 
 module _ (span : Span) (i : ℕ) (low : span.address ≤ i) (below : i < span.address + span.count) where
   another_word : (word : ℕ) → is_reached_from span word ≡ false → (word == word_address i) ≡ false
@@ -52,8 +44,8 @@ module _ (span : Span) (i : ℕ) (low : span.address ≤ i) (below : i < span.ad
   no_touch : (ts : List Touch) → list_any (reaches span) ts ≡ false → list_any (is_touch_of (word_address i)) ts ≡ false
   no_touch [] h = refl
   no_touch (t ∷ ts) h =
-      ap (λ b. b || list_any (is_touch_of (word_address i)) ts) (another_touch t (front_false (reaches span t) (list_any (reaches span) ts) h))
-      ∙ no_touch ts (rest_false (reaches span t) (list_any (reaches span) ts) h)
+      let both = or_parts (reaches span t) (list_any (reaches span) ts) h in
+      ap (λ b. b || list_any (is_touch_of (word_address i)) ts) (another_touch t both.0) ∙ no_touch ts both.1
 
 untouched : (span : Span) (ts : List Touch) → list_any (reaches span) ts ≡ false → AreUntouched span.address span.count ts
 untouched span ts h i low below = touched_is ts i ∙ no_touch span i low below ts h
