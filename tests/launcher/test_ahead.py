@@ -83,7 +83,7 @@ class Ahead(InRepository):
         self.assert_nothing_left()
 
     def test_a_toolchain_that_takes_no_name(self) -> None:
-        # Its `rt ci NAME` prints how it is used; each crate is then proved in a folder of its own, and the programs last.
+        # Its `rt ci NAME` prints how it is used; each crate is then proved in a folder of its own, the programs last.
         if not ahead.lanes(len(os.sched_getaffinity(0)), ahead.free_memory()):
             self.skipTest("crates are not proved side by side here")
         proves = f"""case $1 in

@@ -82,8 +82,8 @@ class Ahead:
     def prove(self, number: int, tick: Callable[[], None]) -> bool:
         """Proves crates, so many at a time, until none is left or one fails. Leaves no process behind.
 
-        Gives whether none failed; if not, `said` is what the toolchain said of the one. Raises `UnknownWay` where it does
-        not know the command.
+        Gives whether none failed; if not, `said` is what the toolchain said of the one. Raises `UnknownWay` where it
+        does not know the command.
         """
         try:
             while self._begin(number):
