@@ -111,9 +111,10 @@ module _ (type : ℕ) (s : Signs) (p : Processor) (long : length s.types ≡ 2 ^
           let pos : 0 < 2 ^ 8 = omega arith in
           let small : there < length s.types = omega (arith, long, mod-lt (p.registers.tbr / 2 ^ 4) pos) in
           absurd (true≢false (sym (get_or-set_at s.types there (type % 2 ^ 8) true false e small) ∙ unset))
-      by_type (inr other) =
-          (ap (λ b. s.error || b) (sym (get_or-set_other s.types there (type % 2 ^ 8) true false other)) ∙ none,
-          grind (arith, nat_tests, other))
+      by_type (inr other) = (
+        ap (λ b. s.error || b) (sym (get_or-set_other s.types there (type % 2 ^ 8) true false other)) ∙ none,
+        grind (arith, nat_tests, other),
+      )
 
   -- a step that leaves the sign of the type out does not show it
   type_missed : (ran running : Bool) (here : Bool) → p.running ≡ running → (ran && is_at_trap p) ≡ here
@@ -122,11 +123,12 @@ module _ (type : ℕ) (s : Signs) (p : Processor) (long : length s.types ≡ 2 ^
   type_missed ran running false e h none = (none, nowhere_of type ran p h)
   type_missed ran false true e h none = absurd cc
   type_missed ran true true e h none =
-      let both = other_type none in
-      (both.0,
-      ap (λ b. ran && (not p.running || (p.pc == p.registers.tbr && b))) both.1
-      ∙ ap (λ b. ran && (not p.running || b)) (and-false (p.pc == p.registers.tbr))
-      ∙ ap (λ b. ran && (not b || false)) e ∙ and-false ran)
+      let both = other_type none in (
+        both.0,
+        ap (λ b. ran && (not p.running || (p.pc == p.registers.tbr && b))) both.1
+            ∙ ap (λ b. ran && (not p.running || b)) (and-false (p.pc == p.registers.tbr))
+            ∙ ap (λ b. ran && (not b || false)) e ∙ and-false ran,
+      )
 
 -- where the signs of one step more leave a sign out, those of the others do, and the step does not show it
 both_missed : (s : Sign) (signs : Signs) (before after : State) → length signs.types ≡ 2 ^ 8 → has_sign s (with_step signs before after) ≡ false
