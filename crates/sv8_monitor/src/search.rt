@@ -130,8 +130,7 @@ fn add_wanted<const NW: usize, const PAGES: usize>(
     Ok(left - 1)
 }
 
-/// Whether a step may meet one of some conditions, by what was kept of the machine before it, by the machine after it, and by
-/// what it touches.
+/// Whether a step may meet one of some conditions, by the machines before and after it and by what it touches.
 #[inline(always)]
 fn may_meet_any<const NW: usize, const PAGES: usize>(
     n: u32,
@@ -185,10 +184,6 @@ fn may_be_wanted<const NW: usize, const PAGES: usize>(
 
 /// Makes the next step of a walk, and adds it where it is wanted; answers how many more may follow, of so many. `old` are the
 /// bytes that the conditions compare, before and afterwards.
-///
-/// # Errors
-///
-/// `AllocError` where memory for it cannot be had.
 #[inline(always)]
 fn look<const NW: usize, const PAGES: usize, const K: u32>(
     bench: &mut Bench<NW, PAGES, K>,
@@ -290,10 +285,6 @@ fn passable<const NW: usize, const PAGES: usize, const K: u32>(
 
 /// Makes the steps of a walk up to another one, which is recorded up to its last checkpoint, with nothing seen of them.
 /// `old` are the bytes that the conditions compare, before and afterwards.
-///
-/// # Errors
-///
-/// `AllocError` where memory for them cannot be had.
 #[inline(never)]
 fn pass_over<const NW: usize, const PAGES: usize, const K: u32>(
     bench: &mut Bench<NW, PAGES, K>,

@@ -60,15 +60,26 @@ short_pages : (n : ℕ) (o : Option (List (List ℕ))) → MatchOption o ⊤ (Ar
 short_pages n None w = w
 short_pages n (Some c) w = w.0
 
--- a checkpoint behind all columns stands as it is
-idle : (pages : ℕ) (ps : Pages) (ls : Levels) (ms : List State) → AreOverlaid pages ps ls ms → (s : State) → overlaid ps ls (length ms) s ≡ s
-idle pages ps ls ms fits s =
+-- no column goes on behind the last checkpoint
+pub all_idle : (pages n : ℕ) (ps : Pages) (ls : Levels) (ms : List State) → AreOverlaid pages ps ls ms → n ≡ length ms → AreIdleFrom n ps ls
+all_idle pages n ps ls ms fits e = subst (λ k. AreIdleFrom k ps ls) (sym e) (record {
+  idle_pages = λ p. short_pages (length ms) (get_or ps p None) (fits.whole_pages p);
+  idle_levels = fits.some_levels;
+})
+
+later : {X : Type 0} (from i : ℕ) (o : Option (List X)) → from ≤ i → MatchOption o ⊤ (λ c. length c ≤ from) → MatchOption o ⊤ (λ c. length c ≤ i)
+later from i None h short = tt
+later from i (Some c) h short = omega (arith, h, short)
+
+-- a checkpoint for which no column has anything stands as it is, as it was taken
+idle : (ps : Pages) (ls : Levels) (from i : ℕ) (s : State) → AreIdleFrom from ps ls → from ≤ i → overlaid ps ls i s ≡ s
+idle ps ls from i s none late =
     ap₂ (λ ram levels. record s { memory = record s.memory { ram = ram; pending = levels } })
-    (idle_pages 0 (length ms) ps s.memory.ram (λ q. short_pages (length ms) (get_or ps q None) (fits.whole_pages q)))
-    (idle_levels 0 (length ms) ls s.memory.pending fits.some_levels)
+    (idle_pages 0 i ps s.memory.ram (λ q. later from i (get_or ps q None) late (none.idle_pages q)))
+    (idle_levels 0 i ls s.memory.pending (λ q. later from i (get_or ls q None) late (none.idle_levels q)))
 
 pub pushed : (pages : ℕ) (ps : Pages) (ls : Levels) (ms more : List State) (m : State) → AreOverlaid pages ps ls ms → more ≡ ms ++ m ∷ [] → all_overlaid ps ls 0 more ≡ all_overlaid ps ls 0 ms ++ m ∷ []
-pushed pages ps ls ms more m fits is = ap (all_overlaid ps ls 0) is ∙ append_from ps ls 0 ms m (length ms) (omega arith) ∙ ap (λ s. all_overlaid ps ls 0 ms ++ s ∷ []) (idle pages ps ls ms fits m)
+pushed pages ps ls ms more m fits is = ap (all_overlaid ps ls 0) is ∙ append_from ps ls 0 ms m (length ms) (omega arith) ∙ ap (λ s. all_overlaid ps ls 0 ms ++ s ∷ []) (idle ps ls (length ms) (length ms) m (all_idle pages (length ms) ps ls ms fits refl) (omega arith))
 
 -- ---- fewer checkpoints
 
@@ -382,23 +393,6 @@ module _ (pages : ℕ) (ps : Pages) (ls : Levels) (ms : List State) (fits : AreO
 
 -- ---- invariants
 
--- there are no columns
-pub none_idle : (pages : ℕ) (ps : Pages) (ls : Levels) → ps ≡ replicate pages None → ls ≡ replicate 16 None → AreIdleFrom 0 ps ls
-none_idle pages ps ls e f = record {
-  idle_pages = λ p. subst (λ o. MatchOption o ⊤ (λ c. length c ≤ 0)) (sym (ap (λ cs. get_or cs p None) e ∙ get_none pages p)) tt;
-  idle_levels = λ l. subst (λ o. MatchOption o ⊤ (λ c. length c ≤ 0)) (sym (ap (λ cs. get_or cs l None) f ∙ get_none 16 l)) tt;
-}
-
--- no column goes on behind the last checkpoint
-pub all_idle : (pages n : ℕ) (ps : Pages) (ls : Levels) (ms : List State) → AreOverlaid pages ps ls ms → n ≡ length ms → AreIdleFrom n ps ls
-all_idle pages n ps ls ms fits e = record {
-  idle_pages = λ p. short_to (get_or ps p None) (short_pages (length ms) (get_or ps p None) (fits.whole_pages p));
-  idle_levels = λ l. subst (λ k. MatchOption (get_or ls l None) ⊤ (λ c. length c ≤ k)) (sym e) (fits.some_levels l);
-}
-  where
-    short_to : (o : Option (List (List ℕ))) → MatchOption o ⊤ (λ c. length c ≤ length ms) → MatchOption o ⊤ (λ c. length c ≤ n)
-    short_to o h = subst (λ k. MatchOption o ⊤ (λ c. length c ≤ k)) (sym e) h
-
 cut_short : {X : Type 0} (n k : ℕ) (o : Option (List X)) → MatchOption o ⊤ (λ c. length c ≤ n) → MatchOption (cut_column k o) ⊤ (λ c. length c ≤ min n k)
 cut_short n k None h = tt
 cut_short n k (Some c) h = let cut = length-take k c in omega (arith, cut, h)
@@ -413,18 +407,9 @@ cut_idle from n less ps ps' ls ls' idle e f g = record {
       (subst (λ k. MatchOption (cut_column n (get_or ls l None)) ⊤ (λ c. length c ≤ k)) (sym g) (cut_short from n (get_or ls l None) (idle.idle_levels l)));
 }
 
-later : {X : Type 0} (from i : ℕ) (o : Option (List X)) → from ≤ i → MatchOption o ⊤ (λ c. length c ≤ from) → MatchOption o ⊤ (λ c. length c ≤ i)
-later from i None h short = tt
-later from i (Some c) h short = omega (arith, h, short)
-
--- a checkpoint for which no column has anything is as it was taken
 pub idle_is : (pages : ℕ) (ps : Pages) (ls : Levels) (ms : List State) (from i : ℕ) (m : State) → AreOverlaid pages ps ls ms → AreIdleFrom from ps ls → from ≤ i → i < length ms
     → m ≡ get_or ms i blank → m ≡ get_or (all_overlaid ps ls 0 ms) i blank
-idle_is pages ps ls ms from i m fits idle late h is =
-    ap₂ (λ ram pending. record m { memory = record m.memory { ram = ram; pending = pending } })
-    (sym (idle_pages 0 i ps m.memory.ram (λ q. later from i (get_or ps q None) late (idle.idle_pages q))))
-    (sym (idle_levels 0 i ls m.memory.pending (λ q. later from i (get_or ls q None) late (idle.idle_levels q))))
-    ∙ sym (whole_is pages ps ls ms fits i h m is)
+idle_is pages ps ls ms from i m fits none late h is = sym (idle ps ls from i m none late) ∙ sym (whole_is pages ps ls ms fits i h m is)
 
 pub pushed_fits : (pages : ℕ) (ps : Pages) (ls : Levels) (ms more : List State) (m : State) → AreOverlaid pages ps ls ms → more ≡ ms ++ m ∷ [] → IsSound pages m.memory → AreOverlaid pages ps ls more
 pushed_fits pages ps ls ms more m fits is here = record {
