@@ -21,7 +21,8 @@ from .progress import Progress
 from .schedule import Task
 from .ways import Way
 
-# What a check of a large crate takes with two jobs, and with each job more, seen on the crates as they are.
+# What a check of a large crate takes with two jobs, seen on the crates as they are, and with each job more, as the
+# toolchain's own sources reckon.
 _CHECK_BYTES, _JOB_BYTES = 5 << 30, 3 << 29
 _LOOK_SECONDS = 0.2
 _MOST_SAID = 1 << 20
