@@ -1,5 +1,5 @@
 -- Whether recorded steps touch some bytes of RAM, by their notes.
-use Rattle.std.specs.Prelude.{◌≡◌, ℕ, ◌+◌, ◌%◌, ◌<◌, ◌≤◌, ◌==◌, ◌&&◌, ◌||◌, Bool, false, nat_le, nat_lt, List}
+use Rattle.std.specs.Prelude.{◌≡◌, ◌⊎◌, ℕ, ◌+◌, ◌%◌, ◌<◌, ◌≤◌, ◌==◌, ◌&&◌, ◌||◌, Bool, true, false, nat_le, nat_lt, List, length, slice_index_or, MatchBool}
 use Rattle.std.specs.List.{list_any}
 use Rattle.sv8_model.specs.Cells.{ram_byte}
 use Rattle.sv8_history.specs.Machine.{touches_of}
@@ -28,3 +28,16 @@ touches_any low last from end s = are_notes_in low last from end s.reads || are_
 abbrev pub NoneTouches : (windows pages k : ℕ) → Recording → (address count from to : ℕ) → Type 0
 NoneTouches windows pages k r address count from to =
     (n i : ℕ) → from ≤ n → n < to → address ≤ i → i < address + count → touches_of (machine windows pages) (trace_of windows pages k r).notes (ram_byte i) n ≡ false
+
+-- ---- flags of steps, one after the other
+
+-- THE FLAGS OF SOME STEPS ARE SET, and the others are as they were
+pub record IsFlagged (some : ℕ → Bool) (old new : List Bool) : Type 0 where
+  pub count : length new ≡ length old
+  pub flags : (i : ℕ) → i < length old → slice_index_or new i false ≡ (slice_index_or old i false || some i)
+
+-- THE FLAGS OF ALL STEPS ARE SET BUT OF THOSE THAT ARE SPARED, whose flags are as they were
+pub record IsFlaggedUnless (Spared : ℕ → Type 0) (old new : List Bool) : Type 0 where
+  pub count : length new ≡ length old
+  pub flags : (i : ℕ) → i < length old
+      → MatchBool (slice_index_or new i false) ((slice_index_or old i false ≡ true) ⊎ (Spared i → ⊥)) ((slice_index_or old i false ≡ false) × Spared i)
