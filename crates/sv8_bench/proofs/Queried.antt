@@ -9,7 +9,7 @@ use Rattle.sv8_history.proofs.Common.{agrees_keeps, extend_keeps, restore_gives,
 use Rattle.sv8_source.specs.Text.{Text}
 use Rattle.sv8_cpu.specs.State.{State, reset_state}
 use Rattle.sv8_cpu.specs.Run.{step}
-use Rattle.sv8_cpu.specs.Events.{with_events}
+use Rattle.sv8_memory.specs.Events.{with_events}
 use Rattle.sv8_cpu.specs.Work.{counted}
 use Rattle.sv8_cpu.specs.Recorded.{machine, event_at, run_of, AreEvents}
 use Rattle.sv8_cpu.proofs.Common.{state_is}

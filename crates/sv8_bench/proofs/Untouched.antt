@@ -1,8 +1,8 @@
 -- A range of recorded steps that leaves some bytes of RAM alone.
-use Rattle.std.proofs.Common.{◌≡◌, ℕ, suc, ◌+◌, ◌*◌, ◌/◌, ◌%◌, ◌<◌, ◌≤◌, Bool, true, false, not, MatchBool, Option, Some, None, List, [], ◌∷◌, length, get_or, refl, sym, ◌∙◌, ap, ap₂, arith}
+use Rattle.std.proofs.Common.{◌≡◌, ◌⊎◌, inl, inr, ℕ, suc, ◌+◌, ◌*◌, ◌/◌, ◌%◌, ◌<◌, ◌≤◌, Bool, true, false, not, MatchBool, Option, Some, None, List, [], ◌∷◌, length, get_or, refl, sym, subst, ◌∙◌, ap, ap₂, arith}
 use Rattle.std.specs.Prelude.{◌&&◌, ◌||◌, is_some}
 use Rattle.std.proofs.lemmas.List.Folds.{list_any-append}
-use Rattle.std.proofs.lemmas.Bool.{true≢false}
+use Rattle.std.proofs.lemmas.Bool.{true≢false, MatchBool-at_false}
 use Rattle.std.proofs.Math.Nat.{div-add-mod, div-lt_iff_lt-mul, mod-lt, mul_comm}
 use Rattle.sv8_model.specs.Cells.{ram_byte}
 use Rattle.sv8_history.specs.Machine.{state_at, touches_of}
@@ -14,6 +14,7 @@ use Rattle.sv8_cpu.specs.Run.{footprint}
 use Rattle.sv8_cpu.specs.Touching.{touches_byte, is_within, pokes_any}
 use Rattle.sv8_cpu.proofs.Common.{footprint_is, state_is}
 use Rattle.sv8_trace.specs.Recording.{recorded, trace_of}
+use Rattle.sv8_notes.specs.Flags.{IsFlagged, IsFlaggedUnless}
 use Rattle.sv8_trace.specs.Touching.{NoneTouches}
 use Rattle.sv8_trace.specs.Showing.{NoneShows}
 use Rattle.sv8_trace.specs.Signs.{has_sign, shows}
@@ -22,7 +23,7 @@ use Rattle.sv8_trace.specs.declared.signs.Sign.TheVariants as sign
 use Rattle.sv8_trace.proofs.Common.{each_shows_none}
 use Rattle.sv8_bench.specs.Shown.{machine_state}
 use Rattle.sv8_bench.specs.Workbench.{Workbench, run_of_kept, IsRun}
-use Rattle.sv8_bench.specs.Touching.{NonePokes, IsUntouched, IsUnreached, IsTrapless, TakesNoneOf}
+use Rattle.sv8_bench.specs.Touching.{NonePokes, pokes_at, IsUntouched, IsUnreached, ShowsNone}
 
 -- ---- poked bytes
 
@@ -112,7 +113,7 @@ module _ (k : ℕ) (w : Workbench) (pos : 0 < k) (run : IsRun k w) (from to : �
   state_there : (m n : ℕ) → m ≡ n → state_of m ≡ machine_state w.kept n
   state_there m n e = ap state_of e ∙ state_is w.kept.windows w.kept.pages w.kept.source w.kept.timeline run.events n
 
-  -- those of intervals without it show none
+  -- those that have none show none
   shown_none : (s : Sign) → NoneShows s k w.recording from to → (n : ℕ) → from ≤ n → n < to → shows s (machine_state w.kept n) (machine_state w.kept (n + 1)) ≡ false
   shown_none s none n low below =
       let i = n / k in
@@ -120,10 +121,10 @@ module _ (k : ℕ) (w : Workbench) (pos : 0 < k) (run : IsRun k w) (from to : �
       let split = div-add-mod n k in
       let here : i < length w.recording.intervals =
       (div-lt_iff_lt-mul pos).1 (omega (arith, below, within, mul_comm (length w.recording.intervals) k)) in
-      let it = ap (has_sign s) (sym (run.record_is.signs i here)) ∙ none n low below in
+      let it = ap (has_sign s j) (sym (run.record_is.signs i here)) ∙ none n low below in
       let before = state_there (k * i + j) n (omega (arith, split)) in
       let after = state_there (k * i + suc j) (n + 1) (omega (arith, split)) in
-      sym (ap₂ (shows s) before after) ∙ each_shows_none s (λ x. state_of (k * i + x)) k it j (mod-lt n pos)
+      sym (ap₂ (shows s) before after) ∙ each_shows_none s (λ x. state_of (k * i + x)) k j it (mod-lt n pos)
 
   -- the answers by the signs
   pub answer_unreached : (address : ℕ) (none : Bool) → IsUntouched k w address 4 from to
@@ -132,12 +133,66 @@ module _ (k : ℕ) (w : Workbench) (pos : 0 < k) (run : IsRun k w) (from to : �
   answer_unreached address true spared h = record { untouched = spared; untranslated = shown_none sign.Translation h }
   answer_unreached address false spared h = λ it none. h none
 
-  pub answer_trapless : (none : Bool) → MatchBool none (NoneShows sign.Trap k w.recording from to) (NoneShows sign.Trap k w.recording from to → ⊥)
-      → MatchBool none (IsTrapless k w from to) (to ≤ recorded k w.recording → NoneShows sign.Trap k w.recording from to → ⊥)
-  answer_trapless true h = record { recorded = within; apart = shown_none sign.Trap h }
-  answer_trapless false h = λ it none. h none
+  pub answer_shown : (s : Sign) (none : Bool) → MatchBool none (NoneShows s k w.recording from to) (NoneShows s k w.recording from to → ⊥)
+      → MatchBool none (ShowsNone s k w from to) (to ≤ recorded k w.recording → NoneShows s k w.recording from to → ⊥)
+  answer_shown s true h = record { recorded = within; apart = shown_none s h }
+  answer_shown s false h = λ it none. h none
 
-  pub answer_type : (type : ℕ) (none : Bool) → MatchBool none (NoneShows (sign.TrapType type) k w.recording from to) (NoneShows (sign.TrapType type) k w.recording from to → ⊥)
-      → MatchBool none (TakesNoneOf k w type from to) (to ≤ recorded k w.recording → NoneShows (sign.TrapType type) k w.recording from to → ⊥)
-  answer_type type true h = record { recorded = within; apart = shown_none (sign.TrapType type) h }
-  answer_type type false h = λ it none. h none
+-- a step whose flag is not set
+pub unflagged : (s : Sign) (k : ℕ) (w : Workbench) → 0 < k → IsRun k w → (from : ℕ) (old new : List Bool) → from + length old ≤ recorded k w.recording
+    → IsFlaggedUnless (λ i. NoneShows s k w.recording (from + i) (from + i + 1)) old new
+    → (i : ℕ) → i < length old → get_or new i false ≡ false → ShowsNone s k w (from + i) (from + i + 1)
+unflagged s k w pos run from old new within h i inside unset =
+    let last : from + i + 1 ≤ recorded k w.recording = omega (arith, within, inside) in
+    let none = (MatchBool-at_false _ _ unset (h.flags i inside)).1 in
+    record { recorded = last; apart = shown_none k w pos run (from + i) (from + i + 1) last s none }
+
+-- ---- the flags of steps that are not spared
+
+module _ (k : ℕ) (w : Workbench) (run : IsRun k w) (address count from : ℕ) (old mid new : List Bool) (within : from + length old ≤ recorded k w.recording) where
+  abbrev Spared : ℕ → Type 0
+  Spared i = IsUntouched k w address count (from + i) (from + i + 1)
+
+  abbrev Untouching : ℕ → Type 0
+  Untouching i = NoneTouches w.kept.windows w.kept.pages k w.recording address count (from + i) (from + i + 1)
+
+  poked_nowhere : (i : ℕ) → pokes_at w.kept.timeline address count (from + i) ≡ false → NonePokes w.kept.timeline address count (from + i) (from + i + 1)
+  poked_nowhere i none n low high =
+      let same : n ≡ from + i = omega (arith, low, high) in
+      ap (pokes_at w.kept.timeline address count) same ∙ none
+
+  by_both : (i : ℕ) → i < length old → (touched poked : Bool) → pokes_at w.kept.timeline address count (from + i) ≡ poked
+      → MatchBool touched ((get_or old i false ≡ true) ⊎ (Untouching i → ⊥)) ((get_or old i false ≡ false) × Untouching i)
+      → MatchBool (touched || poked) ((get_or old i false ≡ true) ⊎ (Spared i → ⊥)) ((get_or old i false ≡ false) × Spared i)
+  by_both i inside true poked e (inl was) = inl was
+  by_both i inside true poked e (inr touched) = inr (λ it. touched (none_touches k w run address count (from + i) (from + i + 1) it))
+  by_both i inside false true e h =
+      inr (λ it. true≢false (sym e ∙ none_pokes k w run address count (from + i) (from + i + 1) it (from + i) (omega arith) (omega arith)))
+  by_both i inside false false e h = (h.0, untouched k w run address count (from + i) (from + i + 1) (omega (arith, within, inside)) h.1 (poked_nowhere i e))
+
+  -- by their notes, and then by their events
+  pub flagged_unless : IsFlaggedUnless Untouching old mid → IsFlagged (λ i. pokes_at w.kept.timeline address count (from + i)) mid new → IsFlaggedUnless Spared old new
+  flagged_unless first second = record {
+    count = second.count ∙ first.count;
+    flags = λ i inside.
+        subst (λ b. MatchBool b ((get_or old i false ≡ true) ⊎ (Spared i → ⊥)) ((get_or old i false ≡ false) × Spared i)) (sym (second.flags i (omega (arith, inside, first.count))))
+        (by_both i inside (get_or mid i false) (pokes_at w.kept.timeline address count (from + i)) refl (first.flags i inside));
+  }
+
+-- what an answer says
+pub shown_by : (b : Bool) (P Q : Type 0) → MatchBool b P Q → b ≡ true → P
+shown_by true P Q h e = h
+shown_by false P Q h e = absurd (true≢false (sym e))
+
+-- a step whose flag is not set reaches no instruction, where no address is translated
+pub unreached_flag : (k : ℕ) (w : Workbench) → 0 < k → IsRun k w → (address from : ℕ) (old new : List Bool) → from + length old ≤ recorded k w.recording
+    → IsFlaggedUnless (λ i. IsUntouched k w address 4 (from + i) (from + i + 1)) old new → NoneShows sign.Translation k w.recording from (from + length old)
+    → (i : ℕ) → i < length old → get_or new i false ≡ false → (get_or old i false ≡ false) × IsUnreached k w address (from + i) (from + i + 1)
+unreached_flag k w pos run address from old new within h none i inside unset =
+    let spared = MatchBool-at_false _ _ unset (h.flags i inside) in (
+      spared.0,
+      record {
+        untouched = spared.1;
+        untranslated = λ n low high. shown_none k w pos run from (from + length old) within sign.Translation none n (omega (arith, low)) (omega (arith, high, inside));
+      },
+    )

@@ -34,13 +34,25 @@ use sv8_trace::Trace;
 ///
 /// It keeps the source, the timeline of outside events, and the recorded run. An edit makes no step: it leaves of the recorded run what
 /// does not read what it changes, and patches that.
-#[derive(Drop)]
 pub struct Bench<const NW: usize, const PAGES: usize, const K: u32> {
     alloc: Global,
     source: Source,
     timeline: Timeline,
     trace: Trace<NW, PAGES, K>,
     work: Work,
+}
+
+// Written out, it is proved here once: a derived one is proved anew, with all that it drops, by each crate that drops a workbench.
+impl<const NW: usize, const PAGES: usize, const K: u32> Drop for Bench<NW, PAGES, K> {
+    fn drop(self) {
+        let Bench {
+            alloc: _,
+            source: _,
+            timeline: _,
+            trace: _,
+            work: _,
+        } = self;
+    }
 }
 
 impl<const NW: usize, const PAGES: usize, const K: u32> Model for Bench<NW, PAGES, K> {

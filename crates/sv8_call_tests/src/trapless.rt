@@ -1,9 +1,9 @@
 //! Ranges of recorded steps that take no trap, and what is read of checkpoints, worked out by hand.
 
-use crate::untouched::{Small, workbench};
+use crate::untouched::{Small, TRANSLATES, workbench};
 use std::alloc::Global;
 use std::test::Fail;
-use sv8_bench::BenchFault;
+use sv8_bench::{BenchFault, Sign};
 use sv8_phys::Watch;
 
 /// A program that takes a trap in step 4, whose handler goes back in steps 5 and 6. Its first line is `wr %g0, 0xa0, %psr`,
@@ -40,12 +40,13 @@ const SPEAKS: &[&[u8]] = &[
 type Range = (u32, u32, bool);
 
 /// Ranges of the first twelve steps of `TRAPS`.
-const TRAPPED: [Range; 9] = [
+const TRAPPED: [Range; 10] = [
     (0, 4, true),
     (0, 5, false),
     (4, 5, false),
-    (5, 8, false),
-    (7, 9, false),
+    (3, 9, false),
+    (5, 8, true),
+    (5, 12, true),
     (8, 12, true),
     (8, 13, false),
     (12, 12, true),
@@ -53,7 +54,13 @@ const TRAPPED: [Range; 9] = [
 ];
 
 /// Ranges of the first twelve steps of `STOPS`: in error mode no step takes a trap.
-const STOPPED: [Range; 4] = [(0, 4, true), (3, 5, false), (4, 8, false), (8, 12, true)];
+const STOPPED: [Range; 5] = [
+    (0, 4, true),
+    (3, 5, false),
+    (4, 8, false),
+    (5, 8, true),
+    (8, 12, true),
+];
 
 /// A type of trap (tt), a range of steps, and whether the record shows that none of them takes a trap of the type.
 type TypedRange = (u8, u32, u32, bool);
@@ -62,7 +69,7 @@ type TypedRange = (u8, u32, u32, bool);
 const TRAPPED_TYPES: [TypedRange; 8] = [
     (0x80, 0, 4, true),
     (0x80, 4, 5, false),
-    (0x80, 5, 8, false),
+    (0x80, 5, 8, true),
     (0x80, 8, 12, true),
     (0x80, 8, 13, false),
     (0x81, 4, 8, true),
@@ -70,12 +77,36 @@ const TRAPPED_TYPES: [TypedRange; 8] = [
     (0x05, 12, 13, false),
 ];
 
-/// Of `STOPS`: in the interval in which error mode begins a trap may be of any type.
+/// Of `STOPS`: the trap of the step that leads to error mode may be of any type.
 const STOPPED_TYPES: [TypedRange; 4] = [
     (0x80, 0, 4, true),
     (0x80, 4, 8, false),
-    (0x05, 4, 8, false),
-    (0x80, 8, 12, true),
+    (0x05, 4, 5, false),
+    (0x80, 5, 12, true),
+];
+
+/// A sign, whether all flags of steps 4 to 7 are set at first, and which are set in the end.
+type Flagged = (Sign, bool, [bool; 4]);
+
+/// Of `TRAPS`.
+const TRAPPED_FLAGS: [Flagged; 5] = [
+    (Sign::Trap, false, [true, false, false, false]),
+    (Sign::TrapType(0x80), false, [true, false, false, false]),
+    (Sign::TrapType(0x81), false, [false, false, false, false]),
+    (Sign::TrapType(0x81), true, [true, true, true, true]),
+    (Sign::Translation, false, [false, false, false, false]),
+];
+
+/// Of `STOPS`.
+const STOPPED_FLAGS: [Flagged; 2] = [
+    (Sign::Trap, false, [true, false, false, false]),
+    (Sign::TrapType(0x05), false, [true, false, false, false]),
+];
+
+/// Of `TRANSLATES`, which turns translation on in step 4.
+const TRANSLATED_FLAGS: [Flagged; 2] = [
+    (Sign::Translation, false, [true, true, true, true]),
+    (Sign::Trap, false, [false, false, false, false]),
 ];
 
 /// A step, and what is read of its checkpoint: whether the machine runs, how many bytes are taken, and how many put out.
@@ -103,7 +134,7 @@ const ENDED: [Read; 4] = [
 fn answers(bench: &Small, ranges: &[Range]) -> bool {
     let mut holds = true;
     for &(from, to, due) in ranges {
-        holds = holds && bench.is_trapless(from, to) == due;
+        holds = holds && bench.shows_none(Sign::Trap, from, to) == due;
     }
     holds
 }
@@ -112,7 +143,21 @@ fn answers(bench: &Small, ranges: &[Range]) -> bool {
 fn answers_types(bench: &Small, ranges: &[TypedRange]) -> bool {
     let mut holds = true;
     for &(trap_type, from, to, due) in ranges {
-        holds = holds && bench.takes_none_of(trap_type, from, to) == due;
+        holds = holds && bench.shows_none(Sign::TrapType(trap_type), from, to) == due;
+    }
+    holds
+}
+
+/// Whether the flags of steps 4 to 7 are as they are due, once these steps are recorded.
+fn flags(bench: &Small, flagged: &[Flagged]) -> bool {
+    if bench.recorded() < 8 {
+        return false;
+    }
+    let mut holds = true;
+    for &(sign, first, due) in flagged {
+        let mut flags = [first; 4];
+        bench.flag_shown(sign, 4, &mut flags);
+        holds = holds && flags == due;
     }
     holds
 }
@@ -179,17 +224,26 @@ fn walks_past(alloc: Global, bench: &mut Small) -> Result<bool, Fail> {
 }
 
 #[test]
-fn traps_are_noted_of_their_intervals(rt: HostRuntime) -> Result<(), Fail> {
+fn traps_are_noted_of_their_steps(rt: HostRuntime) -> Result<(), Fail> {
     let mut bench = workbench(rt.alloc(), TRAPS)?;
     assert!(rt; tells_edits(rt.alloc(), &mut bench)?);
     Ok(())
 }
 
 #[test]
-fn types_of_traps_are_noted_of_their_intervals(rt: HostRuntime) -> Result<(), Fail> {
+fn types_of_traps_are_noted_of_their_steps(rt: HostRuntime) -> Result<(), Fail> {
     let mut bench = workbench(rt.alloc(), TRAPS)?;
     bench.regs_at(12)?;
     assert!(rt; answers_types(&bench, &TRAPPED_TYPES));
+    assert!(rt; flags(&bench, &TRAPPED_FLAGS));
+    Ok(())
+}
+
+#[test]
+fn translation_is_flagged_of_all_steps_of_an_interval(rt: HostRuntime) -> Result<(), Fail> {
+    let mut bench = workbench(rt.alloc(), TRANSLATES)?;
+    bench.regs_at(12)?;
+    assert!(rt; flags(&bench, &TRANSLATED_FLAGS));
     Ok(())
 }
 
@@ -198,6 +252,7 @@ fn a_machine_in_error_mode_takes_no_trap(rt: HostRuntime) -> Result<(), Fail> {
     let mut bench = workbench(rt.alloc(), STOPS)?;
     assert!(rt; tells(&mut bench, 12, &STOPPED)?);
     assert!(rt; answers_types(&bench, &STOPPED_TYPES));
+    assert!(rt; flags(&bench, &STOPPED_FLAGS));
     assert!(rt; reads(&bench, &ENDED));
     Ok(())
 }

@@ -2,8 +2,8 @@
 
 ghost use Rattle.std.specs.Prelude.{◌≤◌, length};
 
+use sv8_commands::{Command, parse_command};
 use sv8_difference::line_end;
-use sv8_shell::{Command, parse_command};
 
 /// How many lines a command takes beside its own.
 fn lines_taken(line: &[u8]) -> u32 {

@@ -13,7 +13,7 @@ use Rattle.sv8_model.specs.Frame.{Cells, Alike, Unread, only}
 use Rattle.sv8_model.proofs.Common.{cells_hold, framed, stays}
 use Rattle.sv8_phys.specs.Memory.{ram_size}
 use Rattle.sv8_cpu.specs.Step.{Inner, action}
-use Rattle.sv8_cpu.specs.Events.{poked, marked}
+use Rattle.sv8_memory.specs.Events.{poked, marked}
 use Rattle.sv8_cpu.specs.Recorded.{Event, poke_of}
 use Rattle.sv8_cpu.specs.Frames.{WholeState, StepEvents, behind, whole_touched, whole_steps, touched_at, AlikeStates, set_to, AlikeEvents, same_value, both_set, unset, left, FramedStep, SetsFrame, IsWithin, AreSets, FramedRun, RunsFrame, CellsStay, bytes_in, BytesFrame, waiting_only, WaitingFrames, level_only, LevelsFrame, RequestedLevelsAgree}
 use Rattle.sv8_cpu.proofs.RecordedEvents.{after_event, length-poked, length-marked, byte_comes, level_comes, comes_alike}

@@ -19,7 +19,7 @@ use Rattle.sv8_time.specs.Schedule.{Schedule}
 use Rattle.sv8_phys.specs.Contents.{Contents, outside_of}
 use Rattle.sv8_source.specs.Text.{Text}
 use Rattle.sv8_cpu.specs.Step.{Inner}
-use Rattle.sv8_cpu.specs.Events.{with_events}
+use Rattle.sv8_memory.specs.Events.{with_events}
 use Rattle.sv8_cpu.specs.State.{State, left_by}
 use Rattle.sv8_cpu.specs.Run as run
 use Rattle.sv8_cpu.specs.Run.{step_action, acted_on, touched}

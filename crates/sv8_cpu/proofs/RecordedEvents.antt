@@ -16,7 +16,7 @@ use Rattle.sv8_time.specs.Schedule.{Schedule, BytePoke, IsTimeline, IsPokePlace,
 use Rattle.sv8_time.specs.declared.requests.Request.{Request}
 use Rattle.sv8_time.proofs.Common.{each_filter, each_map}
 use Rattle.sv8_phys.specs.Memory.{ram_size}
-use Rattle.sv8_cpu.specs.Events.{poked, marked}
+use Rattle.sv8_memory.specs.Events.{poked, marked}
 use Rattle.sv8_cpu.specs.State.{State}
 use Rattle.sv8_cpu.specs.Recorded.{Event, IsPoke, IsRequest, IsEvent, value_poked, poke_of, AlikeBut, AlikeInput, cells_of, with_cells, put, IsSound, Holds, Has, Ready, come, AreEvents, machine}
 use Rattle.sv8_cpu.proofs.RecordedCells.{has_outside}

@@ -52,14 +52,14 @@ use Rattle.sv8_iu.specs.Requests.{IsAligned, space_of}
 use Rattle.sv8_iu.specs.Operands.{sum_of_sources}
 use Rattle.sv8_iu.specs.Instruction.{raised, asked, data_space}
 use Rattle.sv8_iu.proofs.Choices.{aligned_request, aligned_alternate}
-use Rattle.sv8_cpu.specs.Units.{Units, Served, served}
-use Rattle.sv8_cpu.specs.Access.{access_seen, observed, takes_byte, counts_bytes, is_word, fetched_from, load_answer, plainly_loaded, loaded_from, store_answer, stored_at, exchanged_at, located, at_virtual, reach_of, loaded_in, stored_in, exchanged_in, access, physical_place}
+use Rattle.sv8_memory.specs.Units.{Units, Served, served}
+use Rattle.sv8_memory.specs.Access.{access_seen, observed, takes_byte, counts_bytes, is_word, fetched_from, load_answer, plainly_loaded, loaded_from, store_answer, stored_at, exchanged_at, located, at_virtual, reach_of, loaded_in, stored_in, exchanged_in, access, physical_place}
 use Rattle.sv8_cpu.specs.Step.{Inner, observed_trap, executed, fetched, instruction, continued, requested, interruptible, awake, action}
 use Rattle.sv8_cpu.specs.State.{inner_of}
 use Rattle.sv8_cpu.specs.Run as run
 use Rattle.sv8_cpu.specs.Touching.{touches_byte, IsTouched, AccessesTouch, StepsTouch}
 use Rattle.sv8_cpu.proofs.Touched.{read_here, write_here, touched_behind, front_touched, behind_touched}
-use Rattle.sv8_cpu.proofs.Pages.{place_aligned}
+use Rattle.sv8_memory.proofs.Pages.{place_aligned}
 
 -- ---- actions of which nothing is seen
 

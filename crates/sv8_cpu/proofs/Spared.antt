@@ -1,18 +1,20 @@
--- A byte whose word is not touched, and which is not poked, stays.
-use Rattle.std.proofs.Common.{◌≡◌, ℕ, ◌+◌, ◌*◌, ◌<◌, ◌≤◌, ◌==◌, Bool, true, false, List, [], ◌∷◌, get_or, set, refl, sym, ◌∙◌, ap, arith}
+-- A byte whose word is not touched, and which is not poked, stays. RAM stays as large as it is.
+use Rattle.std.proofs.Common.{◌≡◌, ℕ, ◌+◌, ◌*◌, ◌<◌, ◌≤◌, ◌==◌, Bool, true, false, List, [], ◌∷◌, length, get_or, set, refl, sym, ◌∙◌, ap, arith}
 use Rattle.std.specs.Prelude.{nat_le, nat_lt, ◌&&◌, ◌||◌}
 use Rattle.std.specs.List.{list_any}
 use Rattle.std.proofs.lemmas.Bool.{or_parts}
 use Rattle.std.proofs.lemmas.Bool.Decides.{nat_tests}
-use Rattle.std.proofs.lemmas.List.{get_or-set_other}
+use Rattle.std.proofs.lemmas.List.{get_or-set_other, length-set}
 use Rattle.sv8_model.specs.Outside.{Outside, with_byte, with_word, word_address}
 use Rattle.sv8_model.specs.Action.{Action, done, load_word, store_word, load_byte, store_byte, take_input, count_waiting, emit, ask_levels, clear_levels, expire, observe, after, touches}
-use Rattle.sv8_model.proofs.Common.{word_other}
-use Rattle.sv8_time.specs.Schedule.{BytePoke, pokes_of_step}
+use Rattle.sv8_model.proofs.Common.{word_other, length-with_word}
+use Rattle.sv8_time.specs.Schedule.{BytePoke, Schedule, pokes_of_step}
 use Rattle.sv8_phys.specs.Contents.{arrived, outside_of}
-use Rattle.sv8_cpu.specs.Events.{poked, with_events}
+use Rattle.sv8_memory.specs.Events.{poked, with_events}
+use Rattle.sv8_cpu.specs.State.{State}
 use Rattle.sv8_cpu.specs.Run as run
 use Rattle.sv8_cpu.specs.Touching.{is_within, pokes_any, SparedBytesStay}
+use Rattle.sv8_cpu.proofs.RecordedEvents.{length-poked}
 use Rattle.sv8_cpu.proofs.Touched.{is_touch_of, touched_is}
 
 -- ---- an action
@@ -59,3 +61,27 @@ spared_bytes_stay windows pages schedule n s address count spared i low high =
     stays (run.step_action windows pages t) (outside_of t.memory (arrived (n + 1) schedule)) i
     (sym (touched_is (run.touched windows pages (arrived (n + 1) schedule) t) i) ∙ spared.touched i low high)
     ∙ unpoked address count i low high (pokes_of_step n schedule.pokes) s.memory.ram spared.poked
+
+-- ---- the size of RAM
+
+length-after : {R : Type 0} (a : Action R) (o : Outside) → length (after a o).ram ≡ length o.ram
+unfolding with_byte
+length-after (done x) o = refl
+length-after (load_word k g) o = length-after (g _) o
+length-after (store_word k v a) o = length-after a _ ∙ length-with_word o.ram k v
+length-after (load_byte j g) o = length-after (g _) o
+length-after (store_byte j v a) o = length-after a _ ∙ length-set o.ram j _
+length-after (take_input g) o = length-after (g _) _
+length-after (count_waiting g) o = length-after (g _) o
+length-after (emit b a) o = length-after a _
+length-after (ask_levels w g) o = length-after (g _) o
+length-after (clear_levels w a) o = length-after a _
+length-after (expire a) o = length-after a _
+length-after (observe s a) o = length-after a o
+
+-- no step makes it another one
+pub ram_stays_long : (windows pages : ℕ) (schedule : Schedule) (n : ℕ) (s : State) → length (run.step windows pages schedule n s).memory.ram ≡ length s.memory.ram
+unfolding run.step with_events
+ram_stays_long windows pages schedule n s =
+    let t = run.eventful schedule n s in
+    length-after (run.step_action windows pages t) (outside_of t.memory (arrived (n + 1) schedule)) ∙ length-poked (pokes_of_step n schedule.pokes) s.memory.ram

@@ -22,8 +22,8 @@ use Rattle.sv8_iu.specs.declared.request.AccessRequest.TheVariants.{Nothing, Fet
 use Rattle.sv8_iu.specs.declared.request.Response.{Response}
 use Rattle.sv8_iu.specs.declared.request.Response.TheVariants.{Value, Refused}
 use Rattle.sv8_cpu.specs.declared.parts.Parts.{Parts}
-use Rattle.sv8_cpu.specs.Units.{Units, Served, served}
-use Rattle.sv8_cpu.specs.Access.{access}
+use Rattle.sv8_memory.specs.Units.{Units, Served, served}
+use Rattle.sv8_memory.specs.Access.{access}
 use Rattle.sv8_iu.specs.Operands.{sum_of_sources}
 use Rattle.sv8_iu.specs.Memory.{memory_traps, access_of}
 use Rattle.sv8_iu.specs.Instruction.{raised, asked, trapped, data_space, IsPlain}

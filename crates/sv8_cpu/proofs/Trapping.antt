@@ -41,8 +41,8 @@ use Rattle.sv8_iu.specs.declared.request.Space.{Space}
 use Rattle.sv8_iu.specs.declared.request.Space.TheVariants as space
 use Rattle.sv8_iu.specs.Requests.{space_of}
 use Rattle.sv8_iu.specs.Instruction.{trapped, asked}
-use Rattle.sv8_cpu.specs.Units.{Units, Served, served}
-use Rattle.sv8_cpu.specs.Access.{access_seen, observed, takes_byte, counts_bytes, is_word, fetched_from, plainly_loaded, loaded_from, stored_at, exchanged_at, located, at_virtual, reach_of, loaded_in, stored_in, exchanged_in, access, physical_place}
+use Rattle.sv8_memory.specs.Units.{Units, Served, served}
+use Rattle.sv8_memory.specs.Access.{access_seen, observed, takes_byte, counts_bytes, is_word, fetched_from, plainly_loaded, loaded_from, stored_at, exchanged_at, located, at_virtual, reach_of, loaded_in, stored_in, exchanged_in, access, physical_place}
 use Rattle.sv8_cpu.specs.State.{inner_of}
 use Rattle.sv8_cpu.specs.Step.{Inner, observed_trap, executed, fetched, finished_access, instruction, continued, requested, interruptible, awake, action}
 use Rattle.sv8_cpu.specs.Run as run

@@ -12,7 +12,7 @@ use Rattle.sv8_phys.specs.Memory.{ram_size}
 use Rattle.sv8_phys.specs.Contents.{arrived, outside_of}
 use Rattle.sv8_source.specs.Text.{Text}
 use Rattle.sv8_cpu.specs.Step.{action}
-use Rattle.sv8_cpu.specs.Events.{with_events}
+use Rattle.sv8_memory.specs.Events.{with_events}
 use Rattle.sv8_cpu.specs.State.{State, reset_state, inner_of}
 use Rattle.sv8_cpu.specs.Run as run
 use Rattle.sv8_cpu.specs.Frames.{WholeState, whole_step, whole_touched, whole_steps, events_of, whole, IsFed, EventsCome, StepsAreWhole, RunsAreWhole}

@@ -12,7 +12,7 @@ use Rattle.sv8_phys.specs.Memory.{ram_size}
 use Rattle.sv8_phys.specs.Contents.{arrived, outside_of}
 use Rattle.sv8_source.specs.Text.{Text}
 use Rattle.sv8_cpu.specs.Step.{Inner, action}
-use Rattle.sv8_cpu.specs.Events.{poked, marked}
+use Rattle.sv8_memory.specs.Events.{poked, marked}
 use Rattle.sv8_cpu.specs.State.{State, reset_state, inner_of}
 use Rattle.sv8_cpu.specs.Run as run
 use Rattle.sv8_cpu.specs.Recorded.{poke_of}

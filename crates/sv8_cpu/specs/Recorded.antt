@@ -16,7 +16,7 @@ use Rattle.sv8_time.specs.declared.requests.Request.{Request}
 use Rattle.sv8_phys.specs.Memory.{ram_size}
 use Rattle.sv8_phys.specs.Contents.{AreContents, arrived, outside_of}
 use Rattle.sv8_source.specs.Text.{Text}
-use Rattle.sv8_cpu.specs.Events.{poked, marked}
+use Rattle.sv8_memory.specs.Events.{poked, marked}
 use Rattle.sv8_cpu.specs.State.{State, reset_state}
 use Rattle.sv8_cpu.specs.Run.{step_action, acted_on, touched}
 

@@ -8,8 +8,8 @@ use Rattle.sv8_history.specs.Framed.{IsFramed}
 use Rattle.sv8_time.specs.Schedule.{Schedule, IsTimeline}
 use Rattle.sv8_phys.specs.Memory.{ram_size}
 use Rattle.sv8_source.specs.Text.{Text}
-use Rattle.sv8_cpu.specs.Units.{Units}
-use Rattle.sv8_cpu.specs.Access.{access}
+use Rattle.sv8_memory.specs.Units.{Units}
+use Rattle.sv8_memory.specs.Access.{access}
 use Rattle.sv8_iu.specs.declared.request.AccessRequest.{AccessRequest}
 use Rattle.sv8_cpu.specs.Run.{state_at, footprint}
 use Rattle.sv8_cpu.specs.Recorded.{machine, footprint_of, AreEvents, run_of}

@@ -8,7 +8,7 @@ use Rattle.sv8_phys.specs.Memory.{ram_size}
 use Rattle.sv8_phys.specs.Contents.{arrived, outside_of}
 use Rattle.sv8_source.specs.Text.{Text}
 use Rattle.sv8_cpu.specs.Step.{Inner, action}
-use Rattle.sv8_cpu.specs.Events.{with_events}
+use Rattle.sv8_memory.specs.Events.{with_events}
 use Rattle.sv8_cpu.specs.State.{State, reset_state, inner_of, left_by}
 
 -- the state behind the events of step n

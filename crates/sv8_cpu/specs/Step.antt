@@ -18,8 +18,8 @@ use Rattle.sv8_iu.specs.declared.request.Response.{Response}
 use Rattle.sv8_iu.specs.declared.request.Response.TheVariants.{Value, Refused}
 use Rattle.sv8_iu.specs.Memory.{low_word}
 use Rattle.sv8_iu.specs.Instruction.{raised, trapped, asked, complete}
-use Rattle.sv8_cpu.specs.Units.{Units, Served}
-use Rattle.sv8_cpu.specs.Access.{access}
+use Rattle.sv8_memory.specs.Units.{Units, Served}
+use Rattle.sv8_memory.specs.Access.{access}
 
 -- what is not outside
 pub record Inner : Type 0 where

@@ -15,8 +15,8 @@ use Rattle.sv8_phys.specs.Devices.{input_address}
 use Rattle.sv8_mmu.specs.Registers.{translates}
 use Rattle.sv8_iu.specs.declared.request.AccessRequest.{AccessRequest}
 use Rattle.sv8_iu.specs.Requests.{IsAligned}
-use Rattle.sv8_cpu.specs.Units.{Units}
-use Rattle.sv8_cpu.specs.Access.{access}
+use Rattle.sv8_memory.specs.Units.{Units}
+use Rattle.sv8_memory.specs.Access.{access}
 use Rattle.sv8_cpu.specs.State.{State}
 use Rattle.sv8_cpu.specs.Run.{step, footprint, observed}
 

@@ -7,7 +7,7 @@ use Rattle.sv8_phys.specs.Contents.{outside_of}
 use Rattle.sv8_cpu.specs.declared.parts.Parts.{Parts}
 use Rattle.sv8_cpu.specs.Step.{Inner, carried_out}
 use Rattle.sv8_cpu.specs.State.{State}
-use Rattle.sv8_cpu.specs.View.{units_of}
+use Rattle.sv8_memory.specs.View.{units_of}
 
 -- what is not outside
 abbrev pub inner_of_parts : {windows pages : ℕ} → Parts windows pages → Inner

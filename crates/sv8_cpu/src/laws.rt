@@ -6,7 +6,6 @@ ghost use Rattle.sv8_regs.specs.Ring.{read};
 ghost use Rattle.sv8_model.specs.Outside.{word_of};
 ghost use Rattle.sv8_cpu.specs.Examples.{counting, spinning, moving, saving, setting, calling, tagging, returning, run};
 ghost use Rattle.sv8_cpu.specs.RecordedLaws.{AccessFrames, StepFrames, RunsAgree, TimelinesServe};
-ghost use Rattle.sv8_cpu.specs.DeviceLaws.{DevicesAreServed};
 ghost use Rattle.sv8_cpu.specs.Frames.{EventsCome, StepsAreWhole, RunsAreWhole, SetsFrame, RunsFrame, CellsStay, BytesFrame, WaitingFrames, LevelsFrame, RequestedLevelsAgree};
 ghost use Rattle.sv8_cpu.specs.Touching.{SparedBytesStay, AccessesTouch, StepsTouch, FetchesTouch, AnnulledStepsPass};
 ghost use Rattle.sv8_cpu.specs.Trapping.{TrapsLeadThere, TrapTypesLeadThere};
@@ -182,14 +181,6 @@ pub fn levels_frame()
 /// behind the step, whatever it reads.
 pub fn requested_levels_agree()
     ensures { RequestedLevelsAgree }
-{}
-
-/// A load or a store at a physical address is answered exactly where the address is served, which is what a translation asks: RAM
-/// serves every size, the devices loads and stores of words alone. An exchange and a fetch are answered in RAM alone.
-///
-/// It holds where NF hides no fault; one that is hidden is answered with 0.
-pub fn devices_are_served()
-    ensures { DevicesAreServed }
 {}
 
 /// A byte of RAM whose word a step neither reads nor writes, and which no event of the step pokes, holds after the step what it held

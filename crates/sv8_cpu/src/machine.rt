@@ -13,13 +13,12 @@ ghost use Rattle.sv8_cpu.specs.State.{reset_state};
 ghost use Rattle.sv8_cpu.specs.Work.{counted};
 ghost use Rattle.sv8_cpu.specs.Whole.{state_of};
 
-use crate::events::end_of;
 use crate::loading::load;
-use crate::memory::Memory;
 use crate::parts::Parts;
 use crate::work::Work;
 use std::alloc::{AllocError, Global};
 use std::marker::Model;
+use sv8_memory::{Memory, end_of};
 use sv8_phys::{NoTouches, Phys, StepTouches, Touches};
 use sv8_source::Source;
 use sv8_time::Timeline;

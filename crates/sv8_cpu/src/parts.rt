@@ -10,13 +10,13 @@ ghost use Rattle.sv8_phys.specs.Memory.{ram_size};
 ghost use Rattle.sv8_phys.specs.Contents.{arrived};
 ghost use Rattle.sv8_iu.specs.Instruction.{raised};
 ghost use Rattle.sv8_cpu.specs.Step.{trap_seen, refusal_seen, answered, executed, carried_out, fetched, instruction, continued, requested, interruptible, awake, action};
-ghost use Rattle.sv8_cpu.specs.View.{units_of};
+ghost use Rattle.sv8_memory.specs.View.{units_of};
 ghost use Rattle.sv8_cpu.specs.Whole.{inner_of_parts, MachineDoes};
 
-use crate::memory::Memory;
 use std::alloc::AllocError;
 use sv8_isa::{Instr, decode};
 use sv8_iu::{AccessRequest, Response, asked, complete, low_word, raised_by, take_trap};
+use sv8_memory::Memory;
 use sv8_phys::{Observation, Touches};
 use sv8_time::Timeline;
 use sv8_trap::{Processor, Trap, highest_level};

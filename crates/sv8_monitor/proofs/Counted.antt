@@ -3,9 +3,9 @@ use Rattle.std.proofs.Common.{◌≡◌, ℕ, zero, suc, ◌+◌, ◌<◌, ◌�
 use Rattle.std.specs.List.{range_with_len}
 use Rattle.std.proofs.lemmas.List.FromFn.{length-range_with_len}
 use Rattle.sv8_session.specs.Put.{AppendsPart}
-use Rattle.sv8_shell.specs.Put.{Gained}
-use Rattle.sv8_shell.specs.Text.{numbered_text}
-use Rattle.sv8_shell.proofs.NumberedLemmas.{numbered-cut, numbered-next}
+use Rattle.sv8_commands.specs.Put.{Gained}
+use Rattle.sv8_commands.specs.Text.{numbered_text}
+use Rattle.sv8_commands.proofs.NumberedLemmas.{numbered-cut, numbered-next}
 
 take_range : (a n k : ℕ) → k ≤ n → take k (range_with_len a n) ≡ range_with_len a k
 take_range a n zero h = refl

@@ -3,8 +3,8 @@ use Rattle.std.proofs.Common.{◌≡◌, ℕ, Bool, true, List, Option, Some, No
 use Rattle.std.proofs.lemmas.Bool.{false≢true}
 use Rattle.sv8_bench.specs.declared.fault.BenchFault.{BenchFault}
 use Rattle.sv8_bench.specs.Kept.{Kept}
-use Rattle.sv8_shell.specs.declared.command.Command.{Command}
-use Rattle.sv8_shell.specs.declared.command.Command.TheVariants.{Listing, Regs, Mem, Out}
+use Rattle.sv8_commands.specs.declared.command.Command.{Command}
+use Rattle.sv8_commands.specs.declared.command.Command.TheVariants.{Listing, Regs, Mem, Out}
 use Rattle.sv8_shell.specs.Commands.{outcome_of}
 use Rattle.sv8_shell.specs.Outcome.{told, unless_refused, Answers, due, lacking}
 use Rattle.sv8_shell.specs.Put.{Replies}

@@ -5,6 +5,7 @@ pub mod Turned
 pub mod Falling
 pub mod Passed
 pub mod Passing
+pub mod Planning
 pub mod Sought
 pub mod Differing
 pub mod Parting

@@ -3,9 +3,9 @@ use Rattle.std.proofs.Common.{◌≡◌, ℕ, true, List, Option, Some, None, Re
 use Rattle.std.proofs.lemmas.Bool.{false≢true}
 use Rattle.sv8_session.specs.Language.{takes_lines}
 use Rattle.sv8_session.specs.Put.{Puts, Replies}
-use Rattle.sv8_shell.specs.Order as workbench_order
-use Rattle.sv8_shell.specs.Refusal.{bad_command}
-use Rattle.sv8_shell.specs.Text.{refusal_line}
+use Rattle.sv8_commands.specs.Order as workbench_order
+use Rattle.sv8_commands.specs.Refusal.{bad_command}
+use Rattle.sv8_commands.specs.Text.{refusal_line}
 use Rattle.sv8_shell.specs.Put as outcomes
 use Rattle.sv8_shell.specs.Session as workbench
 use Rattle.sv8_shell.proofs.AnswerLemmas.{reply-bad}

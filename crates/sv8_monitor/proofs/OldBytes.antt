@@ -1,6 +1,6 @@
 -- The bytes that conditions compare, in front of a step that meets none of them and after it.
-use Rattle.std.proofs.Common.{◌≡◌, ◌∙◌, ℕ, zero, suc, ◌+◌, ◌≤◌, ◌==◌, Bool, true, false, List, [], ◌∷◌, ◌++◌, length, take, drop, get_or, refl, sym, ap, ap₂, arith}
-use Rattle.std.specs.Prelude.{not, ◌||◌}
+use Rattle.std.proofs.Common.{◌≡◌, ◌∙◌, ℕ, zero, suc, ◌+◌, ◌≤◌, ◌<◌, ◌==◌, true, false, List, [], ◌∷◌, ◌++◌, length, take, drop, get_or, refl, sym, ap, ap₂, arith}
+use Rattle.std.specs.Prelude.{not}
 use Rattle.std.specs.List.{list_any}
 use Rattle.std.proofs.Math.Seq.{drop-cons}
 use Rattle.std.proofs.lemmas.Bool.{leb-true, and_parts, or_parts}
@@ -9,10 +9,14 @@ use Rattle.sv8_time.specs.Schedule.{Schedule}
 use Rattle.sv8_phys.specs.Memory.{ram_size}
 use Rattle.sv8_cpu.specs.State.{State}
 use Rattle.sv8_cpu.specs.Run.{step}
+use Rattle.sv8_cpu.proofs.Common.{ram_stays_long}
+use Rattle.sv8_bench.specs.Kept.{Kept}
+use Rattle.sv8_bench.specs.Shown.{machine_state}
 use Rattle.sv8_watch.specs.declared.condition.Condition.{Condition}
 use Rattle.sv8_watch.specs.declared.condition.Condition.TheVariants.{Pc, Load, Store, Touch, Change, Trap, TrapType, Error, Input, Output, Event, Every}
-use Rattle.sv8_watch.specs.Conditions.{differ_from, bytes_from, meets}
-use Rattle.sv8_monitor.specs.Search.{is_inside, are_inside, old_of, olds_of}
+use Rattle.sv8_watch.specs.Conditions.{differ_from, bytes_from, meets, meets_any}
+use Rattle.sv8_monitor.specs.Search.{is_inside, are_inside, is_wanted, old_of, olds_of}
+use Rattle.sv8_monitor.proofs.Searching.{next_state}
 
 equal_byte : (a b : ℕ) → not (a == b) ≡ false → a ≡ b
 equal_byte a b h = grind (arith, nat_tests, h)
@@ -59,3 +63,29 @@ module _ (windows pages : ℕ) (schedule : Schedule) (n : ℕ) (s : State) (afte
       let within = and_parts (is_inside (ram_size pages) c) (are_inside (ram_size pages) cs) inside in
       let missed = or_parts (meets windows pages schedule n s c) (list_any (meets windows pages schedule n s) cs) h in
       ap₂ (λ xs ys. xs ++ ys) (old_stays c is within.0 size longer missed.0) (olds_stay cs is within.1 size longer missed.1)
+
+-- several steps of which none is wanted
+module _ (kept : Kept) (cs : List Condition) (inside : are_inside (ram_size kept.pages) cs ≡ true) where
+  none_met : (n : ℕ) → is_wanted kept cs n ≡ false → list_any (meets kept.windows kept.pages kept.timeline n (machine_state kept n)) cs ≡ false
+  none_met n h = by_conditions cs h
+    where
+      by_conditions : (all : List Condition) → meets_any kept.windows kept.pages kept.timeline n (machine_state kept n) all ≡ false
+          → list_any (meets kept.windows kept.pages kept.timeline n (machine_state kept n)) all ≡ false
+      by_conditions [] h = refl
+      by_conditions (c ∷ others) h = h
+
+  long : (n : ℕ) → length (machine_state kept n).memory.ram ≡ ram_size kept.pages → length (machine_state kept (n + 1)).memory.ram ≡ ram_size kept.pages
+  long n size =
+      ap (λ (s : State). length s.memory.ram) (next_state kept n) ∙ ram_stays_long kept.windows kept.pages kept.timeline n (machine_state kept n) ∙ size
+
+  pub olds_pass : (more n : ℕ) → length (machine_state kept n).memory.ram ≡ ram_size kept.pages → ((i : ℕ) → n ≤ i → i < n + more → is_wanted kept cs i ≡ false)
+      → olds_of cs (machine_state kept n).memory.ram ≡ olds_of cs (machine_state kept (n + more)).memory.ram
+  olds_pass zero n size none =
+      let same : n ≡ n + 0 = omega arith in
+      ap (λ i. olds_of cs (machine_state kept i).memory.ram) same
+  olds_pass (suc more) n size none =
+      let there : n + 1 + more ≡ n + suc more = omega arith in
+      olds_stay kept.windows kept.pages kept.timeline n (machine_state kept n) (machine_state kept (n + 1)) cs (next_state kept n) inside size (long n size)
+      (none_met n (none n (omega arith) (omega arith)))
+      ∙ olds_pass more (n + 1) (long n size) (λ i low high. none i (omega (arith, low)) (omega (arith, high)))
+      ∙ ap (λ i. olds_of cs (machine_state kept i).memory.ram) there

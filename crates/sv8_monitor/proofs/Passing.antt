@@ -1,5 +1,5 @@
 -- Steps of a rising search that are passed over: none of them is wanted, so what is left to tell is what was left before them.
-use Rattle.std.proofs.Common.{◌≡◌, ◌∙◌, ℕ, zero, suc, ◌+◌, ◌-◌, ◌/◌, ◌<◌, ◌≤◌, Bool, false, List, ◌++◌, map, Result, Ok, Err, OnErr, refl, sym, ap, subst, arith}
+use Rattle.std.proofs.Common.{◌≡◌, ◌∙◌, inl, ℕ, zero, suc, ◌+◌, ◌-◌, ◌/◌, ◌<◌, ◌≤◌, Bool, false, List, ◌++◌, map, Result, Ok, Err, OnErr, refl, sym, ap, subst, arith}
 use Rattle.sv8_trace.specs.Recorder.{counted_by}
 use Rattle.sv8_bench.specs.Kept.{Kept}
 use Rattle.sv8_bench.specs.Workbench.{Workbench}
@@ -82,6 +82,10 @@ tried_stopped k n to old new pos high t =
       most = omega (arith, most, below);
       worked = raised_tried n n to old.worked old.worked new.worked (omega arith) high (ap (λ i. counted_by i old.worked) none) t.worked;
     }
+
+-- or no step was tried
+pub untried_stopped : (k n to : ℕ) (w : Workbench) → 0 < k → n < to → IsStopped k n to w w
+untried_stopped k n to w pos high = tried_stopped k n to w w pos high (record { kept = refl; fewest = omega arith; most = omega arith; worked = inl refl })
 
 -- where there is an error, as where there is none
 pub on_any_err : {A E P : Type 0} (r : Result A E) → P → OnErr r P

@@ -7,7 +7,7 @@ use Rattle.sv8_time.specs.declared.requests.Request.{Request}
 use Rattle.sv8_time.specs.Words.{poked_from, poked_bytes, bytes_of_words, is_poked, word_before, IsWordIn}
 use Rattle.sv8_time.specs.declared.words.WordPoke.{WordPoke}
 use Rattle.sv8_time.proofs.Parts.{each_append, each_passes}
-use Rattle.sv8_shell.specs.Text.{numbered_text}
+use Rattle.sv8_commands.specs.Text.{numbered_text}
 use Rattle.sv8_monitor.specs.Events.{byte_line, word_line, is_word, pokes_text, some_line, four_lines, lines_of_word, word_lines, words_text, input_text, requests_text, step_events}
 
 each_parts : {X : Type 0} (P : X → Type 0) (xs ys : List X) → Each P (xs ++ ys) → Each P xs × Each P ys

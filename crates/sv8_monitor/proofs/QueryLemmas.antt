@@ -3,7 +3,8 @@ use Rattle.std.proofs.Common.{◌≡◌, ℕ, ◌+◌, ◌-◌, ◌<◌, ◌≤�
 use Rattle.sv8_time.specs.Schedule.{Schedule}
 use Rattle.sv8_source.specs.Listing.{ListedLine}
 use Rattle.sv8_bench.specs.declared.fault.BenchFault.TheVariants.{StepTooLarge}
-use Rattle.sv8_shell.specs.Text.{numbered_text, listing_line}
+use Rattle.sv8_commands.specs.Text.{numbered_text}
+use Rattle.sv8_shell.specs.Text.{listing_line}
 use Rattle.sv8_monitor.specs.Comparing.{range_refusal}
 use Rattle.sv8_monitor.specs.Events.{events_text}
 

@@ -1,8 +1,8 @@
 -- Which questions lines ask: of the workbench's own commands those alone that ask.
 use Rattle.std.proofs.Common.{◌≡◌, ℕ, Bool, true, false, cond, List, [], ◌∷◌, Option, Some, None, IfSome, option_and_then, option_map, codes, bytes_eq, refl, subst}
-use Rattle.sv8_shell.specs.declared.command.Command.{Command}
-use Rattle.sv8_shell.specs.Commands.{command_of}
-use Rattle.sv8_shell.specs.Words.{first_number}
+use Rattle.sv8_commands.specs.declared.command.Command.{Command}
+use Rattle.sv8_commands.specs.Commands.{command_of}
+use Rattle.sv8_commands.specs.Words.{first_number}
 use Rattle.sv8_monitor.specs.declared.question.Query.{Query}
 use Rattle.sv8_monitor.specs.declared.question.Question.{Question}
 use Rattle.sv8_monitor.specs.declared.question.Question.TheVariants.{Now, BeforeCommand, Keep, Part, Differ}

@@ -6,19 +6,20 @@ use Rattle.std.proofs.Math.Nat.{div-add-mod, mul_comm}
 use Rattle.std.proofs.lemmas.Nat.{mod-mul-add}
 use Rattle.std.proofs.lemmas.Bool.Decides.{nat_tests}
 use Rattle.sv8_cpu.specs.State.{State}
-use Rattle.sv8_cpu.specs.Run.{step}
 use Rattle.sv8_cpu.specs.Trapping.{may_have_trapped, may_have_trapped_of}
 use Rattle.sv8_cpu.proofs.Common.{consoles_grow}
+use Rattle.sv8_trace.specs.declared.signs.Sign.TheVariants as sign
 use Rattle.sv8_watch.specs.declared.condition.Condition.TheVariants as condition
 use Rattle.sv8_watch.specs.Happening.{happening, stands_at}
 use Rattle.sv8_watch.specs.Conditions.{meets}
+use Rattle.sv8_watch.specs.Quiet.{TakesNoTrap}
 use Rattle.sv8_watch.proofs.Running.{running_steps_miss}
 use Rattle.sv8_watch.proofs.Quiet.{trapless_steps_miss, other_types_miss, quiet_steps_miss}
 use Rattle.sv8_bench.specs.Kept.{Kept}
 use Rattle.sv8_bench.specs.Shown.{machine_state}
-use Rattle.sv8_bench.specs.Touching.{IsTrapless, TakesNoneOf}
+use Rattle.sv8_bench.specs.Touching.{ShowsNone}
 use Rattle.sv8_bench.specs.Workbench.{Workbench}
-use Rattle.sv8_monitor.specs.Search.{MeetsNone}
+use Rattle.sv8_monitor.specs.Search.{MeetsNone, meets_at}
 use Rattle.sv8_monitor.proofs.Searching.{next_state}
 
 module _ (kept : Kept) where
@@ -108,24 +109,25 @@ module _ (kept : Kept) where
 
 -- ---- traps
 
-pub none_traps : (k : ℕ) (w : Workbench) (from to : ℕ) (b : Bool) (Q : Type 0) → MatchBool b (IsTrapless k w from to) Q → b ≡ true → MeetsNone w.kept condition.Trap from to
-none_traps k w from to b Q h e n low below = (trapless_steps_miss w.kept.windows w.kept.pages w.kept.timeline n (machine_state w.kept n) apart).none
-  where
-    it : IsTrapless k w from to
-    it = subst (λ x. MatchBool x (IsTrapless k w from to) Q) e h
+module _ (k : ℕ) (w : Workbench) (from to n : ℕ) (low : from ≤ n) (below : n < to) where
+  pub takes_no_trap : ShowsNone sign.Trap k w from to → TakesNoTrap w.kept.windows w.kept.pages w.kept.timeline n (machine_state w.kept n)
+  takes_no_trap it =
+      trapless_steps_miss w.kept.windows w.kept.pages w.kept.timeline n (machine_state w.kept n)
+      (ap (λ (s : State). may_have_trapped (machine_state w.kept n).processor s.processor) (sym (next_state w.kept n)) ∙ it.apart n low below)
 
-    apart : may_have_trapped (machine_state w.kept n).processor (step w.kept.windows w.kept.pages w.kept.timeline n (machine_state w.kept n)).processor ≡ false
-    apart = ap (λ (s : State). may_have_trapped (machine_state w.kept n).processor s.processor) (sym (next_state w.kept n)) ∙ it.apart n low below
+  pub takes_no_type : (type : ℕ) → ShowsNone (sign.TrapType type) k w from to → meets_at w.kept (condition.TrapType type) n ≡ false
+  takes_no_type type it =
+      other_types_miss type w.kept.windows w.kept.pages w.kept.timeline n (machine_state w.kept n)
+      (ap (λ (s : State). may_have_trapped_of type (machine_state w.kept n).processor s.processor) (sym (next_state w.kept n)) ∙ it.apart n low below)
 
-pub none_traps_of : (k : ℕ) (w : Workbench) (type from to : ℕ) (b : Bool) (Q : Type 0) → MatchBool b (TakesNoneOf k w type from to) Q → b ≡ true
+pub none_traps : (k : ℕ) (w : Workbench) (from to : ℕ) (b : Bool) (Q : Type 0) → MatchBool b (ShowsNone sign.Trap k w from to) Q → b ≡ true
+    → MeetsNone w.kept condition.Trap from to
+none_traps k w from to b Q h e n low below = (takes_no_trap k w from to n low below (subst (λ x. MatchBool x (ShowsNone sign.Trap k w from to) Q) e h)).none
+
+pub none_traps_of : (k : ℕ) (w : Workbench) (type from to : ℕ) (b : Bool) (Q : Type 0) → MatchBool b (ShowsNone (sign.TrapType type) k w from to) Q → b ≡ true
     → MeetsNone w.kept (condition.TrapType type) from to
-none_traps_of k w type from to b Q h e n low below = other_types_miss type w.kept.windows w.kept.pages w.kept.timeline n (machine_state w.kept n) apart
-  where
-    it : TakesNoneOf k w type from to
-    it = subst (λ x. MatchBool x (TakesNoneOf k w type from to) Q) e h
-
-    apart : may_have_trapped_of type (machine_state w.kept n).processor (step w.kept.windows w.kept.pages w.kept.timeline n (machine_state w.kept n)).processor ≡ false
-    apart = ap (λ (s : State). may_have_trapped_of type (machine_state w.kept n).processor s.processor) (sym (next_state w.kept n)) ∙ it.apart n low below
+none_traps_of k w type from to b Q h e n low below =
+    takes_no_type k w from to n low below type (subst (λ x. MatchBool x (ShowsNone (sign.TrapType type) k w from to) Q) e h)
 
 -- ---- multiples
 

@@ -10,7 +10,8 @@ use Rattle.sv8_bench.specs.Faults.{step_refusal}
 use Rattle.sv8_bench.specs.Kept.{Kept}
 use Rattle.sv8_bench.specs.Shown.{machine_state}
 use Rattle.sv8_shell.specs.Outcome.{Outcome, told, unless_refused}
-use Rattle.sv8_shell.specs.Text.{numbered_text, listing_line}
+use Rattle.sv8_commands.specs.Text.{numbered_text}
+use Rattle.sv8_shell.specs.Text.{listing_line}
 use Rattle.sv8_monitor.specs.declared.question.Query.{Query}
 use Rattle.sv8_monitor.specs.declared.question.Query.TheVariants.{Steps, Windows, Where, Lines, Names, Events}
 use Rattle.sv8_monitor.specs.Search.{are_inside, found_at, steps_told}

@@ -2,7 +2,7 @@
 use Rattle.std.specs.Prelude.{ℕ, zero, suc, List, [], ◌∷◌, Option, Some, None, if◌then◌else◌, codes, bytes_eq, nat_lt, nat_le, ◌&&◌, option_and_then, option_map}
 use Rattle.sv8_watch.specs.declared.condition.Condition.{Condition}
 use Rattle.sv8_watch.specs.declared.condition.Condition.TheVariants.{Pc, Load, Store, Touch, Change, Trap, TrapType, Error, Input, Output, Event, Every}
-use Rattle.sv8_shell.specs.Words.{first_number, first_hex}
+use Rattle.sv8_commands.specs.Words.{first_number, first_hex}
 
 -- something that was read, with the words after it
 abbrev pub Reading : Type 0 → Type 0

@@ -4,7 +4,7 @@ use Rattle.std.specs.List.{range_with_len}
 use Rattle.sv8_time.specs.Schedule.{Schedule, BytePoke, poke_of, pokes_of_step, bytes_of_step, requests_of_step}
 use Rattle.sv8_time.specs.declared.requests.Request.{Request}
 use Rattle.sv8_time.specs.declared.words.WordPoke.{WordPoke}
-use Rattle.sv8_shell.specs.Text.{hex_byte, hex_word, numbered_text}
+use Rattle.sv8_commands.specs.Text.{hex_byte, hex_word, numbered_text}
 
 -- ---- pokes
 

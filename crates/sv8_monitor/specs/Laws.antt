@@ -1,8 +1,8 @@
 -- The monitor over scripts that ask nothing of it.
 use Rattle.std.specs.Prelude.{◌≡◌, ◌↔◌, ℕ, List, [], ◌∷◌, map, None, ⊤}
 use Rattle.sv8_session.specs.Script.{Stage, idle, taking, over, step, all_lines, text_of}
-use Rattle.sv8_shell.specs.Words.{words_of}
-use Rattle.sv8_shell.specs.Order as workbench_order
+use Rattle.sv8_commands.specs.Words.{words_of}
+use Rattle.sv8_commands.specs.Order as workbench_order
 use Rattle.sv8_shell.specs.Session as workbench
 use Rattle.sv8_shell.specs.Script as workbench_script
 use Rattle.sv8_monitor.specs.Questions.{question_of}

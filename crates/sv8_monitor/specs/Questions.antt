@@ -1,9 +1,9 @@
 -- How words read as questions of the monitor.
 use Rattle.std.specs.Prelude.{◌≡◌, ℕ, Bool, true, false, List, [], ◌∷◌, Option, Some, None, Result, Ok, Err, if◌then◌else◌, codes, bytes_eq, ◌||◌, ◌&&◌, option_and_then, option_map}
-use Rattle.sv8_shell.specs.declared.command.Command.{Command}
-use Rattle.sv8_shell.specs.declared.command.Command.TheVariants.{Edit, Poke, ClearPoke, PokeByte, ClearPokeByte, Input, ClearInput, Request, ClearRequest, Listing, Regs, Mem, Out, Quit}
-use Rattle.sv8_shell.specs.Words.{first_number, first_hex}
-use Rattle.sv8_shell.specs.Commands.{command_of}
+use Rattle.sv8_commands.specs.declared.command.Command.{Command}
+use Rattle.sv8_commands.specs.declared.command.Command.TheVariants.{Edit, Poke, ClearPoke, PokeByte, ClearPokeByte, Input, ClearInput, Request, ClearRequest, Listing, Regs, Mem, Out, Quit}
+use Rattle.sv8_commands.specs.Words.{first_number, first_hex}
+use Rattle.sv8_commands.specs.Commands.{command_of}
 use Rattle.sv8_monitor.specs.declared.question.Query.{Query}
 use Rattle.sv8_monitor.specs.declared.question.Query.TheVariants.{Steps, Windows, Where, Lines, Names, Events}
 use Rattle.sv8_monitor.specs.declared.question.Question.{Question}

@@ -24,9 +24,13 @@ found_at k n = record { step = n; happening = happening k.windows k.pages k.time
 abbrev pub is_wanted : Kept → List Condition → ℕ → Bool
 is_wanted k cs n = meets_any k.windows k.pages k.timeline n (machine_state k n) cs
 
+-- step n meets a condition
+abbrev pub meets_at : Kept → Condition → ℕ → Bool
+meets_at k c n = meets k.windows k.pages k.timeline n (machine_state k n) c
+
 -- no step from one on and below another meets a condition
 abbrev pub MeetsNone : Kept → Condition → ℕ → ℕ → Type 0
-MeetsNone k c from to = (n : ℕ) → from ≤ n → n < to → meets k.windows k.pages k.timeline n (machine_state k n) c ≡ false
+MeetsNone k c from to = (n : ℕ) → from ≤ n → n < to → meets_at k c n ≡ false
 
 abbrev pub wanted_found : Kept → List Condition → ℕ → Option Found
 wanted_found k cs n = if is_wanted k cs n then Some (found_at k n) else None

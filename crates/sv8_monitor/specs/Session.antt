@@ -4,7 +4,7 @@ use Rattle.sv8_bench.specs.declared.fault.BenchFault.{BenchFault}
 use Rattle.sv8_bench.specs.declared.fault.BenchFault.TheVariants.{OutOfMemory}
 use Rattle.sv8_bench.specs.Faults.{IsQueryFault}
 use Rattle.sv8_shell.specs.Refusal.{refusal_of}
-use Rattle.sv8_shell.specs.Text.{ok_line, refusal_line}
+use Rattle.sv8_commands.specs.Text.{ok_line, refusal_line}
 use Rattle.sv8_bench.specs.Kept.{Kept, empty}
 use Rattle.sv8_session.specs.declared.begun.Begun.{Begun}
 use Rattle.sv8_session.specs.declared.begun.Begun.TheVariants.{Bad, Takes}
@@ -12,8 +12,8 @@ use Rattle.sv8_session.specs.Language.{Language}
 use Rattle.sv8_session.specs.Session as session
 use Rattle.sv8_session.specs.Run as session_run
 use Rattle.sv8_session.specs.Script as script
-use Rattle.sv8_shell.specs.Words.{words_of}
-use Rattle.sv8_shell.specs.Order as shell_order
+use Rattle.sv8_commands.specs.Words.{words_of}
+use Rattle.sv8_commands.specs.Order as shell_order
 use Rattle.sv8_shell.specs.Commands.{outcome_of}
 use Rattle.sv8_shell.specs.Outcome.{Outcome, Answers}
 use Rattle.sv8_shell.specs.Session as shell_session

@@ -6,7 +6,7 @@ ghost use Rattle.sv8_bench.specs.Faults.{step_refusal, IsQueryFault};
 ghost use Rattle.sv8_bench.specs.Workbench.{IsAnswered};
 ghost use Rattle.sv8_session.specs.Put.{Puts};
 ghost use Rattle.sv8_shell.specs.Put.{Replies};
-ghost use Rattle.sv8_shell.specs.Text.{ok_line};
+ghost use Rattle.sv8_commands.specs.Text.{ok_line};
 ghost use Rattle.sv8_monitor.specs.Answers.{steps_refusal, are_lines, lines_told, query_outcome};
 ghost use Rattle.sv8_monitor.specs.Events.{events_text};
 ghost use Rattle.sv8_monitor.specs.Search.{found_at, steps_told, are_inside};
@@ -23,12 +23,12 @@ use crate::search::steps;
 use crate::window_lines::put_windows;
 use std::io::Write;
 use sv8_bench::{Bench, BenchFault, DefinedName, LAST_STEP};
+use sv8_commands::put::{WriteFault, accept, done, refuse};
+use sv8_commands::text::Text;
 use sv8_cpu::Place;
 use sv8_regs::Regs;
 use sv8_shell::listing::add_lines;
-use sv8_shell::put::{WriteFault, accept, done, refuse};
 use sv8_shell::refusal::refusal_of;
-use sv8_shell::text::Text;
 use sv8_time::Timeline;
 
 /// Answers a question of a workbench.

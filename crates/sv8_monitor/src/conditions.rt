@@ -1,12 +1,12 @@
 //! Conditions on steps, and how words read as them.
 
 ghost use Rattle.std.specs.Prelude.{◌≡◌, ℕ, ◌+◌, ◌-◌, ◌<◌, ◌≤◌, ◌++◌, ◌∷◌, [], List, length, Some, None, MatchResult, MatchOption};
-ghost use Rattle.sv8_shell.specs.Words.{words_of};
+ghost use Rattle.sv8_commands.specs.Words.{words_of};
 ghost use Rattle.sv8_monitor.specs.Conditions.{first_up_to, first_span, pc_of, load_of, store_of, touch_of, change_of, trap_type_of, every_of, condition_of, conditions_of};
 
 use arrayvec::ArrayVec;
 use std::marker::Model;
-use sv8_shell::{BadCommand, next_word, read_hex, read_hex_byte, read_number};
+use sv8_commands::{BadCommand, next_word, read_hex, read_hex_byte, read_number};
 use sv8_watch::Condition;
 
 /// How many conditions a line may have.

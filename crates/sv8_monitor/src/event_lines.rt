@@ -2,15 +2,15 @@
 
 ghost use Rattle.std.specs.Prelude.{◌≡◌, ◌+◌, ◌%◌, ◌≤◌, ◌++◌, length, codes, decimal, slice_index};
 ghost use Rattle.sv8_time.specs.Schedule.{poke_of};
-ghost use Rattle.sv8_shell.specs.Put.{Gains};
-ghost use Rattle.sv8_shell.specs.Text.{hex_byte};
+ghost use Rattle.sv8_commands.specs.Put.{Gains};
+ghost use Rattle.sv8_commands.specs.Text.{hex_byte};
 ghost use Rattle.sv8_monitor.specs.Events.{poke_place, byte_line, word_line, some_line, four_lines, word_lines, digits_text, input_text, request_line, requests_text, step_events, events_text};
 
 use crate::piece::{Piece, put_pieces};
 use itoa::Buffer;
 use std::io::Write;
-use sv8_shell::put::{WriteFault, add_all};
-use sv8_shell::text::{Text, hex_byte};
+use sv8_commands::put::{WriteFault, add_all};
+use sv8_commands::text::{Text, hex_byte};
 use sv8_time::{Events, Request, Timeline, WordPoke};
 
 /// A name, a step and an address.

@@ -11,7 +11,7 @@ ghost use Rattle.sv8_watch.specs.Conditions.{meets};
 ghost use Rattle.sv8_watch.specs.Happening.{stands_at};
 ghost use Rattle.sv8_monitor.specs.Search.{are_inside, is_inside, is_wanted, MeetsNone};
 
-use sv8_bench::Bench;
+use sv8_bench::{Bench, Sign};
 use sv8_time::Timeline;
 use sv8_watch::{Condition, stands_at};
 
@@ -55,7 +55,7 @@ fn traps_none<const NW: usize, const PAGES: usize, const K: u32>(
 ) -> bool
     ensures { result ≡ true → MeetsNone bench.now.kept condition.Trap from to }
 {
-    bench.is_trapless(from, to)
+    bench.shows_none(Sign::Trap, from, to)
 }
 
 /// Whether the record shows that no step of a range takes a trap or an interrupt of a type.
@@ -67,7 +67,7 @@ fn takes_none_of<const NW: usize, const PAGES: usize, const K: u32>(
 ) -> bool
     ensures { result ≡ true → MeetsNone bench.now.kept (condition.TrapType trap_type) from to }
 {
-    bench.takes_none_of(trap_type, from, to)
+    bench.shows_none(Sign::TrapType(trap_type), from, to)
 }
 
 /// Whether the record shows that no step of a range leads to error mode: the machine runs at the checkpoint at its end.
@@ -86,7 +86,7 @@ fn errs_none<const NW: usize, const PAGES: usize, const K: u32>(
 
 /// Whether the record shows that no step of a range takes a byte from the console: at the checkpoints at both ends as many
 /// have been taken.
-fn takes_none<const NW: usize, const PAGES: usize, const K: u32>(
+pub(crate) fn takes_none<const NW: usize, const PAGES: usize, const K: u32>(
     bench: &Bench<NW, PAGES, K>,
     from: u32,
     to: u32,
@@ -104,7 +104,7 @@ fn takes_none<const NW: usize, const PAGES: usize, const K: u32>(
 
 /// Whether the record shows that no step of a range puts a byte out at the console: at the checkpoints at both ends the next
 /// one has the same place.
-fn puts_none<const NW: usize, const PAGES: usize, const K: u32>(
+pub(crate) fn puts_none<const NW: usize, const PAGES: usize, const K: u32>(
     bench: &Bench<NW, PAGES, K>,
     from: u32,
     to: u32,

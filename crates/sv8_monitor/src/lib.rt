@@ -1,4 +1,4 @@
-//! The monitor: what happened in the run of a workbench, and what a change changed.
+//! The monitor: what happened in the run of a workbench, and what a change changed. The program over it.
 #![tactic(auto)]
 
 mod answers;
@@ -15,6 +15,8 @@ mod lines;
 mod monitor;
 mod old_bytes;
 mod piece;
+mod plan;
+mod program;
 mod question;
 mod search;
 mod step_lines;
@@ -26,5 +28,6 @@ pub use difference::Difference;
 pub use driver::run;
 pub use found::Found;
 pub use monitor::{Monitor, Monitoring};
+pub use program::Sparc8Monitor;
 pub use question::{Query, Question, parse_question};
 pub use search::steps;

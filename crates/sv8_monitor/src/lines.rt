@@ -2,8 +2,8 @@
 
 ghost use Rattle.std.specs.Prelude.{◌≡◌, ◌+◌, ◌≤◌, ◌++◌, length, map};
 ghost use Rattle.sv8_source.specs.View.{named_of};
-ghost use Rattle.sv8_shell.specs.Put.{Gains};
-ghost use Rattle.sv8_shell.specs.Text.{hex_word};
+ghost use Rattle.sv8_commands.specs.Put.{Gains};
+ghost use Rattle.sv8_commands.specs.Text.{hex_word};
 ghost use Rattle.sv8_monitor.specs.Texts.{page_text, place_text, name_kind_text, name_line, names_text, parted_text, difference_line};
 
 use crate::difference::Difference;
@@ -11,9 +11,9 @@ use crate::piece::Piece;
 use crate::step_lines::add_physical;
 use std::io::Write;
 use sv8_bench::{DefinedName, NameKind};
+use sv8_commands::put::{WriteFault, add_all};
+use sv8_commands::text::{Text, hex_word};
 use sv8_cpu::{PagePlace, Place};
-use sv8_shell::put::{WriteFault, add_all};
-use sv8_shell::text::{Text, hex_word};
 
 /// The level of an entry, and its access field.
 fn add_page(text: &mut Text, page: Option<PagePlace>)

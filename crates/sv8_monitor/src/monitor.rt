@@ -1,16 +1,16 @@
 //! The commands of the monitor, as the loop asks for them.
 
-ghost use Rattle.std.specs.Prelude.{◌≡◌, ℕ, ◌++◌, List, min, take, true, IfOk, OnOk, OnErr};
+ghost use Rattle.std.specs.Prelude.{◌≡◌, ◌≤◌, ℕ, ◌++◌, List, min, take, true, IfOk, OnOk, OnErr};
 ghost use Rattle.sv8_session.specs.Gathers.{texts};
 ghost use Rattle.sv8_session.specs.Put.{Puts, Replies};
 ghost use Rattle.sv8_trace.specs.Recording.{recorded};
 ghost use Rattle.sv8_bench.specs.Alike.{AreAlikeUpTo};
 ghost use Rattle.sv8_shell.specs.Put as outcomes;
 ghost use Rattle.sv8_shell.specs.Session as workbench;
-ghost use Rattle.sv8_shell.specs.Text.{ok_line};
+ghost use Rattle.sv8_commands.specs.Text.{ok_line};
 ghost use Rattle.sv8_monitor.specs.Answers.{differ_outcome};
 ghost use Rattle.sv8_monitor.specs.Questions.{asks, is_answerable};
-ghost use Rattle.sv8_monitor.specs.Session.{Both, Order, ask, begins_read, kept_of, language, shell};
+ghost use Rattle.sv8_monitor.specs.Session.{Both, Order, ask, begins_read, kept_of, language, new_pair, shell};
 ghost use Rattle.sv8_monitor.specs.Texts.{parted_text, differences_text};
 ghost use Rattle.sv8_monitor.specs.declared.question.Question.TheVariants.{BeforeCommand, Keep, Part, Differ};
 
@@ -20,15 +20,16 @@ use crate::difference::Difference;
 use crate::lines::add_parted;
 use crate::piece::put_pieces;
 use crate::question::{Question, parse_question};
-use std::alloc::AllocError;
+use std::alloc::{AllocError, Global};
 use std::io::Write;
 use std::marker::Model;
 use sv8_bench::{Bench, BenchFault, LAST_STEP};
+use sv8_commands::put::{WriteFault, accept, done, refuse};
+use sv8_commands::text::Text;
+use sv8_commands::{Command, bad_command};
 use sv8_session::{Begun, Commands};
-use sv8_shell::put::{WriteFault, accept, done, refuse};
-use sv8_shell::refusal::{bad_command, refusal_of};
-use sv8_shell::text::Text;
-use sv8_shell::{Command, Effect, Shell, answer, answer_line};
+use sv8_shell::refusal::refusal_of;
+use sv8_shell::{Effect, Shell, answer, answer_line};
 
 /// A workbench that is edited, and the one that was kept of it.
 #[derive(Drop)]
@@ -118,6 +119,15 @@ impl<const NW: usize, const PAGES: usize, const K: u32> Commands for Monitoring<
     ghost Order = { Order };
 
     ghost language = { language };
+
+    ghost has_states = { (2 ≤ NW) × (NW ≤ 32) × (1 ≤ PAGES) × (PAGES ≤ 65536) × (1 ≤ K) × (K ≤ 1000000) };
+
+    ghost new_kept = { new_pair NW PAGES };
+
+    fn new_state(alloc: Global) -> Result<Monitor<NW, PAGES, K>, AllocError> {
+        let bench = Bench::new(alloc)?;
+        Monitor::new(bench)
+    }
 
     fn begins(text: &[u8]) -> Begun {
         match parse_question(text) {

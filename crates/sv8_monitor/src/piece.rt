@@ -1,11 +1,11 @@
 //! Pieces of an answer's text, one after the other.
 
-ghost use Rattle.sv8_shell.specs.Put.{Gains};
-ghost use Rattle.sv8_shell.specs.Text.{numbered_text};
+ghost use Rattle.sv8_commands.specs.Put.{Gains};
+ghost use Rattle.sv8_commands.specs.Text.{numbered_text};
 
 use std::io::Write;
-use sv8_shell::put::{WriteFault, make_room};
-use sv8_shell::text::Text;
+use sv8_commands::put::{WriteFault, make_room};
+use sv8_commands::text::Text;
 
 /// How long the text of a piece is at most.
 const LONGEST: usize = 160;

@@ -1,13 +1,13 @@
 //! What the monitor is asked, and how a line reads as a question.
 
 ghost use Rattle.std.specs.Prelude.{◌≡◌, ℕ, ◌∷◌, [], List, Some, None, MatchResult, option_and_then, option_map};
-ghost use Rattle.sv8_shell.specs.Words.{words_of};
-ghost use Rattle.sv8_shell.specs.Commands.{command_of};
+ghost use Rattle.sv8_commands.specs.Words.{words_of};
+ghost use Rattle.sv8_commands.specs.Commands.{command_of};
 ghost use Rattle.sv8_monitor.specs.declared.question.Question.TheVariants.{Now};
 ghost use Rattle.sv8_monitor.specs.Questions.{alone, steps_of, windows_of, where_of, lines_of, events_of, query_of, asks, if_asks, before_of, part_of, differ_of, named_of, some_word, is_own_name, question_of, Reads};
 
 use crate::conditions::{Conditions, read_conditions};
-use sv8_shell::{BadCommand, Command, next_word, parse_command, read_hex, read_number};
+use sv8_commands::{BadCommand, Command, next_word, parse_command, read_hex, read_number};
 
 /// A question about one workbench. Steps and numbers of lines are as its commands have them.
 #[derive(Drop)]

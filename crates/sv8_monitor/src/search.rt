@@ -15,12 +15,13 @@ ghost use Rattle.sv8_watch.specs.Watched.{IsBefore, happening_of};
 ghost use Rattle.sv8_bench.specs.Shown.{machine_state};
 ghost use Rattle.sv8_bench.specs.Walks.{IsWalk, IsMade};
 ghost use Rattle.sv8_bench.specs.Workbench.{checkpoints};
+ghost use Rattle.sv8_monitor.specs.Plans.{IsPlan};
 ghost use Rattle.sv8_monitor.specs.Search.{olds_of, old_count, olds_count, is_inside, are_inside, any_met, found_at, found_if, is_wanted, wanted_found, rising, looked_to, sought_to, steps_told, IsSearched, IsAdded, IsSought, IsTried, IsWalked, IsStopped, IsAbandoned};
 
 use crate::descent::search_down;
-use crate::evidence::show_none;
 use crate::found::Found;
 use crate::old_bytes::{look_again, look_at_old, old_count};
+use crate::plan::Plan;
 use std::alloc::AllocError;
 use sv8_bench::{Bench, BenchFault, LAST_STEP, Walk};
 use sv8_cpu::Machine;
@@ -235,88 +236,30 @@ fn look<const NW: usize, const PAGES: usize, const K: u32>(
     Ok(rest)
 }
 
-/// Up to which step the record shows that none is wanted, from one on with which an interval begins; the step itself
-/// where it does not.
-#[inline(never)]
-fn shown_to<const NW: usize, const PAGES: usize, const K: u32>(
-    bench: &Bench<NW, PAGES, K>,
-    conditions: &[Condition],
-    step: u32,
-    to: u32,
-) -> u32
-    requires below { step < to }
-    requires within { to ≤ 1000000 }
-    requires inside { are_inside (ram_size PAGES) conditions.now ≡ true }
-    ensures none { (n : ℕ) → step ≤ n → n < result → is_wanted bench.now.kept conditions.now n ≡ false }
-    ensures ordered { step ≤ result }
-    ensures end { result ≤ to }
-    ensures recorded { step < result → result / K ≤ checkpoints bench.now }
-{
-    bench.sizes();
-    let end = to.min(step + K);
-    if show_none(bench, conditions, step, end) {
-        return end;
-    }
-    step
-}
-
-/// The same for any step. Of one with which no interval begins it answers the step itself, and looks no further.
-#[inline(always)]
-fn passable<const NW: usize, const PAGES: usize, const K: u32>(
-    bench: &Bench<NW, PAGES, K>,
-    conditions: &[Condition],
-    step: u32,
-    to: u32,
-) -> u32
-    requires below { step < to }
-    requires within { to ≤ 1000000 }
-    requires inside { are_inside (ram_size PAGES) conditions.now ≡ true }
-    ensures none { (n : ℕ) → step ≤ n → n < result → is_wanted bench.now.kept conditions.now n ≡ false }
-    ensures ordered { step ≤ result }
-    ensures end { result ≤ to }
-    ensures recorded { step < result → result / K ≤ checkpoints bench.now }
-{
-    bench.sizes();
-    if step % K == 0 {
-        return shown_to(bench, conditions, step, to);
-    }
-    step
-}
-
 /// Makes the steps of a walk up to another one, which is recorded up to its last checkpoint, with nothing seen of them.
-/// `old` are the bytes that the conditions compare, before and afterwards.
 #[inline(never)]
 fn pass_over<const NW: usize, const PAGES: usize, const K: u32>(
     bench: &mut Bench<NW, PAGES, K>,
     walk: &mut Walk<NW, PAGES>,
     watch: &mut Watch,
-    conditions: &[Condition],
-    old: &mut Vec<u8>,
     end: u32,
 ) -> Result<(), AllocError>
-    requires few_windows { NW ≤ 32 }
-    requires few_pages { PAGES ≤ 65536 }
     requires walk { IsWalk K bench.old walk.old }
     requires ordered { walk.old.step ≤ end }
     requires within { end ≤ 1000000 }
     requires recorded { end / K ≤ checkpoints bench.old }
-    requires inside { are_inside (ram_size PAGES) conditions.now ≡ true }
-    requires count { length old.old.items ≡ olds_count conditions.now }
     ensures walk { OnOk result (IsWalk K bench.new walk.new) }
     ensures step { OnOk result (walk.new.step ≡ end) }
     ensures walked { OnOk result (IsWalked K walk.old.step end bench.old bench.new) }
-    ensures bytes { OnOk result (old.new.items ≡ olds_of conditions.now (machine_state bench.old.kept end).memory.ram) }
-    ensures count { OnOk result (length old.new.items ≡ olds_count conditions.now) }
     ensures stopped { IsStopped K walk.old.step end bench.old bench.new }
 {
     bench.walk_to(walk, end, watch)?;
-    look_again(old, conditions, walk.machine())?;
     Ok(())
 }
 
-/// Makes the next step of a walk below another step, and adds it where it is wanted, or passes over those of an interval
-/// of which the record shows that none is; answers how many more may follow, of so many. `old` are the bytes that the
-/// conditions compare, before and afterwards.
+/// Makes the next step of a walk below another step, and adds it where it is wanted, or passes over steps that are not by
+/// the plan; answers how many more may follow, of so many. `old` are the bytes that the conditions compare, before and
+/// afterwards.
 ///
 /// # Errors
 ///
@@ -326,6 +269,7 @@ fn go_on<const NW: usize, const PAGES: usize, const K: u32>(
     bench: &mut Bench<NW, PAGES, K>,
     walk: &mut Walk<NW, PAGES>,
     watch: &mut Watch,
+    plan: &mut Plan,
     conditions: &[Condition],
     old: &mut Vec<u8>,
     found: &mut Vec<Found>,
@@ -341,6 +285,9 @@ fn go_on<const NW: usize, const PAGES: usize, const K: u32>(
     requires inside { are_inside (ram_size PAGES) conditions.now ≡ true }
     requires bytes { old.old.items ≡ olds_of conditions.now (machine_state bench.old.kept walk.old.step).memory.ram }
     requires count { length old.old.items ≡ olds_count conditions.now }
+    requires plan { IsPlan K bench.old conditions.now plan.old.start plan.old.flags.items }
+    requires planned { plan.old.start ≤ walk.old.step }
+    requires low { plan.old.start + length plan.old.flags.items ≤ 1000000 }
     ensures walk { OnOk result (IsWalk K bench.new walk.new) }
     ensures further { OnOk result (walk.old.step < walk.new.step) }
     ensures end { OnOk result (walk.new.step ≤ to) }
@@ -351,13 +298,17 @@ fn go_on<const NW: usize, const PAGES: usize, const K: u32>(
         ≡ looked_to (is_wanted bench.old.kept conditions.now) walk.old.step (to - walk.old.step) left) }
     ensures bytes { OnOk result (old.new.items ≡ olds_of conditions.now (machine_state bench.old.kept walk.new.step).memory.ram) }
     ensures count { OnOk result (length old.new.items ≡ olds_count conditions.now) }
+    ensures plan { OnOk result (IsPlan K bench.new conditions.now plan.new.start plan.new.flags.items) }
+    ensures planned { OnOk result (plan.new.start ≤ walk.new.step) }
+    ensures low { OnOk result (plan.new.start + length plan.new.flags.items ≤ 1000000) }
     ensures stopped { OnErr result (IsStopped K walk.old.step to bench.old bench.new) }
 {
     bench.sizes();
     let step = walk.step();
-    let end = passable(bench, conditions, step, to);
+    let _size = walk.machine().ram_size();
+    let end = plan.passable(bench, conditions, step, to)?;
     if step < end {
-        pass_over(bench, walk, watch, conditions, old, end)?;
+        pass_over(bench, walk, watch, end)?;
         return Ok(left);
     }
     let rest = look(bench, walk, watch, conditions, old, found, left)?;
@@ -392,10 +343,11 @@ pub(crate) fn search_up<const NW: usize, const PAGES: usize, const K: u32>(
     let mut walk = bench.walk(from, &mut watch)?;
     let mut old = Vec::new(alloc);
     look_at_old(&mut old, conditions, walk.machine())?;
+    let mut plan = Plan::new(alloc);
     let mut left = most;
     while walk.step() < to && left > 0 {
         left = go_on(
-            bench, &mut walk, &mut watch, conditions, &mut old, found, to, left,
+            bench, &mut walk, &mut watch, &mut plan, conditions, &mut old, found, to, left,
         )?;
     }
     Ok(())

@@ -1,13 +1,13 @@
 //! The lines of steps.
 
 ghost use Rattle.std.specs.Prelude.{◌≡◌, ◌+◌, ◌≤◌, ◌++◌, length};
-ghost use Rattle.sv8_shell.specs.Text.{hex_byte};
+ghost use Rattle.sv8_commands.specs.Text.{hex_byte};
 ghost use Rattle.sv8_monitor.specs.Texts.{physical, fetch_text, outcome_text, kind_text, access_text, byte_text, flag_text, step_place, items_text, step_text};
 
 use crate::found::Found;
 use crate::piece::Piece;
+use sv8_commands::text::{Text, hex_byte, hex_digit};
 use sv8_phys::AccessKind;
-use sv8_shell::text::{Text, hex_byte, hex_digit};
 use sv8_watch::{Access, Fetch, Happening, Outcome};
 
 /// A physical address.

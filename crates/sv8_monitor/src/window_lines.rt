@@ -1,14 +1,14 @@
 //! The lines of the register windows.
 
 ghost use Rattle.std.specs.Prelude.{◌≡◌, ◌+◌, ◌<◌, ◌≤◌, ◌++◌, length};
-ghost use Rattle.sv8_shell.specs.Put.{Gains};
+ghost use Rattle.sv8_commands.specs.Put.{Gains};
 ghost use Rattle.sv8_monitor.specs.Texts.{own_registers, window_line, windows_text};
 
 use std::io::Write;
+use sv8_commands::put::{WriteFault, make_room};
+use sv8_commands::text::Text;
+use sv8_commands::texts::add_words;
 use sv8_regs::Regs;
-use sv8_shell::put::{WriteFault, make_room};
-use sv8_shell::text::Text;
-use sv8_shell::texts::add_words;
 
 /// How long a line is at most.
 const LONGEST: usize = 160;

@@ -1,12 +1,54 @@
--- How each run ends a program: its exit status.
-use Rattle.std.specs.Prelude.{◌≡◌, ◌⊎◌, ℕ, Bool, true, false, IsTrue, List, [], ◌∷◌, Option, Result, Ok, Err}
+-- How each run ends a program: how far it came, its exit status, and its line on standard error.
+use Rattle.std.specs.Prelude.{◌≡◌, ◌⊎◌, ℕ, Bool, true, false, IsTrue, List, [], ◌∷◌, ◌++◌, Option, Result, Ok, Err, IfSome, codes}
 use Rattle.clap.specs.Words.{Kinds}
 use Rattle.clap.specs.declared.error.kind.ErrorKind.{ErrorKind}
 use Rattle.clap.specs.declared.error.kind.ErrorKind.TheVariants as kind
 use Rattle.sv8_session.specs.declared.driver.RunFault.{RunFault}
 use Rattle.sv8_session.specs.declared.driver.RunFault.TheVariants as fault
+use Rattle.sv8_session.specs.Language.{Language}
+use Rattle.sv8_session.specs.Script.{lines_within, orders_in, orders_of, IsTooLong}
+use Rattle.sv8_session.specs.Session.{Answered, Cut}
+use Rattle.sv8_session.specs.Run.{AnsweredGiven}
 use Rattle.sv8_program.specs.declared.end.End.{End}
 use Rattle.sv8_program.specs.declared.end.End.TheVariants.{Done, Help, Usage, ReadFault, WriteFault, TooMany, NoScript, Memory}
+
+-- HOW FAR A RUN CAME in a language of commands, by its end, where this was kept when it began: what its reader had and has left, and what its writer had
+-- and has
+abbrev pub Serves : {K O : Type 0} → Language K O → K → End → Option (List ℕ) → Option (List ℕ) → Option (List ℕ) → Option (List ℕ) → Type 0
+-- the whole script was answered
+Serves {K} L start Done known left old new = IfSome known (λ input. (last : K) × Answered L old new start (orders_of L input) last)
+-- what had been read was answered, up to its last whole line
+Serves {K} L start ReadFault known left old new = (last : K) × AnsweredGiven L known left old new start last
+-- the answers to the script are cut short, where it is too long those to its lines within the bounds
+Serves {K} L start WriteFault known left old new =
+    IfSome known (λ input. (last : K) × Cut L old new start (orders_of L input) last × (IsTooLong input → Cut L old new start (orders_in L (lines_within input)) last))
+-- the script is too long, and its lines within the bounds were answered
+Serves {K} L start TooMany known left old new = IfSome known (λ input. IsTooLong input × ((last : K) × Answered L old new start (orders_in L (lines_within input)) last))
+-- nothing was read or written
+Serves {K} L start Memory known left old new = (known ≡ left) × (old ≡ new)
+Serves {K} L start Help known left old new = ⊥
+Serves {K} L start Usage known left old new = ⊥
+Serves {K} L start NoScript known left old new = ⊥
+
+-- what a program says of an end, empty where there is nothing to say
+abbrev pub fault_of : End → List ℕ
+fault_of Done = []
+fault_of Help = []
+fault_of Usage = []
+fault_of ReadFault = codes "read fault"
+fault_of WriteFault = codes "write fault"
+fault_of TooMany = codes "too many commands"
+fault_of NoScript = codes "cannot open script"
+fault_of Memory = codes "out of memory"
+
+-- the line that a fault comes to where the program has this name, none for the empty one
+abbrev pub line_with : List ℕ → List ℕ → List ℕ
+line_with name [] = []
+line_with name (b ∷ bs) = name ++ codes ": " ++ (b ∷ bs) ++ codes "\n"
+
+-- what goes to standard error at an end of a program of this name
+abbrev pub line_of : List ℕ → End → List ℕ
+line_of name end = line_with name (fault_of end)
 
 abbrev pub status_of : End → ℕ
 status_of Done = 0

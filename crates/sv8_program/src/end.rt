@@ -1,9 +1,11 @@
 //! How a program ends.
 
-ghost use Rattle.std.specs.Prelude.{◌≡◌, IsTrue};
-ghost use Rattle.sv8_program.specs.Ends.{status_of, end_of, is_run_end, refusal_end};
+ghost use Rattle.std.specs.Prelude.{◌≡◌, IsTrue, OnOk};
+ghost use Rattle.std.specs.Io.KnownBytes.{Appends};
+ghost use Rattle.sv8_program.specs.Ends.{status_of, fault_of, line_of, end_of, is_run_end, refusal_end};
 
 use clap::error::ErrorKind;
+use std::io::{self, Write};
 use sv8_session::RunFault;
 
 /// How a program ends.
@@ -60,4 +62,33 @@ pub fn status_of(end: End) -> u8
         End::Usage => 2,
         End::ReadFault | End::WriteFault | End::TooMany | End::NoScript | End::Memory => 3,
     }
+}
+
+/// What a program says of an end, empty where there is nothing to say.
+fn fault_of(end: End) -> &'static str
+    ensures { result.now ≡ fault_of end }
+{
+    match end {
+        End::Done | End::Help | End::Usage => "",
+        End::ReadFault => "read fault",
+        End::WriteFault => "write fault",
+        End::TooMany => "too many commands",
+        End::NoScript => "cannot open script",
+        End::Memory => "out of memory",
+    }
+}
+
+/// Writes the line of an end, where it has one, for a program of this name.
+///
+/// # Errors
+///
+/// The writer's. A first part of the line may be written then.
+pub fn tell_end<W: Write>(writer: &mut W, name: &str, end: End) -> io::Result<()>
+    ensures { OnOk result (Appends (W.contents writer.old) (W.contents writer.new) (line_of name.now end)) }
+{
+    let fault = fault_of(end);
+    if fault.is_empty() {
+        return Ok(());
+    }
+    writeln!(writer, "{name}: {fault}")
 }

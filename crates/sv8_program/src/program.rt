@@ -2,22 +2,29 @@
 
 ghost use Rattle.std.specs.Prelude.{◌≡◌, ◌⊎◌, ◌≤◌, ℕ, List, Option, IsTrue, map};
 ghost use Rattle.clap.specs.Words.{Kinds, kind_of};
-ghost use Rattle.sv8_program.specs.declared.end.End.{End};
+ghost use Rattle.sv8_session.specs.Language.{Language};
 ghost use Rattle.sv8_program.specs.Windows.{is_window_count};
 ghost use Rattle.sv8_program.specs.Words.{MayFailBy};
-ghost use Rattle.sv8_program.specs.Ends.{EndsBy, IntoSome, is_run_end, refusal_end};
+ghost use Rattle.sv8_program.specs.Ends.{EndsBy, IntoSome, Serves, is_run_end, refusal_end};
 
-use crate::end::{End, refusal_end};
+use crate::end::{End, refusal_end, status_of, tell_end};
 use crate::words::{Description, not_text, settings};
 use std::alloc::Global;
 use std::env;
 use std::fs::File;
 use std::io::{self, BufWriter, Read, Write};
+use std::process::ExitCode;
 
 /// A program that runs a script, as a name for what it does.
 pub trait Program {
-    // What a run over so many windows has done with its reader and its writer, by how it ends.
-    ghost Serves: { ℕ → End → Option (List ℕ) → Option (List ℕ) → Option (List ℕ) → Option (List ℕ) → Type 0 };
+    // What its commands are, and what is kept where a run over so many windows begins.
+    ghost Kept: { Type 0 };
+
+    ghost Order: { Type 0 };
+
+    ghost language: { Language Kept Order };
+
+    ghost start: { ℕ → Kept };
 
     // What it is called.
     ghost NAME: { List ℕ };
@@ -30,14 +37,15 @@ pub trait Program {
     fn serve<R: Read, W: Write>(alloc: Global, windows: u32, reader: &mut R, writer: &mut W) -> End
         requires { IsTrue (is_window_count windows) }
         ensures run { IsTrue (is_run_end result) }
-        ensures serves { Serves windows result (R.remaining reader.old) (R.remaining reader.new) (W.contents writer.old) (W.contents writer.new) };
+        ensures serves { Serves language (start windows) result (R.remaining reader.old) (R.remaining reader.new)
+            (W.contents writer.old) (W.contents writer.new) };
 }
 
 /// Runs what a reader gives, and writes the answers to standard output.
 fn answer<P: Program, R: Read>(rt: &HostRuntime, windows: u32, reader: &mut R) -> End
     requires { IsTrue (is_window_count windows) }
     ensures run { IsTrue (is_run_end result) }
-    ensures serves { IntoSome (P.Serves windows result (R.remaining reader.old) (R.remaining reader.new))
+    ensures serves { IntoSome (Serves P.language (P.start windows) result (R.remaining reader.old) (R.remaining reader.new))
         ⊎ ((result ≡ End.Memory) × (R.remaining reader.new ≡ R.remaining reader.old)) }
 {
     let alloc = rt.alloc();
@@ -87,8 +95,8 @@ pub fn refuse_bytes(rt: &HostRuntime, description: Description) -> End
     }
 }
 
-/// The whole run.
-pub fn run_program<P: Program>(rt: &HostRuntime) -> End {
+/// Reads the words that the program was started with, and obeys them.
+fn run_words<P: Program>(rt: &HostRuntime) -> End {
     let all = match env::args(rt) {
         Ok(all) => all,
         Err(error) if error.kind() == io::ErrorKind::OutOfMemory => return End::Memory,
@@ -105,4 +113,12 @@ pub fn run_program<P: Program>(rt: &HostRuntime) -> End {
         return End::Memory;
     };
     obey::<P>(rt, &words)
+}
+
+/// The whole run: what a program's `main` calls. Where a script could not be run to its end, standard error and the exit status tell why.
+pub fn run_program<P: Program>(rt: &HostRuntime) -> ExitCode {
+    let end = run_words::<P>(rt);
+    // Where the line cannot be written, the status still tells.
+    let _ = tell_end(&mut rt.stderr(), P::description().name, end);
+    ExitCode::from(status_of(end))
 }

@@ -3,7 +3,7 @@
 ghost use Rattle.std.specs.Prelude.{◌≡◌};
 ghost use Rattle.std.specs.Result.{result_map_both};
 
-use crate::put::WriteFault;
+use sv8_session::WriteFault;
 
 /// What a command did to its workbench.
 #[derive(Drop, Clone, Copy)]

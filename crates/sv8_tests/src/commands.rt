@@ -1,7 +1,7 @@
 //! Lines that are commands, and lines that are not.
 
 use std::test::Fail;
-use sv8_shell::{Command, parse_command};
+use sv8_commands::{Command, parse_command};
 
 #[test]
 fn lines_that_are_commands(rt: HostRuntime) -> Result<(), Fail> {

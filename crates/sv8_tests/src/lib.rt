@@ -1,5 +1,5 @@
-//! Tests of commands: their texts, scripts and their answers, refusals, events, and readers and writers that fail. These stand here, and not in the
-//! crates that they test, as each crate with tests is proved twice.
+//! Tests of commands: their texts, scripts and their answers, refusals, events, and readers and writers that fail; and of the words, the help and the ends
+//! of the program. These stand here, and not in the crates that they test, as each crate with tests is proved twice.
 #![tactic(auto)]
 
 #[cfg(test)]
@@ -9,6 +9,8 @@ pub mod ends;
 mod events;
 #[cfg(test)]
 mod faults;
+#[cfg(test)]
+mod program;
 #[cfg(test)]
 mod refusals;
 #[cfg(test)]

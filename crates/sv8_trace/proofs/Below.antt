@@ -8,13 +8,12 @@ use Rattle.sv8_time.specs.declared.requests.Request.{Request}
 use Rattle.sv8_time.specs.Order.{Each}
 use Rattle.sv8_time.specs.Schedule.{BytePoke}
 use Rattle.sv8_time.specs.Words.{IsWordIn, poked_from, poked_bytes, bytes_of_words}
+use Rattle.sv8_notes.specs.declared.kept.Kept.{Kept}
+use Rattle.sv8_notes.specs.Kept.{kept_in}
+use Rattle.sv8_notes.proofs.Common.{any_append, kept_in-append, swap}
 use Rattle.sv8_cpu.specs.State.{State}
 use Rattle.sv8_cpu.specs.Recorded.{Event, value_poked, poke_of, get}
-use Rattle.sv8_trace.specs.declared.kept.Kept.{Kept}
-use Rattle.sv8_trace.specs.Kept.{kept_in}
 use Rattle.sv8_trace.specs.Recorder.{below_byte, below_word, below_words, below_requests}
-use Rattle.sv8_trace.proofs.KeptLists.{kept_in-append}
-use Rattle.sv8_trace.proofs.Gaining.{any_append, swap}
 
 -- some byte of the pokes is this one
 abbrev pokes : ℕ → List BytePoke → Bool

@@ -8,11 +8,11 @@ use Rattle.std.proofs.Math.Nat.{mul-div_cancel_left}
 use Rattle.sv8_history.specs.Trace as history
 use Rattle.sv8_history.proofs.Common.{footprint_same}
 use Rattle.sv8_model.specs.Cells.{Cell}
+use Rattle.sv8_notes.specs.Kept.{kept_in}
 use Rattle.sv8_cpu.specs.State.{State}
 use Rattle.sv8_cpu.specs.Recorded.{machine}
 use Rattle.sv8_trace.specs.declared.interval.Interval.{Interval}
 use Rattle.sv8_trace.specs.declared.prepared.Staged.{Staged}
-use Rattle.sv8_trace.specs.Kept.{kept_in}
 use Rattle.sv8_trace.specs.Recording.{Recording, blank, no_interval, trace_of}
 use Rattle.sv8_trace.specs.Prepared.{placed, list_at, prepared_trace, IsPageColumn, IsPreparedFor, IsPlaced}
 use Rattle.sv8_trace.specs.Placing.{placed_pages_in, placed_levels_in, with_kept}

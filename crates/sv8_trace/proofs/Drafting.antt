@@ -5,14 +5,14 @@ use Rattle.std.proofs.lemmas.List.{length-append}
 use Rattle.sv8_model.specs.Cells.{Cell}
 use Rattle.sv8_time.specs.Schedule.{Schedule}
 use Rattle.sv8_phys.specs.Notes.{told}
+use Rattle.sv8_notes.specs.Kept.{kept_in}
+use Rattle.sv8_notes.specs.Touched.{is_touched}
+use Rattle.sv8_notes.specs.Steps.{Gains}
 use Rattle.sv8_cpu.specs.State.{State}
 use Rattle.sv8_cpu.specs.Run.{step, footprint}
 use Rattle.sv8_cpu.specs.Recorded.{event_at, poke_of, get}
 use Rattle.sv8_trace.specs.declared.interval.Interval.{Interval}
-use Rattle.sv8_trace.specs.Kept.{kept_in}
 use Rattle.sv8_trace.specs.Signs.{with_step}
-use Rattle.sv8_trace.specs.Touched.{is_touched}
-use Rattle.sv8_trace.specs.Steps.{Gains}
 use Rattle.sv8_trace.specs.Recorder.{steps_on, IsRecorded}
 use Rattle.sv8_trace.specs.Recording.{Recording, last_point, recorded, no_interval, IsExtended}
 use Rattle.sv8_trace.specs.Drafts.{Drafted, IsDraft}
@@ -31,7 +31,7 @@ module _ (windows pages k : ℕ) (schedule : Schedule) (old : Recording) (draft 
   pub drafted_more : (next : State) (new : Interval) → next ≡ step windows pages schedule at s → Gains count (told (footprint windows pages schedule at s)) interval.notes new.notes
       → ((i : ℕ) (c : Cell) → kept_in i c new.kept
       ≡ cond (is_touched (told (footprint windows pages schedule at s)) c) None (cond (i == count && is_some (poke_of c (event_at schedule at))) (Some (get c s)) (kept_in i c interval.kept)))
-      → new.signs ≡ with_step interval.signs s next
+      → new.signs ≡ with_step interval.signs count s next
       → (next ≡ steps_on windows pages schedule (recorded k old) (last_point old) (count + 1)) × IsRecorded windows pages schedule (recorded k old) (last_point old) (count + 1) new
   drafted_more next new stepped gains law signs =
       one_more windows pages schedule (recorded k old) (last_point old) s next count interval new was.state

@@ -9,12 +9,12 @@ use Rattle.sv8_history.specs.Trace.{some_from}
 use Rattle.sv8_history.specs.Reads.{earlier, least_below, first_of_change, first_of_each}
 use Rattle.sv8_history.specs.Patches.{count_after, cut}
 use Rattle.sv8_history.proofs.Common.{Found, found}
+use Rattle.sv8_notes.specs.Steps.{has_word}
+use Rattle.sv8_notes.specs.declared.cell.Cell as code
+use Rattle.sv8_notes.specs.declared.cell.Cell.TheVariants as cell
 use Rattle.sv8_cpu.specs.Recorded.{machine}
 use Rattle.sv8_trace.specs.declared.patch.Patch.{Patch}
 use Rattle.sv8_trace.specs.Patch.{change_of, changes_of, AreOfOneWord, AreReadAlike, BeginAlike}
-use Rattle.sv8_trace.specs.Steps.{has_word}
-use Rattle.sv8_trace.specs.declared.cell.Cell as code
-use Rattle.sv8_trace.specs.declared.cell.Cell.TheVariants as cell
 use Rattle.sv8_trace.specs.Recording.{Recording, no_interval, trace_of}
 use Rattle.sv8_trace.specs.Prepared.{Near}
 

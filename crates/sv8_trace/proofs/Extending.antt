@@ -14,7 +14,7 @@ use Rattle.sv8_history.proofs.Common.{footprint_same, some_from-like}
 use Rattle.sv8_time.specs.Schedule.{Schedule}
 use Rattle.sv8_cpu.specs.State.{State}
 use Rattle.sv8_cpu.specs.Run.{step, footprint}
-use Rattle.sv8_cpu.specs.Events.{with_events}
+use Rattle.sv8_memory.specs.Events.{with_events}
 use Rattle.sv8_cpu.specs.Recorded.{machine, event_at, footprint_of, AreEvents}
 use Rattle.sv8_trace.specs.declared.interval.Interval.{Interval}
 use Rattle.sv8_trace.specs.Recorder.{steps_on, footprint_on, touches_on, IsRecorded}

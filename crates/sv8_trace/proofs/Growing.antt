@@ -3,6 +3,7 @@ use Rattle.std.proofs.Common.{◌-◌, take, ◌≡◌, ℕ, ◌+◌, ◌<◌, �
 use Rattle.std.proofs.lemmas.Bool.{cases_lt}
 use Rattle.std.proofs.lemmas.List.{get_or_append_left}
 use Rattle.std.proofs.Math.Seq.{get_or-append_seam}
+use Rattle.sv8_notes.proofs.Common.{longer}
 use Rattle.sv8_cpu.specs.State.{State}
 use Rattle.sv8_trace.specs.Recording.{blank}
 use Rattle.sv8_trace.specs.Placing.{IsSound, AreSound}
@@ -16,9 +17,6 @@ sound_more pages points more s is sound here i h = rw is (go (cases_lt i (length
         let n : length more ≡ length points + 1 = ap length is ∙ length-append points (s ∷ []) in
         let e : i ≡ length points = omega (arith, n, h, l) in
         rw (e, get_or-append_seam points s [] blank) here
-
-pub longer : {A : Type 0} (xs ys : List A) (x : A) → ys ≡ xs ++ x ∷ [] → length ys ≡ length xs + 1
-longer xs ys x e = ap length e ∙ length-append xs (x ∷ [])
 
 -- the last element goes again
 pub popped : {A : Type 0} (xs ys zs : List A) (x : A) (n : ℕ) → ys ≡ xs ++ x ∷ [] → n ≡ length ys → zs ≡ take (n - 1) ys → zs ≡ xs

@@ -1,11 +1,4 @@
-pub mod KeptLists
-pub mod Touching
-pub mod Gaining
-pub mod Told
-pub mod Firsts
-pub mod RunsOfWords
 pub mod Nearness
-pub mod RunLists
 pub mod Placed
 pub mod Overlays
 pub mod Below

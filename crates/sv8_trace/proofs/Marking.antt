@@ -1,58 +1,16 @@
--- Marks of words, and what they say of intervals.
-use Rattle.std.proofs.Common.{◌≡◌, ◌≢◌, ℕ, zero, suc, ◌+◌, ◌-◌, ◌*◌, ◌/◌, ◌%◌, ◌≤◌, ◌<◌, List, [], ◌∷◌, ◌++◌, length, length-append, take, take_all, replicate, get_or, set, Bool, false, min, Option, Some, None, unwrap_or, refl, ◌∙◌, ap, arith, inl, inr, ◌⊎◌, ne_eqb, get_or-set_same, get_or-set_other, le-div_iff_mul-le, div-lt_iff_lt-mul, mul_comm}
-use Rattle.std.proofs.lemmas.Bool.{cases_lt, cases_eq}
-use Rattle.std.proofs.lemmas.Option.{none-some}
+-- What marks of words say of intervals.
+use Rattle.std.proofs.Common.{◌≡◌, ℕ, ◌+◌, ◌*◌, ◌/◌, ◌%◌, ◌≤◌, ◌<◌, List, [], ◌∷◌, ◌++◌, length, length-append, get_or, Bool, false, min, Option, Some, None, ◌∙◌, ap, arith, inl, inr, ◌⊎◌, le-div_iff_mul-le, div-lt_iff_lt-mul, mul_comm}
+use Rattle.std.proofs.lemmas.Bool.{cases_lt}
 use Rattle.std.proofs.lemmas.List.{get_or_append_left}
 use Rattle.std.proofs.Math.Seq.{get_or-append_seam}
+use Rattle.sv8_notes.specs.declared.notes.Sought.{Sought}
+use Rattle.sv8_notes.specs.Sought.{is_met, sought_word}
+use Rattle.sv8_notes.specs.Steps.{IsFirstBelow}
+use Rattle.sv8_notes.specs.Marks.{mark_of, IsUntouched}
+use Rattle.sv8_notes.proofs.Common.{unmet}
 use Rattle.sv8_trace.specs.declared.interval.Interval.{Interval}
-use Rattle.sv8_trace.specs.declared.notes.WordNote.{WordNote}
-use Rattle.sv8_trace.specs.declared.notes.Sought.{Sought}
-use Rattle.sv8_trace.specs.declared.notes.Sought.TheVariants.{Read, Write, Touch, Input}
-use Rattle.sv8_trace.specs.declared.cell.Cell.TheVariants.{Byte, Level}
-use Rattle.sv8_trace.specs.Sought.{is_met, sought_word}
-use Rattle.sv8_trace.specs.Steps.{Steps, is_word_of, has_word, footprint_in, IsFirstBelow}
-use Rattle.sv8_trace.specs.Marks.{mark_of, AreMarked, IsUntouched}
+use Rattle.sv8_trace.specs.Marks.{AreMarked}
 use Rattle.sv8_trace.specs.Recording.{Recording, no_interval, trace_of}
-
--- ---- more marks
-
--- one element of a list is another, not below what stood there
-pub set_grows : (xs : List ℕ) (i v : ℕ) → i < length xs → get_or xs i 0 ≤ v → (j : ℕ) → get_or xs j 0 ≤ get_or (set xs i v) j 0
-set_grows xs i v h le j = go (cases_eq j i)
-  where
-    go : (j ≡ i) ⊎ (j ≢ i) → get_or xs j 0 ≤ get_or (set xs i v) j 0
-    go (inl e) = rw (e, get_or-set_same xs i v 0 h) le
-    go (inr n) = rw (get_or-set_other xs i j v 0 n) (omega arith)
-
--- one page has other marks, not below what stood there
-pub page_grows : (ps : List (List ℕ)) (p : ℕ) (q : List ℕ) → p < length ps → ((j : ℕ) → get_or (get_or ps p []) j 0 ≤ get_or q j 0) → (a : ℕ) → mark_of ps a ≤ mark_of (set ps p q) a
-page_grows ps p q h le a = go (cases_eq (a / 4096) p)
-  where
-    go : (a / 4096 ≡ p) ⊎ (a / 4096 ≢ p) → mark_of ps a ≤ mark_of (set ps p q) a
-    go (inl e) = rw (e, get_or-set_same ps p q [] h) (le (a % 4096 / 4))
-    go (inr n) = rw (get_or-set_other ps p (a / 4096) q [] n) (omega arith)
-
--- a page without marks more is as none
-pub same_marks : (ps qs : List (List ℕ)) (a : ℕ) → qs ≡ ps ++ [] ∷ [] → mark_of qs a ≡ mark_of ps a
-same_marks ps qs a e = rw e (ap (λ q. get_or q (a % 4096 / 4) 0) (no_page ps (a / 4096)))
-  where
-    no_page : (ps : List (List ℕ)) (p : ℕ) → get_or (ps ++ [] ∷ []) p [] ≡ get_or ps p []
-    no_page [] zero = refl
-    no_page [] (suc p) = refl
-    no_page (q ∷ qs) zero = refl
-    no_page (q ∷ qs) (suc p) = no_page qs p
-
--- ---- the words of an interval
-
--- where each note's word has a mark that is great enough, a word with a lesser one has no note
-pub unmarked : (words : List WordNote) (marks : List (List ℕ)) (mark : ℕ) → ((i : ℕ) (d : WordNote) → i < length words → mark ≤ mark_of marks (get_or words i d).address)
-    → (a : ℕ) → mark_of marks a < mark → (j : ℕ) → has_word words a j ≡ false
-unmarked [] marks mark all a less j = refl
-unmarked (n ∷ ns) marks mark all a less j = rw (first (cases_eq n.address a), unmarked ns marks mark (λ i d h. all (suc i) d (omega arith)) a less j)
-  where
-    first : (n.address ≡ a) ⊎ (n.address ≢ a) → is_word_of a j n ≡ false
-    first (inl e) = let l = all 0 n (omega arith) in absurd (omega (arith, l, less, ap (mark_of marks) e))
-    first (inr ne) = rw (ne_eqb n.address a ne)
 
 -- ---- the intervals
 
@@ -78,16 +36,6 @@ marked_same marks xs ys marked le same i a h below = rw (same i h) (marked i a (
 
 -- ---- the search
 
--- what is sought of a word is not met by a step that does not touch it
-unmet : (sought : Sought) (word offset : ℕ) (s : Steps) → sought_word sought ≡ Some word → IsUntouched s word → is_met sought (footprint_in s offset) ≡ false
-unmet (Read (Byte a)) word offset s e none = let i : 4 * (a / 4) ≡ word = ap (λ (o : Option ℕ). unwrap_or o 0) e in rw i (none offset).0
-unmet (Read (Level l)) word offset s e none = absurd (none-some word e)
-unmet (Write (Byte a)) word offset s e none = let i : 4 * (a / 4) ≡ word = ap (λ (o : Option ℕ). unwrap_or o 0) e in rw i (none offset).1
-unmet (Write (Level l)) word offset s e none = absurd (none-some word e)
-unmet (Touch (Byte a)) word offset s e none = let i : 4 * (a / 4) ≡ word = ap (λ (o : Option ℕ). unwrap_or o 0) e in rw (i, (none offset).0) (none offset).1
-unmet (Touch (Level l)) word offset s e none = absurd (none-some word e)
-unmet Input word offset s e none = absurd (none-some word e)
-
 -- it is met by no step behind the intervals of the word's mark
 pub unmet_behind : (windows pages k : ℕ) → 0 < k → (marks : List (List ℕ)) (xs : List Interval) (r : Recording) → xs ≡ r.intervals → AreMarked marks xs → (sought : Sought) (word : ℕ) → sought_word sought ≡ Some word
     → (n : ℕ) → k * min (mark_of marks word) (length xs) ≤ n → n < k * length r.intervals → is_met sought ((trace_of windows pages k r).notes n) ≡ false
@@ -105,17 +53,3 @@ first_below f from to end recorded None le none h = λ n a b. go n a b (cases_lt
     go n a b (inl l) = h n a (omega (arith, l, b))
     go n a b (inr l) = none n l (omega (arith, b))
 first_below f from to end recorded (Some s) le none h = (h.0, (let l = h.1 in omega (arith, l, le)), h.2, h.3)
-
--- a page of marks that has got longer shows the same
-pub filled : (xs ys : List ℕ) (n : ℕ) → length xs ≤ n → ys ≡ take n xs ++ replicate (n - length xs) 0 → (i : ℕ) → get_or ys i 0 ≡ get_or xs i 0
-filled xs ys n le is i = rw (is, take_all n xs le) (go xs i)
-  where
-    zeros : (m i : ℕ) → get_or {A = ℕ} (replicate m 0) i 0 ≡ zero
-    zeros zero i = refl
-    zeros (suc m) zero = refl
-    zeros (suc m) (suc i) = zeros m i
-
-    go : (zs : List ℕ) (i : ℕ) → get_or (zs ++ replicate (n - length xs) 0) i 0 ≡ get_or zs i 0
-    go [] i = zeros (n - length xs) i
-    go (z ∷ zs) zero = refl
-    go (z ∷ zs) (suc i) = go zs i

@@ -9,6 +9,7 @@ use Rattle.std.proofs.lemmas.Bool.{cases_lt}
 use Rattle.std.proofs.lemmas.List.{get_or-take, ext_get_or, length-map, length-take, length-replicate, map-append, take-map, take_all, drop_all, get_or-map, get_or_past, append-nil}
 use Rattle.sv8_phys.specs.Memory.{ram_size, page_of, with_page}
 use Rattle.sv8_phys.specs.Contents.{AreContents}
+use Rattle.sv8_notes.proofs.Common.{longer}
 use Rattle.sv8_cpu.specs.State.{State}
 use Rattle.sv8_trace.specs.declared.checkpoint.Checkpoint.{Checkpoint}
 use Rattle.sv8_trace.specs.Checkpoints.{IsCheckpoint}
@@ -16,7 +17,7 @@ use Rattle.sv8_trace.specs.Recording.{blank}
 use Rattle.sv8_trace.specs.Prepared.{placed_pages, placed_levels}
 use Rattle.sv8_trace.specs.Placing.{placed_pages_in, placed_levels_in, AreSound, IsSound}
 use Rattle.sv8_trace.specs.Overlaid.{live, byte_over, page_over, level_over, pages_from, levels_from, overlaid, taken, all_overlaid, cut_column, put_over, ArePut, ArePages, AreFull, AreIdleFrom, AreOverlaid}
-use Rattle.sv8_trace.proofs.Growing.{longer, sound_more}
+use Rattle.sv8_trace.proofs.Growing.{sound_more}
 use Rattle.sv8_trace.proofs.Preparing.{get_none}
 use Rattle.sv8_trace.proofs.Placed.{page_byte, page_length, pages_length, pages_get, levels_length, levels_get, shown_byte, shown_level}
 

@@ -10,16 +10,16 @@ use Rattle.sv8_phys.specs.Memory.{ram_size, page_of}
 use Rattle.sv8_history.specs.Machine.{Machine}
 use Rattle.sv8_history.specs.Trace.{Trace}
 use Rattle.sv8_history.specs.Patches as history
+use Rattle.sv8_notes.specs.declared.kept.Kept.{Kept}
+use Rattle.sv8_notes.specs.Kept.{kept_in}
+use Rattle.sv8_notes.specs.Steps.{IsFirstBelow}
 use Rattle.sv8_cpu.specs.State.{State}
 use Rattle.sv8_cpu.specs.Recorded.{machine, get, put}
-use Rattle.sv8_trace.specs.declared.kept.Kept.{Kept}
 use Rattle.sv8_trace.specs.declared.prepared.Staged.{Staged}
 use Rattle.sv8_trace.specs.declared.patch.Patch.{Patch}
-use Rattle.sv8_trace.specs.Kept.{kept_in}
 use Rattle.sv8_trace.specs.Patch.{change_of, changes_of}
 use Rattle.sv8_trace.specs.Recording.{Recording, blank, no_interval, trace_of}
 use Rattle.sv8_trace.specs.Prepared.{placed, placed_pages, placed_levels, list_at, prepared_trace, IsPageColumn, IsPreparedFor, Near}
-use Rattle.sv8_trace.specs.Steps.{IsFirstBelow}
 use Rattle.sv8_trace.specs.Patching.{IsFirstWrite, PointsSet, RaisedAt}
 use Rattle.sv8_trace.specs.Placing.{IsSound, AreSound}
 use Rattle.sv8_trace.proofs.Nearness.{near_all, near_along}

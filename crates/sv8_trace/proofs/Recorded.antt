@@ -9,17 +9,17 @@ use Rattle.sv8_history.specs.Trace.{some_from}
 use Rattle.sv8_history.proofs.Common.{none_from}
 use Rattle.sv8_time.specs.Schedule.{Schedule}
 use Rattle.sv8_phys.specs.Notes.{told}
+use Rattle.sv8_notes.specs.Kept.{kept_in}
+use Rattle.sv8_notes.specs.Touched.{is_touched}
+use Rattle.sv8_notes.specs.Steps.{Gains, no_steps, footprint_in, reads_in, writes_in, is_among}
+use Rattle.sv8_notes.proofs.Common.{touched_told, told_read, told_written}
 use Rattle.sv8_cpu.specs.State.{State}
 use Rattle.sv8_cpu.specs.Run.{step, footprint}
 use Rattle.sv8_cpu.specs.Work.{counted}
 use Rattle.sv8_cpu.specs.Recorded.{event_at, poke_of, get}
 use Rattle.sv8_trace.specs.declared.interval.Interval.{Interval}
-use Rattle.sv8_trace.specs.Kept.{kept_in}
 use Rattle.sv8_trace.specs.Signs.{no_signs, with_step}
-use Rattle.sv8_trace.specs.Touched.{is_touched}
-use Rattle.sv8_trace.specs.Steps.{Gains, no_steps, footprint_in, reads_in, writes_in, is_among}
 use Rattle.sv8_trace.specs.Recorder.{steps_on, footprint_on, touches_on, counted_by, IsRecorded, RaisedUpTo}
-use Rattle.sv8_trace.proofs.Touching.{touched_told, told_read, told_written}
 
 -- no steps are recorded
 none_read : (c : Cell) (j : ℕ) → reads_in no_steps c j ≡ false
@@ -111,7 +111,7 @@ module _ (windows pages : ℕ) (schedule : Schedule) (n : ℕ) (s : State) where
         (cond (j == count && is_some (poke_of c (event_at schedule (n + count)))) (Some (get c (steps_on windows pages schedule n s count))) (kept_in j c old.kept))
 
     abbrev Signs_law : Type 0
-    Signs_law = new.signs ≡ with_step old.signs (steps_on windows pages schedule n s count) (steps_on windows pages schedule n s (suc count))
+    Signs_law = new.signs ≡ with_step old.signs count (steps_on windows pages schedule n s count) (steps_on windows pages schedule n s (suc count))
 
     module _ (law : Kept_law) (signs : Signs_law) where
       kept_more : (j : ℕ) (c : Cell) → (j ≡ count) ⊎ ((j < count) ⊎ (count < j)) → kept_in j c new.kept
@@ -140,7 +140,7 @@ module _ (windows pages : ℕ) (schedule : Schedule) (n : ℕ) (s : State) where
         footprints = λ j b. go j b (cases_lt j count);
         nothing_later = λ j b. then (footprint_in new.notes j) (footprint_in old.notes j) (footprint_in no_steps j) (not_here j (λ e. omega arith)) (h.nothing_later j (omega arith));
         kept = λ j c. kept_more j c (cases_order j count);
-        signs = signs ∙ ap (λ x. with_step x (steps_on windows pages schedule n s count) (steps_on windows pages schedule n s (suc count))) h.signs;
+        signs = signs ∙ ap (λ x. with_step x count (steps_on windows pages schedule n s count) (steps_on windows pages schedule n s (suc count))) h.signs;
       }
         where
           go : (j : ℕ) → j < suc count → (j < count) ⊎ (count ≤ j) → SameFootprint (footprint_in new.notes j) (footprint_on windows pages schedule n s j)
@@ -163,7 +163,7 @@ pub one_more : (windows pages : ℕ) (schedule : Schedule) (n : ℕ) (first s ne
     → next ≡ step windows pages schedule (n + j) s → IsRecorded windows pages schedule n first j old
     → Gains j (told (footprint windows pages schedule (n + j) s)) old.notes new.notes
     → ((i : ℕ) (c : Cell) → kept_in i c new.kept ≡ cond (is_touched (told (footprint windows pages schedule (n + j) s)) c) None (cond (i == j && is_some (poke_of c (event_at schedule (n + j)))) (Some (get c s)) (kept_in i c old.kept)))
-    → new.signs ≡ with_step old.signs s next
+    → new.signs ≡ with_step old.signs j s next
     → (next ≡ steps_on windows pages schedule n first (j + 1)) × IsRecorded windows pages schedule n first (j + 1) new
 one_more windows pages schedule n first s next j old new is stepped recorded gains law signs =
     let g = rw is at gains in

@@ -1,14 +1,14 @@
 -- Patches, as the theory of recorded runs has them.
 use Rattle.std.specs.Prelude.{◌≡◌, ℕ, ◌/◌, List, ◌∷◌, map}
-use Rattle.sv8_trace.specs.declared.cell.Cell as code
-use Rattle.sv8_trace.specs.declared.cell.Cell.TheVariants as cell
 use Rattle.sv8_model.specs.Cells.{Value}
 use Rattle.sv8_history.specs.Changes as history
+use Rattle.sv8_notes.specs.declared.cell.Cell as code
+use Rattle.sv8_notes.specs.declared.cell.Cell.TheVariants as cell
+use Rattle.sv8_notes.specs.Cells.{cell_of, content_of, IsCell}
 use Rattle.sv8_cpu.specs.Recorded.{machine}
 use Rattle.sv8_trace.specs.declared.patch.Patch.{Patch}
 use Rattle.sv8_trace.specs.declared.patch.Cause.{Cause}
 use Rattle.sv8_trace.specs.declared.patch.Cause.TheVariants.{Source, Poke, Uncover}
-use Rattle.sv8_trace.specs.Cells.{cell_of, content_of, IsCell}
 
 abbrev pub cause_of : Cause → history.Cause Value
 cause_of (Source content) = history.Image (content_of content)

@@ -2,9 +2,9 @@
 use Rattle.std.specs.Prelude.{◌≡◌, ℕ, ◌<◌, List, length, slice_index_or, Bool, Option, unwrap_or}
 use Rattle.sv8_phys.specs.Memory.{ram_size}
 use Rattle.sv8_phys.specs.Contents.{Contents}
+use Rattle.sv8_notes.specs.declared.kept.Kept.{Kept}
 use Rattle.sv8_cpu.specs.State.{State}
 use Rattle.sv8_trace.specs.declared.interval.Interval.{Interval}
-use Rattle.sv8_trace.specs.declared.kept.Kept.{Kept}
 use Rattle.sv8_trace.specs.Recording.{blank}
 use Rattle.sv8_trace.specs.Prepared.{placed_pages, placed_levels}
 

@@ -3,11 +3,11 @@ use Rattle.std.specs.Prelude.{◌≡◌, ℕ, suc, ◌*◌, ◌/◌, ◌%◌, �
 use Rattle.sv8_phys.specs.Memory.{with_page}
 use Rattle.sv8_history.specs.Machine.{Machine}
 use Rattle.sv8_history.specs.Trace.{Trace, Agrees}
+use Rattle.sv8_notes.specs.declared.kept.Kept.{Kept}
+use Rattle.sv8_notes.specs.Kept.{kept_in}
 use Rattle.sv8_cpu.specs.State.{State}
 use Rattle.sv8_cpu.specs.Recorded.{machine}
-use Rattle.sv8_trace.specs.declared.kept.Kept.{Kept}
 use Rattle.sv8_trace.specs.declared.prepared.Staged.{Staged}
-use Rattle.sv8_trace.specs.Kept.{kept_in}
 use Rattle.sv8_trace.specs.Recording.{Recording, blank, signs_of, no_interval, trace_of}
 
 -- what was prepared, as it is seen from outside

@@ -6,17 +6,17 @@ use Rattle.sv8_history.specs.Trace.{some_from}
 use Rattle.sv8_time.specs.Schedule.{Schedule}
 use Rattle.sv8_time.specs.declared.words.WordPoke.{WordPoke}
 use Rattle.sv8_time.specs.declared.requests.Request.{Request}
+use Rattle.sv8_notes.specs.declared.cell.Cell.TheVariants as cell
+use Rattle.sv8_notes.specs.declared.cell.Content.TheVariants as content
+use Rattle.sv8_notes.specs.declared.kept.Kept.{Kept}
+use Rattle.sv8_notes.specs.Kept.{kept_in}
+use Rattle.sv8_notes.specs.Steps.{no_steps, footprint_in}
 use Rattle.sv8_cpu.specs.State.{State}
 use Rattle.sv8_cpu.specs.Run.{step, footprint}
 use Rattle.sv8_cpu.specs.Work.{counted}
 use Rattle.sv8_cpu.specs.Recorded.{event_at, poke_of, footprint_of, get}
-use Rattle.sv8_trace.specs.declared.cell.Cell.TheVariants as cell
-use Rattle.sv8_trace.specs.declared.cell.Content.TheVariants as content
-use Rattle.sv8_trace.specs.declared.kept.Kept.{Kept}
 use Rattle.sv8_trace.specs.declared.interval.Interval.{Interval}
-use Rattle.sv8_trace.specs.Kept.{kept_in}
 use Rattle.sv8_trace.specs.Signs.{signs_among}
-use Rattle.sv8_trace.specs.Steps.{no_steps, footprint_in}
 
 -- ---- the values below the events of a step
 

@@ -6,14 +6,13 @@ use Rattle.sv8_phys.specs.Contents.{empty_contents}
 use Rattle.sv8_time.specs.Schedule.{Schedule}
 use Rattle.sv8_history.specs.Trace as history
 use Rattle.sv8_history.specs.Growing.{extended}
+use Rattle.sv8_notes.specs.Steps.{no_steps, footprint_in}
+use Rattle.sv8_notes.specs.Kept.{kept_in}
 use Rattle.sv8_cpu.specs.State.{State}
 use Rattle.sv8_cpu.specs.Recorded.{machine, event_at, AreEvents}
 use Rattle.sv8_trace.specs.declared.interval.Interval.{Interval}
-use Rattle.sv8_trace.specs.Steps.{no_steps, footprint_in}
-use Rattle.sv8_trace.specs.Kept.{kept_in}
 use Rattle.sv8_trace.specs.Recorder.{steps_on}
-use Rattle.sv8_trace.specs.Signs.{no_signs, signs_among}
-use Rattle.sv8_trace.specs.declared.signs.Signs.{Signs}
+use Rattle.sv8_trace.specs.Signs.{Signs, no_signs, signs_among}
 
 pub record Recording : Type 0 where
   -- the states of steps 0, k, 2k and so on

@@ -3,19 +3,24 @@
 ghost use Rattle.std.specs.Prelude.{◌≡◌, IfOk};
 
 use crate::interval::Interval;
-use crate::kept::KeptList;
-use crate::notes::Notes;
 use crate::signs::Signs;
 use std::alloc::{AllocError, Global};
 use std::marker::Model;
 use std::rc::Rc;
+use sv8_notes::{KeptList, Notes};
 
-/// An interval whose steps are all made. Its notes never change, so copies of a trace share them.
+/// What no edit changes of an interval.
+#[derive(Drop)]
+struct Lasting {
+    notes: Notes,
+    signs: Signs,
+}
+
+/// An interval whose steps are all made. Its notes and signs never change, so copies of a trace share them.
 #[derive(Drop)]
 pub(crate) struct Finished {
-    notes: Rc<Notes>,
+    lasting: Rc<Lasting>,
     kept: KeptList,
-    signs: Signs,
 }
 
 impl Model for Finished {
@@ -23,28 +28,28 @@ impl Model for Finished {
 
     ghost Value = { Interval };
 
-    ghost view = { λ f. record { notes = f.notes.value; kept = f.kept; signs = f.signs } };
+    ghost view = { λ f. record { notes = f.lasting.value.notes; kept = f.kept; signs = f.lasting.value.signs } };
 }
 
 impl Finished {
-    /// The interval, whose notes can be shared from now on.
+    /// The interval, whose notes and signs can be shared from now on.
     ///
     /// # Errors
     ///
-    /// `AllocError` where memory for the handle of the notes cannot be had.
+    /// `AllocError` where memory for their handle cannot be had.
     pub(crate) fn new(alloc: Global, interval: Interval) -> Result<Finished, AllocError>
         ensures { IfOk result (λ f. f ≡ interval) }
     {
         let Interval { notes, kept, signs } = interval;
-        let notes = Rc::new(alloc, notes)?;
-        Ok(Finished { notes, kept, signs })
+        let lasting = Rc::new(alloc, Lasting { notes, signs })?;
+        Ok(Finished { lasting, kept })
     }
 
     /// What each of the steps touches.
     pub(crate) fn notes(&self) -> &Notes
         ensures { result.now ≡ self.now.notes }
     {
-        &self.notes
+        &self.lasting.notes
     }
 
     /// What stood in cells before events set them.
@@ -58,7 +63,7 @@ impl Finished {
     pub(crate) fn signs(&self) -> &Signs
         ensures { result.now ≡ self.now.signs }
     {
-        &self.signs
+        &self.lasting.signs
     }
 
     /// Puts a list of kept values in the place of that of the interval.
@@ -68,20 +73,16 @@ impl Finished {
         self.kept = kept;
     }
 
-    /// The same interval once more, which shares its notes.
+    /// The same interval once more, which shares its notes and signs.
     ///
     /// # Errors
     ///
-    /// `AllocError` where memory for the kept values cannot be had, or the notes are shared as often as can be counted.
+    /// `AllocError` where memory for the kept values cannot be had, or the rest is shared as often as can be counted.
     pub(crate) fn share(&self) -> Result<Finished, AllocError>
         ensures { IfOk result (λ f. f ≡ self.now) }
     {
-        let notes = self.notes.clone()?;
+        let lasting = self.lasting.clone()?;
         let kept = self.kept.copy()?;
-        Ok(Finished {
-            notes,
-            kept,
-            signs: self.signs,
-        })
+        Ok(Finished { lasting, kept })
     }
 }

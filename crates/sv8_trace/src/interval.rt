@@ -3,13 +3,12 @@
 ghost use Rattle.std.specs.Prelude.{◌≡◌, IfOk};
 ghost use Rattle.sv8_trace.specs.Recording.{no_interval};
 
-use crate::kept::KeptList;
-use crate::notes::Notes;
 use crate::signs::Signs;
 use std::alloc::{AllocError, Global};
+use sv8_notes::{KeptList, Notes};
 
 /// What is kept of the steps from a checkpoint to the next one: what each touches, what stood in cells before events set
-/// them, and which signs some of the steps show.
+/// them, and which signs the steps have.
 #[derive(Drop)]
 pub(crate) struct Interval {
     pub notes: Notes,
@@ -25,7 +24,7 @@ impl Interval {
         Interval {
             notes: Notes::new(alloc),
             kept: KeptList::new(alloc),
-            signs: Signs::new(),
+            signs: Signs::new(alloc),
         }
     }
 
@@ -35,7 +34,7 @@ impl Interval {
     {
         self.notes.clear();
         self.kept.clear();
-        self.signs = Signs::new();
+        self.signs.clear();
     }
 
     /// The same once more, in no more memory than it needs.
@@ -49,7 +48,7 @@ impl Interval {
         Ok(Interval {
             notes: self.notes.copy()?,
             kept: self.kept.copy()?,
-            signs: self.signs,
+            signs: self.signs.copy()?,
         })
     }
 }

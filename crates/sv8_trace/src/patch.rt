@@ -1,6 +1,6 @@
 //! What an edit of past inputs does to one cell.
 
-use crate::cell::{Cell, Content};
+use sv8_notes::{Cell, Content};
 
 /// What changes a cell.
 #[derive(Clone, Copy, PartialEq, Eq, Debug)]

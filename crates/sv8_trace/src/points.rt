@@ -11,16 +11,14 @@ mod columns;
 mod overlay;
 
 use crate::checkpoint::Checkpoint;
-use crate::column::{LevelColumn, PageColumn, empty_places};
-use crate::marks::PAGE_SIZE;
 use crate::points::columns::{copy_levels, copy_pages, cut_levels, cut_pages, put_all};
 use crate::points::overlay::{byte_under, level_under, page_under, put_levels, put_pages};
-use crate::runs::PageRuns;
 use std::alloc::{AllocError, Global};
 use std::marker::Model;
 use std::rc::Rc;
 use sv8_cpu::Machine;
 use sv8_model::Level;
+use sv8_notes::{LevelColumn, PAGE_SIZE, PageColumn, PageRuns, empty_places};
 use sv8_phys::Page;
 
 /// How many interrupt levels there are, with level 0, which is none.

@@ -2,11 +2,9 @@
 
 ghost use Rattle.std.specs.Prelude.{◌≡◌, IfOk};
 
-use crate::column::{LevelColumn, PageColumn};
-use crate::kept::KeptList;
-use crate::runs::PageRuns;
 use std::alloc::{AllocError, Global};
 use std::marker::Model;
+use sv8_notes::{KeptList, LevelColumn, PageColumn, PageRuns};
 
 /// The changed parts of a trace that is to have `count` checkpoints above that of step 0.
 #[derive(Drop)]

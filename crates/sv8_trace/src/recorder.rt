@@ -5,23 +5,21 @@ ghost use Rattle.sv8_model.specs.Cells as model;
 ghost use Rattle.sv8_time.specs.Schedule.{bytes_below};
 ghost use Rattle.sv8_phys.specs.Memory.{ram_size};
 ghost use Rattle.sv8_phys.specs.Notes.{told};
-ghost use Rattle.sv8_cpu.specs.WordPokes.{AreInside};
+ghost use Rattle.sv8_notes.specs.Kept.{kept_in};
+ghost use Rattle.sv8_notes.specs.Cells.{cell_of, content_of, IsCell};
+ghost use Rattle.sv8_notes.specs.Touched.{is_touched};
+ghost use Rattle.sv8_notes.specs.Steps.{Gains};
+ghost use Rattle.sv8_memory.specs.WordPokes.{AreInside};
 ghost use Rattle.sv8_cpu.specs.Run.{step, footprint, observed};
 ghost use Rattle.sv8_cpu.specs.Recorded.{event_at, poke_of, get};
 ghost use Rattle.sv8_cpu.specs.Work.{counted};
-ghost use Rattle.sv8_trace.specs.Kept.{kept_in};
-ghost use Rattle.sv8_trace.specs.Cells.{cell_of, content_of, IsCell};
-ghost use Rattle.sv8_trace.specs.Touched.{is_touched};
 ghost use Rattle.sv8_trace.specs.Signs.{with_step};
-ghost use Rattle.sv8_trace.specs.Steps.{Gains};
 ghost use Rattle.sv8_trace.specs.Recorder.{below_byte, below_word, below_words, below_requests, counted_by, steps_on, IsRecorded, RaisedUpTo};
 
-use crate::cell::{Cell, Content};
 use crate::interval::Interval;
-use crate::kept::KeptList;
-use crate::step_notes::StepNotes;
 use std::alloc::AllocError;
 use sv8_cpu::{Machine, Work};
+use sv8_notes::{Cell, Content, KeptList, StepNotes};
 use sv8_phys::{StepTouches, Touch, Watch, tell_all};
 use sv8_time::{Request, Timeline, WordPoke};
 
@@ -200,7 +198,7 @@ fn record_step<const NW: usize, const PAGES: usize>(
     ensures kept { OnOk result ((j : ℕ) (c : model.Cell) → kept_in j c interval.new.kept
         ≡ cond (is_touched (told (footprint NW PAGES timeline.now n machine.old)) c) None
         (cond (j == offset && is_some (poke_of c (event_at timeline.now n))) (Some (get c machine.old)) (kept_in j c interval.old.kept))) }
-    ensures signs { OnOk result (interval.new.signs ≡ with_step interval.old.signs machine.old machine.new) }
+    ensures signs { OnOk result (interval.new.signs ≡ with_step interval.old.signs offset machine.old machine.new) }
     ensures counted { OnOk result (work.new ≡ counted work.old) }
     ensures uncounted { OnErr result (work.new ≡ work.old ⊎ work.new ≡ counted work.old) }
 {
@@ -209,7 +207,7 @@ fn record_step<const NW: usize, const PAGES: usize>(
     interval.signs.note_before(machine);
     keep_below(&mut interval.kept, machine, timeline, n, offset)?;
     machine.watch(n, timeline, &mut notes.noted, work)?;
-    interval.signs.note_after(ran, machine);
+    interval.signs.note_after(offset, ran, machine)?;
     record_notes(interval, notes.noted.touches(), &mut notes.told, offset)?;
     Ok(())
 }
@@ -238,7 +236,7 @@ pub(crate) fn record_watched<const NW: usize, const PAGES: usize>(
     ensures kept { OnOk result ((j : ℕ) (c : model.Cell) → kept_in j c interval.new.kept
         ≡ cond (is_touched (told (footprint NW PAGES timeline.now n machine.old)) c) None
         (cond (j == offset && is_some (poke_of c (event_at timeline.now n))) (Some (get c machine.old)) (kept_in j c interval.old.kept))) }
-    ensures signs { OnOk result (interval.new.signs ≡ with_step interval.old.signs machine.old machine.new) }
+    ensures signs { OnOk result (interval.new.signs ≡ with_step interval.old.signs offset machine.old machine.new) }
     ensures counted { OnOk result (work.new ≡ counted work.old) }
     ensures uncounted { OnErr result (work.new ≡ work.old ⊎ work.new ≡ counted work.old) }
 {
@@ -247,7 +245,7 @@ pub(crate) fn record_watched<const NW: usize, const PAGES: usize>(
     interval.signs.note_before(machine);
     keep_below(&mut interval.kept, machine, timeline, n, offset)?;
     machine.watch(n, timeline, watch, work)?;
-    interval.signs.note_after(ran, machine);
+    interval.signs.note_after(offset, ran, machine)?;
     record_notes(interval, watch.touches(), &mut notes.told, offset)?;
     Ok(())
 }

@@ -20,13 +20,12 @@ mod touching;
 use crate::checkpoint::Checkpoint;
 use crate::finished::Finished;
 use crate::interval::Interval;
-use crate::marks::Marks;
 use crate::points::Points;
 use crate::recorder::record;
-use crate::step_notes::StepNotes;
 use std::alloc::{AllocError, Global};
 use std::marker::Model;
 use sv8_cpu::{Machine, Work};
+use sv8_notes::{Marks, StepNotes};
 use sv8_time::Timeline;
 
 /// In place of a step: there is no end.

@@ -22,7 +22,7 @@ from .words import Settings
 ESTIMATE_SECONDS = 80.0
 MOST_SECONDS = 3600
 # Where the program is compiled for each number of windows but 8, which it has in any case.
-_COUNTS_PLACE, _COUNTS = "crates/sparc8/src/workbench.rt", b"[2 4 16 32]"
+_COUNTS_PLACE, _COUNTS = "crates/sv8_shell/src/program.rt", b"[2 4 16 32]"
 _ENDED = re.compile(rb"(?:\A|\n)run=ended status=(\d+)[^\n]*\n\Z")
 # What the toolchain says of its own, beside what the program prints on standard error.
 _OWN = re.compile(rb"(?m)^(?:checked|interpreter): [^\n]*\n")

@@ -1,14 +1,15 @@
 //! What the recorded run shows of a range of its steps, without making one of them.
 
-ghost use Rattle.std.specs.Prelude.{◌≡◌, ◌+◌, ◌%◌, ◌≤◌, MatchBool, MatchOption};
+ghost use Rattle.std.specs.Prelude.{◌≡◌, ℕ, ◌+◌, ◌%◌, ◌<◌, ◌≤◌, false, length, slice_index_or, MatchBool, MatchOption};
 ghost use Rattle.sv8_time.specs.Words.{poked_bytes, bytes_of_words};
 ghost use Rattle.sv8_cpu.specs.Touching.{is_within, pokes_any};
 ghost use Rattle.sv8_trace.specs.Checkpoints.{IsCheckpoint};
 ghost use Rattle.sv8_trace.specs.Recording.{recorded};
 ghost use Rattle.sv8_trace.specs.Showing.{NoneShows};
+ghost use Rattle.sv8_notes.specs.Flags.{IsFlagged, IsFlaggedUnless};
 ghost use Rattle.sv8_trace.specs.declared.signs.Sign.TheVariants as sign;
 ghost use Rattle.sv8_bench.specs.Shown.{machine_state};
-ghost use Rattle.sv8_bench.specs.Touching.{NonePokes, IsUntouched, IsUnreached, IsTrapless, TakesNoneOf};
+ghost use Rattle.sv8_bench.specs.Touching.{NonePokes, pokes_at, IsUntouched, IsUnreached, ShowsNone};
 
 use crate::bench::Bench;
 use sv8_time::{Timeline, WordPoke};
@@ -66,6 +67,19 @@ fn pokes_between(timeline: &Timeline, address: u32, count: u32, from: u32, to: u
     false
 }
 
+/// Sets the flag of each step whose events poke one of so many bytes. Flag number i is that of step `from + i`.
+fn flag_poking(timeline: &Timeline, address: u32, count: u32, from: u32, flags: &mut [bool])
+    requires within { from + length flags.old ≤ 1000000 }
+    ensures { IsFlagged (λ i. pokes_at timeline.now address count (from + i)) flags.old flags.new }
+{
+    for place in 0..flags.len() {
+        let events = timeline.events(from + place as u32);
+        if words_poke(events.pokes, address, count) {
+            flags[place] = true;
+        }
+    }
+}
+
 impl<const NW: usize, const PAGES: usize, const K: u32> Bench<NW, PAGES, K> {
     /// Whether the steps from `from` on and below `to` are recorded, none of them touches the word of one of so many bytes of RAM from
     /// an address on, and none of their events pokes one of these bytes. It makes no step.
@@ -82,6 +96,38 @@ impl<const NW: usize, const PAGES: usize, const K: u32> Bench<NW, PAGES, K> {
             && !pokes_between(&self.timeline, address, count, from, to)
     }
 
+    /// Sets the flag of each step of one interval for which `is_untouched` does not hold. Flag number i is that of step
+    /// `from + i`. These steps have to be recorded. It looks at each note of the interval once, and makes no step.
+    pub fn flag_touching(&self, address: u32, count: u32, from: u32, flags: &mut [bool])
+        requires within { address + count ≤ 0x1_0000_0000 }
+        requires recorded { from + length flags.old ≤ recorded K self.now.recording }
+        requires interval { from % K + length flags.old ≤ K }
+        ensures { IsFlaggedUnless (λ i. IsUntouched K self.now address count (from + i) (from + i + 1)) flags.old flags.new }
+    {
+        let _recorded = self.trace.recorded();
+        self.trace.flag_touching(address, count, from, flags);
+        flag_poking(&self.timeline, address, count, from, flags);
+    }
+
+    /// The same of the word at an address, where addresses are translated in no state before a step of the interval; else
+    /// it sets all flags. A step whose flag is not set reaches no instruction at the address.
+    pub fn flag_reaching(&self, address: u32, from: u32, flags: &mut [bool])
+        requires within { address + 4 ≤ 0x1_0000_0000 }
+        requires recorded { from + length flags.old ≤ recorded K self.now.recording }
+        requires interval { from % K + length flags.old ≤ K }
+        ensures count { length flags.new ≡ length flags.old }
+        ensures spared { (i : ℕ) → i < length flags.old → slice_index_or flags.new i false ≡ false
+            → (slice_index_or flags.old i false ≡ false) × IsUnreached K self.now address (from + i) (from + i + 1) }
+    {
+        let _recorded = self.trace.recorded();
+        let end = from + flags.len() as u32;
+        if self.trace.shows_none(Sign::Translation, from, end) {
+            self.flag_touching(address, INSTRUCTION_SIZE, from, flags);
+        } else {
+            flags.fill(true);
+        }
+    }
+
     /// Whether `is_untouched` holds of the word at an address and the steps from `from` on and below `to`, and addresses
     /// are translated in no state before a step of the intervals in which these steps lie. It makes no step.
     ///
@@ -90,39 +136,39 @@ impl<const NW: usize, const PAGES: usize, const K: u32> Bench<NW, PAGES, K> {
     pub fn is_unreached(&self, address: u32, from: u32, to: u32) -> bool
         requires within { address + 4 ≤ 0x1_0000_0000 }
         ensures { MatchBool result (IsUnreached K self.now address from to)
-            (IsUntouched K self.now address 4 from to → NoneShows sign.Translation K self.now.recording from to → ⊥) }
+            (IsUntouched K self.now address 4 from to → NoneShows Sign.Translation K self.now.recording from to → ⊥) }
     {
         self.is_untouched(address, INSTRUCTION_SIZE, from, to)
             && self.trace.shows_none(Sign::Translation, from, to)
     }
 
-    /// Whether the steps from `from` on and below `to` are recorded, and none of the intervals in which they lie has a step
-    /// that led a machine that ran where a trap leads: to error mode, or to the address in TBR. It makes no step.
+    /// Whether the steps from `from` on and below `to` are recorded, and the record has none of them with a sign. It makes no
+    /// step. `Sign::Translation` is noted of all steps of an interval together, each other sign of each step.
     ///
-    /// None of these steps then takes a trap or an interrupt (`trapless_steps_miss` of `sv8_watch`).
-    pub fn is_trapless(&self, from: u32, to: u32) -> bool
-        ensures { MatchBool result (IsTrapless K self.now from to)
-            (to ≤ recorded K self.now.recording → NoneShows sign.Trap K self.now.recording from to → ⊥) }
+    /// None of these steps then takes a trap or an interrupt (`trapless_steps_miss` of `sv8_watch`), or none of a type
+    /// (`other_types_miss`).
+    pub fn shows_none(&self, sign: Sign, from: u32, to: u32) -> bool
+        ensures { MatchBool result (ShowsNone sign K self.now from to)
+            (to ≤ recorded K self.now.recording → NoneShows sign K self.now.recording from to → ⊥) }
     {
         if self.trace.recorded() < to {
             return false;
         }
-        self.trace.shows_none(Sign::Trap, from, to)
+        self.trace.shows_none(sign, from, to)
     }
 
-    /// Whether the steps from `from` on and below `to` are recorded, and none of the intervals in which they lie has a step
-    /// that led a machine that ran where a trap of a type (tt) leads: to error mode, or to the address in TBR, whose tt is the
-    /// type. It makes no step.
+    /// Sets the flag of each step of one interval, from `from` on, that the record has with a sign. Flag number i is that of
+    /// step `from + i`. These steps have to be recorded. It makes none.
     ///
-    /// None of these steps then takes a trap or an interrupt of the type (`other_types_miss` of `sv8_watch`).
-    pub fn takes_none_of(&self, trap_type: u8, from: u32, to: u32) -> bool
-        ensures { MatchBool result (TakesNoneOf K self.now trap_type from to)
-            (to ≤ recorded K self.now.recording → NoneShows (sign.TrapType trap_type) K self.now.recording from to → ⊥) }
+    /// A step whose flag stays unset takes no trap, or none of the type (`trapless_steps_miss`, `other_types_miss` of
+    /// `sv8_watch`).
+    pub fn flag_shown(&self, sign: Sign, from: u32, flags: &mut [bool])
+        requires recorded { from + length flags.old ≤ recorded K self.now.recording }
+        requires interval { from % K + length flags.old ≤ K }
+        ensures flagged { IsFlaggedUnless (λ i. NoneShows sign K self.now.recording (from + i) (from + i + 1)) flags.old flags.new }
+        ensures spared { (i : ℕ) → i < length flags.old → slice_index_or flags.new i false ≡ false → ShowsNone sign K self.now (from + i) (from + i + 1) }
     {
-        if self.trace.recorded() < to {
-            return false;
-        }
-        self.trace.shows_none(Sign::TrapType(trap_type), from, to)
+        self.trace.flag_shown(sign, from, flags);
     }
 
     /// What is read of the checkpoint of a step, where the step is a multiple of `K` and recorded; `None` elsewhere. It makes

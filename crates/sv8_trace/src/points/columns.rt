@@ -3,8 +3,8 @@
 ghost use Rattle.std.specs.Prelude.{◌≡◌, length, map, IfOk};
 ghost use Rattle.sv8_trace.specs.Overlaid.{cut_column, put_over, ArePut};
 
-use crate::column::{LevelColumn, PageColumn};
 use std::alloc::{AllocError, Global};
+use sv8_notes::{LevelColumn, PageColumn};
 
 /// Puts a column in the place of another, if there is one.
 fn put<T: Drop>(place: &mut Option<T>, column: Option<T>)

@@ -4,11 +4,10 @@ ghost use Rattle.std.specs.Prelude.{◌≡◌, ◌+◌, ◌<◌, ◌≤◌, ◌/
 ghost use Rattle.sv8_phys.specs.Memory.{ram_size, page_of};
 ghost use Rattle.sv8_trace.specs.Overlaid.{live, byte_over, page_over, level_over, pages_from, levels_from};
 
-use crate::cell::level_numbered;
-use crate::column::{LevelColumn, PageColumn};
 use std::alloc::AllocError;
 use sv8_cpu::Machine;
 use sv8_model::Level;
+use sv8_notes::{LevelColumn, PageColumn, level_numbered};
 use sv8_phys::Page;
 
 /// The page of an address, shared.

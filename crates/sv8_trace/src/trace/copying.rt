@@ -4,11 +4,11 @@ ghost use Rattle.std.specs.Prelude.{◌≡◌, IfOk};
 
 use crate::finished::Finished;
 use crate::interval::Interval;
-use crate::step_notes::StepNotes;
 use crate::trace::Trace;
 use std::alloc::{AllocError, Global};
+use sv8_notes::StepNotes;
 
-/// The same intervals once more, which share their notes.
+/// The same intervals once more, which share their notes and signs.
 fn share_all(alloc: Global, intervals: &[Finished]) -> Result<Vec<Finished>, AllocError>
     ensures { IfOk result (λ v. v.items ≡ intervals.now) }
 {

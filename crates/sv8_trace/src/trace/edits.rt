@@ -10,11 +10,11 @@ ghost use Rattle.sv8_trace.specs.Patch.{change_of, changes_of, AreReadAlike, Beg
 ghost use Rattle.sv8_trace.specs.Recording.{recorded, trace_of};
 ghost use Rattle.sv8_trace.specs.Prepared.{prepared_trace, IsPreparedFor, Near};
 
-use crate::cell::Cell;
 use crate::patch::Patch;
 use crate::prepared::Prepared;
 use crate::trace::Trace;
 use std::alloc::{AllocError, Global};
+use sv8_notes::Cell;
 
 /// The earlier of two steps, where there are any.
 fn earlier(first: Option<u32>, second: Option<u32>) -> Option<u32>

@@ -11,11 +11,11 @@ ghost use Rattle.sv8_trace.specs.Prepared.{IsPreparedFor, IsPlaced};
 ghost use Rattle.sv8_trace.specs.Placing.{with_kept};
 
 use crate::finished::Finished;
-use crate::kept::KeptList;
 use crate::patch::Patch;
 use crate::prepared::Prepared;
 use crate::trace::Trace;
 use std::alloc::{AllocError, Global};
+use sv8_notes::KeptList;
 
 /// Puts a list of kept values in its place.
 fn place_list(interval: &mut Finished, list: Option<KeptList>)

@@ -8,24 +8,20 @@ ghost use Rattle.sv8_phys.specs.Memory.{ram_size};
 ghost use Rattle.sv8_history.specs.Trace.{Trace};
 ghost use Rattle.sv8_history.specs.Patches as history;
 ghost use Rattle.sv8_history.specs.Patches.{set_poke, spread, uncover, kept_by_poke};
+ghost use Rattle.sv8_notes.specs.Cells.{cell_of, content_of, IsCell};
+ghost use Rattle.sv8_notes.specs.Steps.{IsFirstBelow};
 ghost use Rattle.sv8_cpu.specs.Recorded.{machine, get, put};
-ghost use Rattle.sv8_trace.specs.Cells.{cell_of, content_of, IsCell};
 ghost use Rattle.sv8_trace.specs.Patch.{change_of, changes_of, IsPatch};
-ghost use Rattle.sv8_trace.specs.Steps.{IsFirstBelow};
 ghost use Rattle.sv8_trace.specs.Recording.{Recording, blank, no_interval, recorded, trace_of};
 ghost use Rattle.sv8_trace.specs.Prepared.{list_at, placed, prepared_trace, IsPreparedFor, IsPageColumn, Near};
 ghost use Rattle.sv8_trace.specs.Patching.{IsFirstWrite, KeptPut, PointsSet, RaisedAt};
 
-use crate::cell::{Cell, Content, level_numbered};
-use crate::column::empty_places;
-use crate::kept::KeptList;
-use crate::marks::PAGE_SIZE;
-use crate::notes::Sought;
 use crate::patch::{Cause, Patch};
 use crate::points::LEVELS;
 use crate::prepared::{Prepared, Staged};
 use crate::trace::{NO_END, Trace};
 use std::alloc::{AllocError, Global};
+use sv8_notes::{Cell, Content, KeptList, PAGE_SIZE, Sought, empty_places, level_numbered};
 
 /// How far a change reaches: the step of its cause, the step of the next event of its cell, and the first step from its cause on that
 /// writes the cell (`NO_END` where none does).

@@ -5,15 +5,14 @@ ghost use Rattle.sv8_model.specs.Cells.{ram_byte, pending_level};
 ghost use Rattle.sv8_history.specs.Changes.{Clear};
 ghost use Rattle.sv8_history.specs.Reads.{first_of_change};
 ghost use Rattle.sv8_history.specs.Input.{first_take};
+ghost use Rattle.sv8_notes.specs.Cells.{cell_of};
+ghost use Rattle.sv8_notes.specs.Steps.{IsFirstBelow};
+ghost use Rattle.sv8_notes.specs.Sought.{is_met};
 ghost use Rattle.sv8_cpu.specs.Recorded.{machine};
-ghost use Rattle.sv8_trace.specs.Cells.{cell_of};
-ghost use Rattle.sv8_trace.specs.Steps.{IsFirstBelow};
-ghost use Rattle.sv8_trace.specs.Sought.{is_met};
 ghost use Rattle.sv8_trace.specs.Recording.{recorded, trace_of};
 
-use crate::cell::Cell;
-use crate::notes::Sought;
 use crate::trace::{NO_END, Trace};
+use sv8_notes::{Cell, Sought};
 
 impl<const NW: usize, const PAGES: usize, const K: u32> Trace<NW, PAGES, K> {
     /// A step at which what is sought is done no more, nor at any later one that is recorded.

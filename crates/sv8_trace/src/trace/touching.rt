@@ -1,13 +1,13 @@
 //! Whether recorded steps leave bytes of RAM alone.
 
-ghost use Rattle.std.specs.Prelude.{◌≡◌, ℕ, ◌+◌, ◌/◌, ◌<◌, ◌≤◌, false, MatchBool};
+ghost use Rattle.std.specs.Prelude.{◌≡◌, ℕ, ◌+◌, ◌/◌, ◌%◌, ◌<◌, ◌≤◌, false, length, MatchBool};
+ghost use Rattle.sv8_notes.specs.Flags.{IsFlaggedUnless};
+ghost use Rattle.sv8_notes.specs.Sought.{is_met};
 ghost use Rattle.sv8_trace.specs.Recording.{recorded, trace_of};
-ghost use Rattle.sv8_trace.specs.Sought.{is_met};
 ghost use Rattle.sv8_trace.specs.Touching.{NoneTouches};
 
-use crate::cell::Cell;
-use crate::notes::Sought;
 use crate::trace::Trace;
+use sv8_notes::{Cell, Sought};
 
 /// How many bytes a word has.
 const WORD_SIZE: u32 = 4;
@@ -66,5 +66,24 @@ impl<const NW: usize, const PAGES: usize, const K: u32> Trace<NW, PAGES, K> {
         }
         let end = to.min(self.end_of_bytes(address, count));
         !self.touches_between(address, count, from, end)
+    }
+
+    /// Sets the flag of each step of one interval that touches the word of one of so many bytes of RAM from an address on.
+    /// Flag number i is that of step `from + i`. These steps have to be recorded. It looks at each note once.
+    pub fn flag_touching(&self, address: u32, count: u32, from: u32, flags: &mut [bool])
+        requires within { address + count ≤ 0x1_0000_0000 }
+        requires recorded { from + length flags.old ≤ recorded K self.now }
+        requires interval { from % K + length flags.old ≤ K }
+        ensures { IsFlaggedUnless (λ i. NoneTouches NW PAGES K self.now address count (from + i) (from + i + 1)) flags.old flags.new }
+    {
+        if count == 0 || flags.is_empty() {
+            return;
+        }
+        let low = WORD_SIZE * (address / WORD_SIZE);
+        let last = address + (count - 1);
+        let index = (from / K) as usize;
+        self.intervals[index]
+            .notes()
+            .flag_touching(low, last, from % K, flags);
     }
 }

@@ -1,5 +1,5 @@
 use Rattle.sv8_model.proofs.Common.{framed}
-use Rattle.sv8_cpu.specs.Access.{access}
+use Rattle.sv8_memory.specs.Access.{access}
 use Rattle.sv8_cpu.proofs.laws.access_frames.Goals as goal
 
 pub returns : goal.returns

@@ -7,7 +7,7 @@ use Rattle.sv8_model.specs.Outside.{word_of}
 use Rattle.sv8_phys.specs.Devices.{tick}
 use Rattle.sv8_trap.specs.Processor.{advanced, transferred, with_result, slot_skipped}
 use Rattle.sv8_mmu.specs.Translation.{translate}
-use Rattle.sv8_cpu.specs.Access.{access, at_virtual, fetched_from}
+use Rattle.sv8_memory.specs.Access.{access, at_virtual, fetched_from}
 use Rattle.sv8_iu.specs.Arithmetic.{finished, operated}
 use Rattle.sv8_iu.specs.Control.{branched, holds}
 use Rattle.sv8_cpu.specs.Step.{action, awake, interruptible, continued, instruction, executed}

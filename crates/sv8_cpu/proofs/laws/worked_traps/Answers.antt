@@ -11,7 +11,7 @@ use Rattle.sv8_trap.specs.Interrupt.{unmasked}
 use Rattle.sv8_trap.specs.Table.{row_of}
 use Rattle.sv8_trap.specs.Processor.{advanced, transferred, with_result}
 use Rattle.sv8_mmu.specs.Translation.{translate}
-use Rattle.sv8_cpu.specs.Access.{access, at_virtual, fetched_from}
+use Rattle.sv8_memory.specs.Access.{access, at_virtual, fetched_from}
 use Rattle.sv8_iu.specs.Arithmetic.{finished, operated, tagged_of}
 use Rattle.sv8_iu.specs.Control.{holds, return_traps, number_traps}
 use Rattle.sv8_iu.specs.Operands.{sum_of_sources}

@@ -1,6 +1,6 @@
 use Rattle.std.proofs.Common.{ap, arith, ◌≡◌}
-use Rattle.sv8_cpu.specs.Events.{with_events}
-use Rattle.sv8_cpu.proofs.Late.{below_grows}
+use Rattle.sv8_memory.specs.Events.{with_events}
+use Rattle.sv8_memory.proofs.Late.{below_grows}
 use Rattle.sv8_cpu.proofs.machine.begin.Goals as goal
 
 pub returns-clause-taken : goal.returns-clause-taken

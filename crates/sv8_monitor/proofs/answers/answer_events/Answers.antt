@@ -1,7 +1,7 @@
 use Rattle.std.proofs.Common.{◌+◌, ◌++◌, false, refl, ap, arith}
 use Rattle.sv8_bench.specs.declared.fault.BenchFault.TheVariants.{StepTooLarge}
 use Rattle.sv8_shell.specs.Refusal.{refusal_of}
-use Rattle.sv8_shell.specs.Text.{ok_line}
+use Rattle.sv8_commands.specs.Text.{ok_line}
 use Rattle.sv8_shell.specs.Outcome.{told, refused}
 use Rattle.sv8_shell.proofs.AnswerLemmas.{reply-done, reply-due}
 use Rattle.sv8_monitor.specs.Comparing.{range_refusal}

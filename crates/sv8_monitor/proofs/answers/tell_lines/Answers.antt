@@ -1,7 +1,7 @@
 use Rattle.std.proofs.Common.{[], length, arith}
 use Rattle.sv8_source.specs.Listing.{listing}
-use Rattle.sv8_shell.specs.Text.{ok_line}
-use Rattle.sv8_shell.proofs.PutLemmas.{Puts-gained, gains-cut}
+use Rattle.sv8_commands.specs.Text.{ok_line}
+use Rattle.sv8_commands.proofs.PutLemmas.{Puts-gained, gains-cut}
 use Rattle.sv8_monitor.specs.Answers.{lines_told}
 use Rattle.sv8_monitor.proofs.QueryLemmas.{lines-there, lines-by-places}
 use Rattle.sv8_monitor.proofs.answers.tell_lines.Goals as goal

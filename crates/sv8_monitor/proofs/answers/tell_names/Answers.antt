@@ -1,6 +1,6 @@
 use Rattle.std.proofs.Common.{[]}
-use Rattle.sv8_shell.specs.Text.{ok_line}
-use Rattle.sv8_shell.proofs.PutLemmas.{Puts-gained}
+use Rattle.sv8_commands.specs.Text.{ok_line}
+use Rattle.sv8_commands.proofs.PutLemmas.{Puts-gained}
 use Rattle.sv8_monitor.proofs.answers.tell_names.Goals as goal
 
 pub returns-in-Ok : goal.returns-in-Ok

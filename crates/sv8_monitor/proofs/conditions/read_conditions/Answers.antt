@@ -1,5 +1,5 @@
 use Rattle.std.proofs.Common.{◌∙◌, ◌<◌, ◌∷◌, [], length, sym, ap, arith, length-append}
-use Rattle.sv8_shell.specs.Words.{words_of}
+use Rattle.sv8_commands.specs.Words.{words_of}
 use Rattle.sv8_monitor.proofs.ConditionLemmas.{with_others, read-start, read-more}
 use Rattle.sv8_monitor.proofs.conditions.read_conditions.Goals as goal
 

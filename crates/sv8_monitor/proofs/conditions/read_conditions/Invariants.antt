@@ -1,5 +1,5 @@
 use Rattle.std.proofs.Common.{◌≡◌, ◌-◌, ◌≤◌, length}
-use Rattle.sv8_shell.specs.Words.{words_of}
+use Rattle.sv8_commands.specs.Words.{words_of}
 use Rattle.sv8_monitor.specs.Conditions.{conditions_of}
 use Rattle.sv8_monitor.proofs.ConditionLemmas.{with_others}
 use Rattle.sv8_monitor.proofs.conditions.read_conditions.Given as goal

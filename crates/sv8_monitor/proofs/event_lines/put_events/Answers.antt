@@ -1,5 +1,5 @@
 use Rattle.std.proofs.Common.{◌≡◌, ◌+◌, ◌-◌, arith}
-use Rattle.sv8_shell.proofs.PutLemmas.{gained-none}
+use Rattle.sv8_commands.proofs.PutLemmas.{gained-none}
 use Rattle.sv8_monitor.specs.Events.{step_events}
 use Rattle.sv8_monitor.proofs.Counted.{counted-cut, counted-next}
 use Rattle.sv8_monitor.proofs.event_lines.put_events.Goals as goal

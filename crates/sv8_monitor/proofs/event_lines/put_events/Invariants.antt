@@ -1,5 +1,5 @@
 use Rattle.std.proofs.Common.{◌-◌}
-use Rattle.sv8_shell.specs.Put.{Gained}
+use Rattle.sv8_commands.specs.Put.{Gained}
 use Rattle.sv8_monitor.specs.Events.{step_events}
 use Rattle.sv8_monitor.proofs.Counted.{counted_text}
 use Rattle.sv8_monitor.proofs.event_lines.put_events.Given as goal

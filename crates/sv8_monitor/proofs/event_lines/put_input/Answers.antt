@@ -1,6 +1,6 @@
 use Rattle.std.proofs.Common.{◌≡◌, ℕ, ◌++◌, List, [], ◌∷◌, length, eqb, false, refl, sym}
 use Rattle.std.specs.Prelude.{codes, decimal}
-use Rattle.sv8_shell.proofs.PutLemmas.{Gains-after, gains-cut}
+use Rattle.sv8_commands.proofs.PutLemmas.{Gains-after, gains-cut}
 use Rattle.sv8_monitor.specs.Events.{input_text, digits_text}
 use Rattle.sv8_monitor.proofs.event_lines.put_input.Goals as goal
 

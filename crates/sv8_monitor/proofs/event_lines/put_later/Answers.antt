@@ -1,4 +1,4 @@
-use Rattle.sv8_shell.proofs.PutLemmas.{Gains-after}
+use Rattle.sv8_commands.proofs.PutLemmas.{Gains-after}
 use Rattle.sv8_monitor.proofs.event_lines.put_later.Goals as goal
 
 pub returns-in-Ok : goal.returns-in-Ok

@@ -1,5 +1,5 @@
 use Rattle.std.proofs.Common.{◌++◌}
-use Rattle.sv8_shell.proofs.PutLemmas.{Gains-after, gains-cut}
+use Rattle.sv8_commands.proofs.PutLemmas.{Gains-after, gains-cut}
 use Rattle.sv8_monitor.specs.Events.{words_text, input_text, requests_text}
 use Rattle.sv8_monitor.proofs.Poked.{step_events_are}
 use Rattle.sv8_monitor.proofs.event_lines.put_step.Goals as goal

@@ -1,7 +1,7 @@
 use Rattle.std.proofs.Common.{◌≡◌, ◌++◌, append_assoc}
 use Rattle.std.specs.Prelude.{codes}
-use Rattle.sv8_shell.specs.Text.{hex_word}
-use Rattle.sv8_shell.proofs.PutLemmas.{Gains-after, gains-cut}
+use Rattle.sv8_commands.specs.Text.{hex_word}
+use Rattle.sv8_commands.proofs.PutLemmas.{Gains-after, gains-cut}
 use Rattle.sv8_source.specs.Names.{Named}
 use Rattle.sv8_monitor.specs.Texts.{name_kind_text, name_line}
 use Rattle.sv8_monitor.proofs.lines.put_name.Goals as goal

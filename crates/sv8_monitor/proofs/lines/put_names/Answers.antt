@@ -4,9 +4,9 @@ use Rattle.sv8_session.specs.Put.{AppendsPart}
 use Rattle.sv8_source.specs.Names.{Named}
 use Rattle.sv8_source.specs.View.{named_of}
 use Rattle.sv8_source.specs.declared.names.NameKind.TheVariants.{Label}
-use Rattle.sv8_shell.specs.Put.{Gained}
-use Rattle.sv8_shell.proofs.PutLemmas.{gained-none}
-use Rattle.sv8_shell.proofs.NumberedLemmas.{numbered-cut, numbered-next}
+use Rattle.sv8_commands.specs.Put.{Gained}
+use Rattle.sv8_commands.proofs.PutLemmas.{gained-none}
+use Rattle.sv8_commands.proofs.NumberedLemmas.{numbered-cut, numbered-next}
 use Rattle.sv8_monitor.specs.Texts.{name_line}
 use Rattle.sv8_monitor.proofs.lines.put_names.Goals as goal
 

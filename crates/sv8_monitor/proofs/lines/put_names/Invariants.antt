@@ -1,6 +1,6 @@
 use Rattle.std.proofs.Common.{take, map}
 use Rattle.sv8_source.specs.View.{named_of}
-use Rattle.sv8_shell.specs.Put.{Gained}
+use Rattle.sv8_commands.specs.Put.{Gained}
 use Rattle.sv8_monitor.specs.Texts.{names_text}
 use Rattle.sv8_monitor.proofs.lines.put_names.Given as goal
 

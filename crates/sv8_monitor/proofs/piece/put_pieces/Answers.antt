@@ -1,8 +1,8 @@
 use Rattle.std.proofs.Common.{◌++◌, arith, subst}
 use Rattle.sv8_session.specs.Put.{AppendsPart}
-use Rattle.sv8_shell.specs.Put.{Gained}
-use Rattle.sv8_shell.proofs.PutLemmas.{gained-none}
-use Rattle.sv8_shell.proofs.NumberedLemmas.{numbered-cut, numbered-next}
+use Rattle.sv8_commands.specs.Put.{Gained}
+use Rattle.sv8_commands.proofs.PutLemmas.{gained-none}
+use Rattle.sv8_commands.proofs.NumberedLemmas.{numbered-cut, numbered-next}
 use Rattle.sv8_monitor.proofs.piece.put_pieces.Goals as goal
 
 pub loop-piece-init : goal.loop-piece-init

@@ -1,6 +1,6 @@
 use Rattle.std.proofs.Common.{take}
-use Rattle.sv8_shell.specs.Put.{Gained}
-use Rattle.sv8_shell.specs.Text.{numbered_text}
+use Rattle.sv8_commands.specs.Put.{Gained}
+use Rattle.sv8_commands.specs.Text.{numbered_text}
 use Rattle.sv8_monitor.proofs.piece.put_pieces.Given as goal
 
 -- the texts of the pieces up to the present one

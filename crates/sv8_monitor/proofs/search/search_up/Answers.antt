@@ -34,6 +34,9 @@ loop-bench-preserved g c =
           c.in_ok-left.ensures.walked;
       bytes = c.in_ok-left.ensures.bytes ∙ ap (λ (k : Kept). olds_of cs (machine_state k later).memory.ram) inv.searched.kept;
       count = c.in_ok-left.ensures.count;
+      plan = c.in_ok-left.ensures.plan;
+      planned = c.in_ok-left.ensures.planned;
+      low = c.in_ok-left.ensures.low;
       found = found_on c.loop-bench.bench.kept kept cs inv.searched.kept n later to left next c.loop-bench.found.items c.go_on.new.found.items all c.in_ok-left.ensures.found inv.found;
       looked = looked_on c.loop-bench.bench.kept kept cs inv.searched.kept n later to left next end c.in_ok-left.ensures.looked inv.looked;
     }

@@ -1,6 +1,7 @@
-use Rattle.std.proofs.Common.{◌≡◌, ◌-◌, ◌++◌, ◌≤◌, length, map}
+use Rattle.std.proofs.Common.{◌≡◌, ◌-◌, ◌++◌, ◌≤◌, ◌+◌, length, map}
 use Rattle.sv8_bench.specs.Shown.{machine_state}
 use Rattle.sv8_bench.specs.Walks.{IsWalk}
+use Rattle.sv8_monitor.specs.Plans.{IsPlan}
 use Rattle.sv8_monitor.specs.Search.{olds_of, olds_count, found_at, is_wanted, rising, looked_to, IsSearched}
 use Rattle.sv8_monitor.proofs.search.search_up.Given as goal
 
@@ -12,6 +13,9 @@ invariant-loop-bench g l = record {
   searched : IsSearched g.row.K l.from l.walk.step l.fn.bench l.bench;
   bytes : l.old.items ≡ olds_of l.conditions (machine_state l.fn.bench.kept l.walk.step).memory.ram;
   count : length l.old.items ≡ olds_count l.conditions;
+  plan : IsPlan g.row.K l.bench l.conditions l.plan.start l.plan.flags.items;
+  planned : l.plan.start ≤ l.walk.step;
+  low : l.plan.start + length l.plan.flags.items ≤ 1000000;
   found : l.found.items ++ map (found_at l.fn.bench.kept) (rising (is_wanted l.fn.bench.kept l.conditions) l.walk.step (l.to - l.walk.step) l.left)
       ≡ l.fn.found.items ++ map (found_at l.fn.bench.kept) (rising (is_wanted l.fn.bench.kept l.conditions) l.from (l.to - l.from) l.most);
   looked : looked_to (is_wanted l.fn.bench.kept l.conditions) l.walk.step (l.to - l.walk.step) l.left ≡ looked_to (is_wanted l.fn.bench.kept l.conditions) l.from (l.to - l.from) l.most;

@@ -1,5 +1,5 @@
 use Rattle.std.proofs.Common.{arith}
-use Rattle.sv8_shell.proofs.PutLemmas.{gained-none}
+use Rattle.sv8_commands.proofs.PutLemmas.{gained-none}
 use Rattle.sv8_monitor.specs.Texts.{own_registers, window_line}
 use Rattle.sv8_monitor.proofs.Counted.{counted-cut, counted-next}
 use Rattle.sv8_monitor.proofs.window_lines.put_windows.Goals as goal

@@ -1,4 +1,4 @@
-use Rattle.sv8_shell.specs.Put.{Gained}
+use Rattle.sv8_commands.specs.Put.{Gained}
 use Rattle.sv8_monitor.specs.Texts.{own_registers, window_line}
 use Rattle.sv8_monitor.proofs.Counted.{counted_text}
 use Rattle.sv8_monitor.proofs.window_lines.put_windows.Given as goal

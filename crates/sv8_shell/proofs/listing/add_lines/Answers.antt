@@ -1,10 +1,12 @@
 use Rattle.std.proofs.Common.{◌≡◌, ◌∙◌, ◌+◌, ◌-◌, ◌<◌, ◌≤◌, ℕ, List, take, drop, length, get_or, refl, sym, ap, subst, arith, length-take}
 use Rattle.std.proofs.lemmas.List.{length-drop, get_or-drop, get_or-take, take_all}
 use Rattle.sv8_source.specs.Listing.{ListedLine, listing}
-use Rattle.sv8_shell.specs.Text.{numbered_text, listing_line}
-use Rattle.sv8_shell.specs.Put.{no_line, Gained}
-use Rattle.sv8_shell.proofs.PutLemmas.{gained-none}
-use Rattle.sv8_shell.proofs.NumberedLemmas.{numbered-cut, numbered-next}
+use Rattle.sv8_commands.specs.Text.{numbered_text}
+use Rattle.sv8_shell.specs.Text.{listing_line}
+use Rattle.sv8_commands.specs.Put.{Gained}
+use Rattle.sv8_shell.specs.Put.{no_line}
+use Rattle.sv8_commands.proofs.PutLemmas.{gained-none}
+use Rattle.sv8_commands.proofs.NumberedLemmas.{numbered-cut, numbered-next}
 use Rattle.sv8_shell.proofs.listing.add_lines.Goals as goal
 
 -- so many lines from a place on

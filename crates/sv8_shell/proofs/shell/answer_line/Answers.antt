@@ -1,6 +1,6 @@
 use Rattle.std.proofs.Common.{refl}
 use Rattle.sv8_shell.specs.declared.effect.Effect.TheVariants.{Unchanged}
-use Rattle.sv8_shell.specs.Order.{bad}
+use Rattle.sv8_commands.specs.Order.{bad}
 use Rattle.sv8_shell.proofs.AnswerLemmas.{reply-bad}
 use Rattle.sv8_shell.proofs.EffectLemmas.{puts-effect, if-unchanged}
 use Rattle.sv8_shell.proofs.OrderLemmas.{reply-order}

@@ -1,6 +1,6 @@
 use Rattle.std.proofs.Common.{◌++◌, ap, ◌∙◌}
+use Rattle.sv8_notes.specs.Kept.{kept_in}
 use Rattle.sv8_cpu.specs.Recorded.{event_at}
-use Rattle.sv8_trace.specs.Kept.{kept_in}
 use Rattle.sv8_trace.specs.Recorder.{below_requests}
 use Rattle.sv8_trace.proofs.Below.{below_is}
 use Rattle.sv8_trace.proofs.recorder.keep_events.Goals as goal

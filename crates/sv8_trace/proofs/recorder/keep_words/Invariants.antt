@@ -1,6 +1,6 @@
 use Rattle.std.proofs.Common.{◌≡◌, ◌++◌, length}
 use Rattle.sv8_phys.specs.Memory.{ram_size}
-use Rattle.sv8_cpu.specs.WordPokes.{AreInside}
+use Rattle.sv8_memory.specs.WordPokes.{AreInside}
 use Rattle.sv8_trace.specs.Recorder.{below_words}
 use Rattle.sv8_trace.proofs.recorder.keep_words.Given as goal
 

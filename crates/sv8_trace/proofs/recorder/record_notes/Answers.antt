@@ -1,8 +1,7 @@
 use Rattle.std.proofs.Common.{ap, ◌∙◌, cond, None}
-use Rattle.sv8_trace.specs.Kept.{kept_in}
-use Rattle.sv8_trace.specs.Touched.{is_touched}
-use Rattle.sv8_trace.proofs.KeptLists.{kept_in-filter}
-use Rattle.sv8_trace.proofs.Told.{touches_told}
+use Rattle.sv8_notes.specs.Kept.{kept_in}
+use Rattle.sv8_notes.specs.Touched.{is_touched}
+use Rattle.sv8_notes.proofs.Common.{kept_in-filter, touches_told}
 use Rattle.sv8_trace.proofs.recorder.record_notes.Goals as goal
 
 pub returns-then-branch-clause-kept : goal.returns-then-branch-clause-kept

@@ -1,9 +1,9 @@
 use Rattle.std.proofs.Common.{◌≡◌, ◌++◌, ap, ◌∙◌, cond, None}
 use Rattle.sv8_model.specs.Does.{Notes}
 use Rattle.sv8_phys.specs.Notes.{told}
+use Rattle.sv8_notes.specs.Kept.{kept_in}
+use Rattle.sv8_notes.specs.Touched.{is_touched}
 use Rattle.sv8_cpu.specs.Run.{footprint}
-use Rattle.sv8_trace.specs.Kept.{kept_in}
-use Rattle.sv8_trace.specs.Touched.{is_touched}
 use Rattle.sv8_trace.proofs.recorder.record_step.Goals as goal
 
 pub returns-clause-kept : goal.returns-clause-kept

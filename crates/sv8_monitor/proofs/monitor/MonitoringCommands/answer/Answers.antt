@@ -1,5 +1,5 @@
 use Rattle.std.proofs.Common.{arith}
-use Rattle.sv8_shell.specs.Words.{words_of}
+use Rattle.sv8_commands.specs.Words.{words_of}
 use Rattle.sv8_monitor.specs.Session.{kept_of}
 use Rattle.sv8_monitor.proofs.MonitorLemmas.{reply-no-command}
 use Rattle.sv8_monitor.proofs.QuestionLemmas.{question-is}

@@ -1,4 +1,4 @@
-use Rattle.sv8_shell.specs.Words.{words_of}
+use Rattle.sv8_commands.specs.Words.{words_of}
 use Rattle.sv8_monitor.specs.Questions.{question_of}
 use Rattle.sv8_monitor.proofs.MonitorLemmas.{reply-lost-lines}
 use Rattle.sv8_monitor.proofs.monitor.MonitoringCommands.lose.Goals as goal

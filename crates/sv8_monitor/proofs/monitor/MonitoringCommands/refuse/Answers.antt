@@ -1,5 +1,5 @@
 use Rattle.std.proofs.Common.{refl}
-use Rattle.sv8_shell.specs.Order.{bad}
+use Rattle.sv8_commands.specs.Order.{bad}
 use Rattle.sv8_monitor.proofs.MonitorLemmas.{reply-on-now}
 use Rattle.sv8_monitor.proofs.monitor.MonitoringCommands.refuse.Goals as goal
 

@@ -1,6 +1,7 @@
 use Rattle.std.proofs.Common.{rules, vec_len, ◌≡◌, ◌*◌, ap, length, arith}
+use Rattle.sv8_notes.proofs.Common.{longer}
 use Rattle.sv8_trace.specs.Recording.{Recording}
-use Rattle.sv8_trace.proofs.Growing.{longer, popped}
+use Rattle.sv8_trace.proofs.Growing.{popped}
 use Rattle.sv8_trace.proofs.Marking.{marked_still, marked_more}
 use Rattle.sv8_trace.proofs.trace.Trace.add.Goals as goal
 

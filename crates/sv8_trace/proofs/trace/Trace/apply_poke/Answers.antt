@@ -1,8 +1,8 @@
 use Rattle.std.proofs.Common.{suc, Some, option_map, refl, sym, ap, ◌∙◌}
+use Rattle.sv8_notes.specs.Cells.{cell_of, content_of}
 use Rattle.sv8_cpu.specs.Recorded.{machine}
 use Rattle.sv8_cpu.proofs.Common.{same_is}
 use Rattle.sv8_trace.specs.declared.prepared.Staged.{Staged}
-use Rattle.sv8_trace.specs.Cells.{cell_of, content_of}
 use Rattle.sv8_trace.specs.Prepared.{prepared_trace}
 use Rattle.sv8_trace.proofs.Spreading.{after_step, put_near, none_near, nothing_below}
 use Rattle.sv8_trace.proofs.Preparing.{points_kept}

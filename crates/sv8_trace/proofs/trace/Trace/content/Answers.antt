@@ -1,7 +1,7 @@
 use Rattle.std.proofs.Common.{◌/◌, ◌<◌, false, Some, None, length, get_or, ap, ap₂, sym, ◌∙◌, arith}
 use Rattle.sv8_model.specs.Cells.{byte, held}
+use Rattle.sv8_notes.specs.Cells.{cell_of}
 use Rattle.sv8_cpu.specs.Recorded.{get}
-use Rattle.sv8_trace.specs.Cells.{cell_of}
 use Rattle.sv8_trace.specs.Recording.{Recording, blank}
 use Rattle.sv8_trace.specs.Prepared.{placed}
 use Rattle.sv8_trace.proofs.Preparing.{contents_at, slot_is, byte_at, level_at}

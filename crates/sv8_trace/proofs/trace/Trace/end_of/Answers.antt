@@ -1,5 +1,5 @@
 use Rattle.std.proofs.Common.{rules, ◌≡◌, ◌*◌, ◌≤◌, ◌∙◌, ap, ap₂, sym, subst, min, length}
-use Rattle.sv8_trace.specs.Marks.{mark_of}
+use Rattle.sv8_notes.specs.Marks.{mark_of}
 use Rattle.sv8_trace.specs.Recording.{Recording}
 use Rattle.sv8_trace.proofs.Marking.{unmet_behind}
 use Rattle.sv8_trace.proofs.trace.Trace.end_of.Goals as goal

@@ -1,8 +1,8 @@
 use Rattle.std.proofs.Common.{◌≡◌, ◌≤◌, ◌<◌, ◌*◌, ◌/◌, ℕ, false}
+use Rattle.sv8_notes.specs.declared.cell.Cell.TheVariants.{Byte}
+use Rattle.sv8_notes.specs.declared.notes.Sought.TheVariants.{Touch}
+use Rattle.sv8_notes.specs.Sought.{is_met}
 use Rattle.sv8_trace.specs.Recording.{recorded, trace_of}
-use Rattle.sv8_trace.specs.declared.cell.Cell.TheVariants.{Byte}
-use Rattle.sv8_trace.specs.declared.notes.Sought.TheVariants.{Touch}
-use Rattle.sv8_trace.specs.Sought.{is_met}
 use Rattle.sv8_trace.proofs.trace.Trace.end_of_bytes.Given as goal
 
 abbrev pub invariant-loop-word : goal.invariant-loop-word

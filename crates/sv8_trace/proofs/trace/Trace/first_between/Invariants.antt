@@ -1,5 +1,5 @@
 use Rattle.std.proofs.Common.{◌≡◌, ◌≤◌, ◌<◌, ◌-◌, ℕ, false}
-use Rattle.sv8_trace.specs.Sought.{is_met}
+use Rattle.sv8_notes.specs.Sought.{is_met}
 use Rattle.sv8_trace.specs.Recording.{trace_of}
 use Rattle.sv8_trace.proofs.trace.Trace.first_between.Given as goal
 

@@ -1,8 +1,8 @@
 use Rattle.std.proofs.Common.{◌==◌, ◌&&◌, ◌%◌, cond, Some, ap, ◌∙◌, refl}
 use Rattle.sv8_model.specs.Cells.{same_cell}
+use Rattle.sv8_notes.specs.Cells.{cell_of, content_of}
+use Rattle.sv8_notes.specs.Kept.{kept_in}
 use Rattle.sv8_trace.specs.declared.prepared.Staged.{Staged}
-use Rattle.sv8_trace.specs.Cells.{cell_of, content_of}
-use Rattle.sv8_trace.specs.Kept.{kept_in}
 use Rattle.sv8_trace.proofs.Preparing.{kept_put}
 use Rattle.sv8_trace.proofs.trace.Trace.keep.Goals as goal
 

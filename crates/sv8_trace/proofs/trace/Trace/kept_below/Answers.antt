@@ -1,8 +1,8 @@
 use Rattle.std.proofs.Common.{◌≡◌, ◌≤◌, ◌+◌, ◌*◌, ◌/◌, ◌&&◌, leb, ltb, false, true, Some, None, option_map, get_or, sym, ap, ◌∙◌, arith, le-leb, lt-ltb, le-ltb, mul-le-mul_left}
 use Rattle.std.proofs.lemmas.Bool.{and_left, and_right, lt-leb}
 use Rattle.sv8_history.specs.Trace.{next_checkpoint}
+use Rattle.sv8_notes.specs.Cells.{cell_of, content_of}
 use Rattle.sv8_cpu.specs.Recorded.{machine, get}
-use Rattle.sv8_trace.specs.Cells.{cell_of, content_of}
 use Rattle.sv8_trace.specs.Recording.{blank}
 use Rattle.sv8_trace.specs.Prepared.{placed, prepared_trace}
 use Rattle.sv8_trace.proofs.Spreading.{below_none, below_is, first_of, second_of, third_of, next_index, div_along}

@@ -1,6 +1,6 @@
 use Rattle.std.proofs.Common.{rules, arith, ◌<◌, None, Option, List, ap, length, length-append, length-set, append_assoc}
+use Rattle.sv8_notes.specs.declared.kept.Kept.{Kept}
 use Rattle.sv8_trace.specs.declared.interval.Interval.{Interval}
-use Rattle.sv8_trace.specs.declared.kept.Kept.{Kept}
 use Rattle.sv8_trace.specs.Recording.{no_interval}
 use Rattle.sv8_trace.specs.Placing.{with_kept}
 use Rattle.sv8_trace.proofs.Committing.{more_put}

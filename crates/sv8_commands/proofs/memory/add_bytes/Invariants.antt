@@ -1,0 +1,7 @@
+use Rattle.std.proofs.Common.{take}
+use Rattle.sv8_commands.specs.Put.{Gained}
+use Rattle.sv8_commands.specs.Text.{numbered_text, output_byte}
+use Rattle.sv8_commands.proofs.memory.add_bytes.Given as goal
+
+abbrev pub invariant-loop-place : goal.invariant-loop-place
+invariant-loop-place g l = Gained (g.W.Write.contents l.initial.writer) (g.W.Write.contents l.writer) l.initial.text l.text (numbered_text output_byte 0 (take l.place l.bytes))

@@ -1,0 +1,7 @@
+use Rattle.std.proofs.Common.{[]}
+use Rattle.sv8_commands.specs.Text.{ok_line}
+use Rattle.sv8_commands.proofs.PutLemmas.{Puts-gained}
+use Rattle.sv8_commands.proofs.put.accept.Goals as goal
+
+pub returns-in-Ok : goal.returns-in-Ok
+returns-in-Ok g c = Puts-gained c.send.result _ _ _ _ _ [] ok_line c.in-Ok.ensures.gained (rw c.add_ok.ensures.text at c.send.ensures)

@@ -1,0 +1,5 @@
+pub mod Accesses
+pub mod Poking
+pub mod Late
+pub mod Pages
+pub mod ServedPlaces

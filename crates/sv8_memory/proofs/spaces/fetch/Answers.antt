@@ -1,0 +1,22 @@
+use Rattle.std.proofs.Common.{refl}
+use Rattle.sv8_model.proofs.Common.{does_done}
+use Rattle.sv8_phys.specs.Memory.{ram_size}
+use Rattle.sv8_memory.specs.Access.{fetched_from}
+use Rattle.sv8_memory.proofs.Accesses.{made_as, stand_on}
+use Rattle.sv8_memory.proofs.spaces.fetch.Goals as goal
+
+pub returns-in-Failed-clause-ok : goal.returns-in-Failed-clause-ok
+returns-in-Failed-clause-ok g c = λ bytes.
+    made_as _ _ _ _ c.args.asi _ _ _ (λ u. fetched_from (ram_size g.row.PAGES) u c.args.asi c.args.at) _ _ _ _ _ _ _ c.load_type.ensures refl
+    (c.in_ok-response.ensures.ok bytes (λ u. fetched_from (ram_size g.row.PAGES) u c.args.asi c.args.at) _ _ _ (rw c.in-Failed.is (does_done _ _ _ _ _ refl)))
+
+pub returns-in_ok-response-in-At-clause-ok : goal.returns-in_ok-response-in-At-clause-ok
+returns-in_ok-response-in-At-clause-ok g c = λ bytes.
+    made_as _ _ _ _ c.args.asi _ _ _ (λ u. fetched_from (ram_size g.row.PAGES) u c.args.asi c.args.at) _ _ _ _ _ _ _ c.load_type.ensures refl
+    (c.in_ok-response.ensures.ok bytes (λ u. fetched_from (ram_size g.row.PAGES) u c.args.asi c.args.at) _ _ _ (rw c.in-At.is (c.in_ok-response-in-At.ensures.ok bytes)))
+
+pub returns-in_err-response-in-At-clause-serves : goal.returns-in_err-response-in-At-clause-serves
+returns-in_err-response-in-At-clause-serves g c = stand_on _ _ _ _ _ _ c.fetch.ensures.kept c.fetch.ensures.pointer c.locate.ensures.serves
+
+pub returns-in_ok-response-in-At-clause-serves : goal.returns-in_ok-response-in-At-clause-serves
+returns-in_ok-response-in-At-clause-serves g c = stand_on _ _ _ _ _ _ c.fetch.ensures.kept c.fetch.ensures.pointer c.locate.ensures.serves

@@ -1,0 +1,7 @@
+pub mod Units
+pub mod Access
+pub mod Events
+pub mod DeviceLaws
+pub mod WordPokes
+pub mod View
+pub mod Locating

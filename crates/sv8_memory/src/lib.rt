@@ -1,0 +1,14 @@
+//! Memory as the processor reaches it: accesses by address space, with translation, RAM, devices and the registers of the memory
+//! management unit; and the events of a step that write memory.
+#![tactic(auto)]
+
+mod events;
+pub mod laws;
+mod locating;
+mod memory;
+mod physical;
+mod spaces;
+mod stores;
+
+pub use events::end_of;
+pub use memory::Memory;

@@ -1,0 +1,281 @@
+//! Memory as the processor reaches it.
+
+ghost use Rattle.std.specs.Prelude.{◌≡◌, ℕ, ◌+◌, ◌*◌, ◌%◌, ◌/◌, ◌≤◌, ◌<◌, ◌||◌, List, [], true, false, not, nat_lt, None, IfOk, OnOk, OnErr, MatchOption, slice_set, length};
+ghost use Rattle.sv8_model.specs.Action as model;
+ghost use Rattle.sv8_model.specs.Does.{Does, keeping};
+ghost use Rattle.sv8_time.specs.Schedule.{bytes_below};
+ghost use Rattle.sv8_phys.specs.Memory.{bytes_in, ram_size, with_page};
+ghost use Rattle.sv8_phys.specs.Contents.{arrived, outside_of};
+ghost use Rattle.sv8_phys.specs.Devices.{tick};
+ghost use Rattle.sv8_mmu.specs.Registers.{registers_at_reset, translates};
+ghost use Rattle.sv8_memory.specs.Events.{with_events};
+ghost use Rattle.sv8_iu.specs.Requests.{space_of, IsAligned};
+ghost use Rattle.sv8_memory.specs.Access.{access};
+ghost use Rattle.sv8_memory.specs.View.{MemoryDoes, units_of};
+
+use crate::events::happen;
+use crate::physical::Physical;
+use crate::spaces::{access, load_translated, load_untranslated};
+use crate::stores::{store_translated, store_untranslated};
+use std::alloc::{AllocError, Global};
+use std::marker::Model;
+use sv8_iu::{AccessRequest, Response, Space};
+use sv8_mmu::{Buffer, Mmu};
+use sv8_model::Level;
+use sv8_phys::{Page, Phys, Size, Touches};
+use sv8_time::Timeline;
+
+/// Physical memory and the memory management unit with its lookaside buffer, of which nothing shows.
+#[derive(Drop)]
+pub struct Memory<const PAGES: usize> {
+    physical: Physical<PAGES>,
+    buffer: Buffer,
+}
+
+impl<const PAGES: usize> Model for Memory<PAGES> {
+    ghost use Rattle.sv8_memory.specs.declared.physical.Physical.{Physical};
+    ghost use Rattle.sv8_memory.specs.View.{Serves};
+
+    ghost Value = { Physical PAGES };
+
+    ghost view = { λ m. m.physical };
+
+    ghost invariant = { λ m. Serves m.physical m.buffer };
+}
+
+impl<const PAGES: usize> Memory<PAGES> {
+    /// Around physical memory, with the registers of the unit as after reset.
+    pub fn new(alloc: Global, phys: Phys<PAGES>) -> Self
+        ensures { result ≡ record { phys = phys.entry; mmu = registers_at_reset } }
+    {
+        Memory {
+            physical: Physical {
+                phys,
+                mmu: Mmu::new(),
+            },
+            buffer: Buffer::new(alloc),
+        }
+    }
+
+    /// Physical memory.
+    #[inline(always)]
+    pub fn phys(&self) -> &Phys<PAGES>
+        ensures { result.now ≡ self.now.phys }
+    {
+        &self.physical.phys
+    }
+
+    /// The registers of the memory management unit.
+    pub fn mmu(&self) -> Mmu
+        ensures { result ≡ self.now.mmu }
+    {
+        self.physical.mmu
+    }
+
+    /// The events of step n.
+    ///
+    /// # Errors
+    ///
+    /// `AllocError` where memory for a page that is shared cannot be had; some events may have happened then.
+    #[inline(always)]
+    pub fn happen(&mut self, n: u32, timeline: &Timeline) -> Result<(), AllocError>
+        requires { timeline.now.limit ≡ ram_size PAGES }
+        ensures { OnOk result (self.new ≡ record self.old { phys = with_events timeline.now n self.old.phys }) }
+    {
+        happen(&mut self.physical.phys, &mut self.buffer, n, timeline)?;
+        Ok(())
+    }
+
+    /// A step of the timer.
+    ///
+    /// # Errors
+    ///
+    /// `AllocError` where memory for the note of an expiry cannot be had.
+    #[inline(always)]
+    pub fn tick<T: Touches>(&mut self, notes: &mut T) -> Result<(), AllocError>
+        ensures ok { OnOk result ((bytes : List ℕ) → Does (keeping T.KEEPS T.OBSERVES) (tick self.old.phys.timer)
+            (outside_of self.old.phys bytes) (outside_of self.new.phys bytes) self.new.phys.timer (T.noted notes.old) (T.noted notes.new)) }
+        ensures taken { self.new.phys.taken ≡ self.old.phys.taken }
+        ensures mmu { self.new.mmu ≡ self.old.mmu }
+    {
+        self.physical.phys.tick_noted(notes)?;
+        Ok(())
+    }
+
+    /// Those of some interrupt levels that are pending, bit l for level l, from 1 to 15.
+    ///
+    /// # Errors
+    ///
+    /// `AllocError` where memory for the note cannot be had.
+    #[inline(always)]
+    pub fn pending_among<T: Touches>(&self, levels: u16, notes: &mut T) -> Result<u32, AllocError>
+        ensures { IfOk result (λ word. (bytes : List ℕ) → Does (keeping T.KEEPS T.OBSERVES) (model.ask_levels levels (λ word. model.done word))
+            (outside_of self.now.phys bytes) (outside_of self.now.phys bytes) word (T.noted notes.old) (T.noted notes.new)) }
+    {
+        let pending = self.physical.phys.pending_among(levels, notes)?;
+        Ok(pending)
+    }
+
+    /// Makes an access. The bytes that came in at the console at the steps below `before` have arrived.
+    ///
+    /// # Errors
+    ///
+    /// `AllocError` where memory for a page that is shared, for the output or for a note cannot be had.
+    #[inline(always)]
+    pub fn access<T: Touches>(
+        &mut self,
+        request: AccessRequest,
+        before: u32,
+        timeline: &Timeline,
+        notes: &mut T,
+    ) -> Result<Response, AllocError>
+        requires aligned { IsAligned request }
+        requires delivered { self.old.phys.taken ≤ bytes_below before timeline.now.inputs }
+        ensures ok { IfOk result (λ r. MemoryDoes (keeping T.KEEPS T.OBSERVES) (arrived before timeline.now) (access (ram_size PAGES) (units_of self.old) request)
+            self.old self.new r (T.noted notes.old) (T.noted notes.new)) }
+        ensures taken { OnOk result (self.new.phys.taken ≤ bytes_below before timeline.now.inputs) }
+    {
+        let response = access(
+            &mut self.physical,
+            &mut self.buffer,
+            request,
+            before,
+            timeline,
+            notes,
+        )?;
+        Ok(response)
+    }
+
+    /// Fetches an instruction as `access` does, where addresses are not translated and it stands in RAM. `None` where it does not, or
+    /// they are: nothing is done then.
+    ///
+    /// # Errors
+    ///
+    /// `AllocError` where memory for a note cannot be had.
+    #[inline(always)]
+    pub fn fetch_in_place<T: Touches>(
+        &self,
+        supervisor: bool,
+        at: u32,
+        notes: &mut T,
+    ) -> Result<Option<u64>, AllocError>
+        requires { at % 4 ≡ 0 }
+        ensures found { IfOk result (λ found. MatchOption found (T.noted notes.new ≡ T.noted notes.old) (λ word. (bytes : List ℕ) → MemoryDoes (keeping T.KEEPS T.OBSERVES) bytes (access (ram_size PAGES) (units_of self.now) (AccessRequest.Fetch supervisor at))
+            self.now self.now (Response.Value word) (T.noted notes.old) (T.noted notes.new))) }
+        ensures otherwise { IfOk result (λ found. found ≡ None → (translates self.now.mmu || not (nat_lt at (ram_size PAGES))) ≡ true) }
+    {
+        let found = self.physical.fetch_in_place(supervisor, at, notes)?;
+        Ok(found)
+    }
+
+    /// Whether virtual addresses are translated.
+    #[inline(always)]
+    pub fn translates(&self) -> bool
+        ensures { result ≡ translates self.now.mmu }
+    {
+        self.physical.mmu.translates()
+    }
+
+    /// Loads from user or supervisor data, as `access` does. It is built for addresses that are translated, or for others: what is
+    /// built for others has no translation in its way.
+    ///
+    /// # Errors
+    ///
+    /// As `access`.
+    #[inline(always)]
+    #[tactic(auto, unfolding(crate::specs::Access::access))]
+    pub fn load_data<const TRANSLATED: bool, T: Touches>(
+        &mut self,
+        size: Size,
+        asi: u8,
+        at: u32,
+        before: u32,
+        timeline: &Timeline,
+        notes: &mut T,
+    ) -> Result<Response, AllocError>
+        requires translated { translates self.old.mmu ≡ TRANSLATED }
+        requires space { space_of asi ≡ Space.Virtual }
+        requires aligned { at % bytes_in size ≡ 0 }
+        requires delivered { self.old.phys.taken ≤ bytes_below before timeline.now.inputs }
+        ensures ok { IfOk result (λ r. MemoryDoes (keeping T.KEEPS T.OBSERVES) (arrived before timeline.now) (access (ram_size PAGES) (units_of self.old) (AccessRequest.Load size asi at))
+            self.old self.new r (T.noted notes.old) (T.noted notes.new)) }
+        ensures taken { OnOk result (self.new.phys.taken ≤ bytes_below before timeline.now.inputs) }
+    {
+        let physical = &mut self.physical;
+        let buffer = &mut self.buffer;
+        if TRANSLATED {
+            let response = load_translated(
+                physical, buffer, size, asi, at, before, timeline, notes,
+            )?;
+            return Ok(response);
+        }
+        let response = load_untranslated(physical, buffer, size, asi, at, before, timeline, notes)?;
+        Ok(response)
+    }
+
+    /// Stores to user or supervisor data, as `access` does. It is built as `load_data` is.
+    ///
+    /// # Errors
+    ///
+    /// As `access`.
+    #[inline(always)]
+    #[tactic(auto, unfolding(crate::specs::Access::access))]
+    pub fn store_data<const TRANSLATED: bool, T: Touches>(
+        &mut self,
+        size: Size,
+        asi: u8,
+        at: u32,
+        value: u64,
+        notes: &mut T,
+    ) -> Result<Response, AllocError>
+        requires translated { translates self.old.mmu ≡ TRANSLATED }
+        requires space { space_of asi ≡ Space.Virtual }
+        requires aligned { at % bytes_in size ≡ 0 }
+        ensures ok { IfOk result (λ r. (bytes : List ℕ) → MemoryDoes (keeping T.KEEPS T.OBSERVES) bytes (access (ram_size PAGES) (units_of self.old) (AccessRequest.Store size asi at value))
+            self.old self.new r (T.noted notes.old) (T.noted notes.new)) }
+        ensures taken { OnOk result (self.new.phys.taken ≡ self.old.phys.taken) }
+    {
+        let physical = &mut self.physical;
+        let buffer = &mut self.buffer;
+        if TRANSLATED {
+            let response = store_translated(physical, buffer, size, asi, at, value, notes)?;
+            return Ok(response);
+        }
+        let response = store_untranslated(physical, buffer, size, asi, at, value, notes)?;
+        Ok(response)
+    }
+
+    /// Makes an interrupt level pending, or no longer pending.
+    pub fn set_pending(&mut self, level: Level, pending: bool)
+        ensures { self.new ≡ record self.old { phys = record self.old.phys { pending = slice_set self.old.phys.pending level pending } } }
+    {
+        self.physical.phys.set_pending(level, pending);
+    }
+
+    /// Puts a page in the place of the page of RAM with an address. It takes no memory.
+    pub fn put_page(&mut self, pa: u32, page: Page)
+        requires { pa < ram_size PAGES }
+        ensures { self.new ≡ record self.old { phys = record self.old.phys { ram = with_page self.old.phys.ram (pa / 4096) page } } }
+    {
+        self.buffer.clear();
+        self.physical.phys.put_page(pa, page);
+    }
+
+    /// The same memory once more, with an empty lookaside buffer. RAM and the bytes put out are shared.
+    ///
+    /// # Errors
+    ///
+    /// `AllocError` where memory for the handles of the pages cannot be had.
+    pub fn snapshot(&self, alloc: Global) -> Result<Self, AllocError>
+        ensures { IfOk result (λ m. m ≡ self.now) }
+    {
+        let phys = self.physical.phys.snapshot()?;
+        Ok(Memory {
+            physical: Physical {
+                phys,
+                mmu: self.physical.mmu,
+            },
+            buffer: Buffer::new(alloc),
+        })
+    }
+}

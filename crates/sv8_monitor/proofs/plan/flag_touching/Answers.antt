@@ -1,0 +1,16 @@
+use Rattle.sv8_phys.specs.Memory.{ram_size}
+use Rattle.std.proofs.Common.{◌∙◌, ◌+◌, arith, sym}
+use Rattle.sv8_bench.specs.Touching.{IsUntouched}
+use Rattle.sv8_monitor.proofs.Passed.{inside_span}
+use Rattle.sv8_monitor.proofs.Planning.{flags_unless, untouched_missed}
+use Rattle.sv8_monitor.proofs.plan.flag_touching.Goals as goal
+
+pub returns-in-Some : goal.returns-in-Some
+returns-in-Some g c =
+    let a = c.args in
+    let w = a.bench.now in
+    let span = c.in-Some.span in
+    let found = sym c.in-Some.is ∙ c.span.ensures in
+    let inside = inside_span (ram_size g.row.PAGES) span a.condition c.requires.inside (sym found) in
+    flags_unless w.kept a.condition a.from a.flags.now c.flag_touching.new.flags (λ i. IsUntouched g.row.K w span.address span.count (a.from + i) (a.from + i + 1)) c.flag_touching.ensures
+    (λ i low spared. untouched_missed g.row.K w (a.from + i) a.condition span (omega (arith, c.sizes.ensures.pages, c.sizes.ensures.few_pages)) (sym found) (omega (arith, inside, c.sizes.ensures.pages)) spared)

@@ -1,0 +1,257 @@
+-- Notes of more touches.
+use Rattle.std.proofs.lemmas.List.{take_more}
+use Rattle.std.proofs.Common.{take, length, get_or, set, suc, zero, arith, ◌+◌, ◌≡◌, ℕ, ◌<◌, List, [], ◌∷◌, ◌++◌, ◌==◌, Bool, true, false, ◌&&◌, ◌||◌, refl, sym, subst, ◌∙◌, ap, eqb-true, eq-eqb}
+use Rattle.std.specs.List.{list_any}
+use Rattle.sv8_model.specs.declared.touch.Touch.{Touch}
+use Rattle.sv8_model.specs.declared.touch.Touch.TheVariants.{Read, Write, Input, Levels, Expiry}
+use Rattle.sv8_model.specs.Outside.{word_address}
+use Rattle.sv8_model.specs.Words.{bit}
+use Rattle.sv8_model.specs.Levels.{timer_level}
+use Rattle.sv8_model.specs.Footprint.{is_read_of, is_write_of, is_input, asks, is_expiry, reads_input}
+use Rattle.sv8_model.specs.Cells.{Cell, ram_byte, waiting_bytes, pending_level, is_read}
+use Rattle.sv8_notes.specs.declared.notes.WordNote.{WordNote}
+use Rattle.sv8_notes.specs.Touched.{is_told_written}
+use Rattle.sv8_notes.specs.Steps.{Steps, Gains, is_word_of, has_word, is_asked_in, is_among, reads_in, writes_in}
+
+flip : (p q : Bool) → (p ≡ true → q ≡ true) → (q ≡ true → p ≡ true) → p ≡ q
+flip true q f g = sym (f refl)
+flip false true f g = g refl
+flip false false f g = refl
+
+pub swap : (a b : ℕ) → (a == b) ≡ (b == a)
+swap a b = flip (a == b) (b == a) (λ e. eq-eqb b a (sym (eqb-true a b e))) (λ e. eq-eqb a b (sym (eqb-true b a e)))
+
+-- nothing more, and three in two groups
+pub or_none : (b : Bool) → (b || false) ≡ b
+or_none true = refl
+or_none false = refl
+
+pub or_groups : (a b c : Bool) → (a || (b || c)) ≡ ((a || b) || c)
+or_groups true b c = refl
+or_groups false b c = refl
+
+pub any_append : {X : Type 0} (f : X → Bool) (xs ys : List X) → list_any f (xs ++ ys) ≡ (list_any f xs || list_any f ys)
+any_append f [] ys = refl
+any_append f (x ∷ xs) ys = ap (λ b. f x || b) (any_append f xs ys) ∙ or_groups (f x) (list_any f xs) (list_any f ys)
+
+-- one element more
+pub any_one : {X : Type 0} (f : X → Bool) (xs : List X) (x : X) → list_any f (xs ++ x ∷ []) ≡ (list_any f xs || f x)
+any_one f xs x = any_append f xs (x ∷ []) ∙ ap (λ b. list_any f xs || b) (or_none (f x))
+
+-- the last element is another, of which more is true
+pub any_last : {X : Type 0} (f : X → Bool) (xs : List X) (n : ℕ) (d x : X) (b : Bool) → suc n ≡ length xs → f x ≡ (f (get_or xs n d) || b) → list_any f (set xs n x) ≡ (list_any f xs || b)
+any_last f [] n d x b last e = absurd (omega (arith, last))
+any_last f (y ∷ []) zero d x b last e = or_none (f x) ∙ e ∙ ap (λ c. c || b) (sym (or_none (f y)))
+any_last f (y ∷ z ∷ zs) zero d x b last e = absurd (omega (arith, last))
+any_last f (y ∷ []) (suc n) d x b last e = absurd (omega (arith, last))
+any_last f (y ∷ z ∷ zs) (suc n) d x b last e = ap (λ c. f y || c) (any_last f (z ∷ zs) n d x b (omega (arith, last)) e) ∙ or_groups (f y) (list_any f (z ∷ zs)) b
+
+-- ---- no gain
+
+none : (x o : Bool) → x ≡ (x || (o && false))
+none true o = refl
+none false true = refl
+none false false = refl
+
+pub gains_nothing : (offset : ℕ) (s : Steps) → Gains offset [] s s
+gains_nothing offset s = record {
+  reads = λ c j. reads c j;
+  writes = λ c j. writes c j;
+  takes = λ j. none (is_among j s.inputs) (j == offset);
+}
+  where
+    reads : (c : Cell) (j : ℕ) → reads_in s c j ≡ (reads_in s c j || (j == offset && is_read [] c))
+    reads (ram_byte i) j = none _ (j == offset)
+    reads waiting_bytes j = none _ (j == offset)
+    reads (pending_level l) j = none _ (j == offset)
+
+    writes : (c : Cell) (j : ℕ) → writes_in s c j ≡ (writes_in s c j || (j == offset && is_told_written [] c))
+    writes (ram_byte i) j = none _ (j == offset)
+    writes waiting_bytes j = none _ (j == offset)
+    writes (pending_level l) j = level (l == timer_level) (is_among j s.expiries) (j == offset)
+      where
+        level : (t x o : Bool) → (t && x) ≡ ((t && x) || (o && (t && false)))
+        level true x o = none x o
+        level false x true = refl
+        level false x false = refl
+
+-- ---- one touch
+
+module _ (offset : ℕ) (s : Steps) where
+  abbrev word : ℕ → WordNote
+  word a = record { address = a; offset = offset }
+
+  -- the note of a word more
+  noted : (notes : List WordNote) (a w j : ℕ) → has_word (notes ++ word a ∷ []) w j ≡ (has_word notes w j || (j == offset && (a == w || false)))
+  noted notes a w j = any_one (is_word_of w j) notes (word a) ∙ ap (λ b. has_word notes w j || b) (ap (λ o. a == w && o) (swap offset j) ∙ order (a == w) (j == offset))
+    where
+      order : (x o : Bool) → (x && o) ≡ (o && (x || false))
+      order true true = refl
+      order true false = refl
+      order false true = refl
+      order false false = refl
+
+  -- the note of a word that is read, in front of others
+  pub gains_read : (a : ℕ) (front behind : List WordNote) → s.reads ≡ front ++ behind
+      → Gains offset (Read a ∷ []) s (record s { reads = (front ++ record { address = a; offset = offset } ∷ []) ++ behind })
+  gains_read a front behind is = record {
+    reads = λ c j. reads c j;
+    writes = λ c j. writes c j;
+    takes = λ j. none (is_among j s.inputs) (j == offset);
+  }
+    where
+      between : (w j : ℕ) → has_word ((front ++ word a ∷ []) ++ behind) w j ≡ (has_word s.reads w j || (j == offset && (a == w || false)))
+      between w j =
+          any_append (is_word_of w j) (front ++ word a ∷ []) behind
+          ∙ ap (λ b. b || has_word behind w j) (noted front a w j)
+          ∙ turned (has_word front w j) (j == offset && (a == w || false)) (has_word behind w j)
+          ∙ ap (λ b. b || (j == offset && (a == w || false))) (sym (ap (λ notes. has_word notes w j) is ∙ any_append (is_word_of w j) front behind))
+        where
+          turned : (x n y : Bool) → ((x || n) || y) ≡ ((x || y) || n)
+          turned true n y = refl
+          turned false true true = refl
+          turned false true false = refl
+          turned false false true = refl
+          turned false false false = refl
+
+      reads : (c : Cell) (j : ℕ) → reads_in (record s { reads = (front ++ word a ∷ []) ++ behind }) c j ≡ (reads_in s c j || (j == offset && is_read (Read a ∷ []) c))
+      reads (ram_byte i) j = between (word_address i) j
+      reads waiting_bytes j = none _ (j == offset)
+      reads (pending_level l) j = none _ (j == offset)
+
+      writes : (c : Cell) (j : ℕ) → writes_in s c j ≡ (writes_in s c j || (j == offset && is_told_written (Read a ∷ []) c))
+      writes (ram_byte i) j = none _ (j == offset)
+      writes waiting_bytes j = none _ (j == offset)
+      writes (pending_level l) j = (gains_nothing offset s).writes (pending_level l) j
+
+  pub gains_write : (a : ℕ) → Gains offset (Write a ∷ []) s (record s { writes = s.writes ++ record { address = a; offset = offset } ∷ [] })
+  gains_write a = record {
+    reads = λ c j. reads c j;
+    writes = λ c j. writes c j;
+    takes = λ j. none (is_among j s.inputs) (j == offset);
+  }
+    where
+      reads : (c : Cell) (j : ℕ) → reads_in s c j ≡ (reads_in s c j || (j == offset && is_read (Write a ∷ []) c))
+      reads (ram_byte i) j = none _ (j == offset)
+      reads waiting_bytes j = none _ (j == offset)
+      reads (pending_level l) j = none _ (j == offset)
+
+      writes : (c : Cell) (j : ℕ) → writes_in (record s { writes = s.writes ++ record { address = a; offset = offset } ∷ [] }) c j ≡ (writes_in s c j || (j == offset && is_told_written (Write a ∷ []) c))
+      writes (ram_byte i) j = noted s.writes a (word_address i) j
+      writes waiting_bytes j = none _ (j == offset)
+      writes (pending_level l) j = (gains_nothing offset s).writes (pending_level l) j
+
+  among : (xs : List ℕ) (j : ℕ) → is_among j (xs ++ offset ∷ []) ≡ (is_among j xs || (j == offset && true))
+  among xs j = any_one (λ o. o == j) xs offset ∙ ap (λ b. is_among j xs || b) (swap offset j ∙ yes (j == offset))
+    where
+      yes : (b : Bool) → b ≡ (b && true)
+      yes true = refl
+      yes false = refl
+
+  pub gains_input : Gains offset (Input ∷ []) s (record s { inputs = s.inputs ++ offset ∷ [] })
+  gains_input = record {
+    reads = λ c j. reads c j;
+    writes = λ c j. writes c j;
+    takes = λ j. among s.inputs j;
+  }
+    where
+      reads : (c : Cell) (j : ℕ) → reads_in (record s { inputs = s.inputs ++ offset ∷ [] }) c j ≡ (reads_in s c j || (j == offset && is_read (Input ∷ []) c))
+      reads (ram_byte i) j = none _ (j == offset)
+      reads waiting_bytes j = among s.inputs j
+      reads (pending_level l) j = none _ (j == offset)
+
+      writes : (c : Cell) (j : ℕ) → writes_in s c j ≡ (writes_in s c j || (j == offset && is_told_written (Input ∷ []) c))
+      writes (ram_byte i) j = none _ (j == offset)
+      writes waiting_bytes j = none _ (j == offset)
+      writes (pending_level l) j = (gains_nothing offset s).writes (pending_level l) j
+
+  pub gains_expiry : Gains offset (Expiry ∷ []) s (record s { expiries = s.expiries ++ offset ∷ [] })
+  gains_expiry = record {
+    reads = λ c j. reads c j;
+    writes = λ c j. writes c j;
+    takes = λ j. none (is_among j s.inputs) (j == offset);
+  }
+    where
+      reads : (c : Cell) (j : ℕ) → reads_in s c j ≡ (reads_in s c j || (j == offset && is_read (Expiry ∷ []) c))
+      reads (ram_byte i) j = none _ (j == offset)
+      reads waiting_bytes j = none _ (j == offset)
+      reads (pending_level l) j = none _ (j == offset)
+
+      writes : (c : Cell) (j : ℕ) → writes_in (record s { expiries = s.expiries ++ offset ∷ [] }) c j ≡ (writes_in s c j || (j == offset && is_told_written (Expiry ∷ []) c))
+      writes (ram_byte i) j = none _ (j == offset)
+      writes waiting_bytes j = none _ (j == offset)
+      writes (pending_level l) j = ap (λ b. l == timer_level && b) (among s.expiries j) ∙ level (l == timer_level) (is_among j s.expiries) (j == offset)
+        where
+          level : (t x o : Bool) → (t && (x || (o && true))) ≡ ((t && x) || (o && (t && true)))
+          level true x o = refl
+          level false x true = refl
+          level false x false = refl
+
+  pub gains_levels : (levels : ℕ) (new : Steps) → new ≡ record s { levels = new.levels }
+      → ((l j : ℕ) → list_any (is_asked_in l j) new.levels ≡ (list_any (is_asked_in l j) s.levels || (j == offset && bit levels l))) → Gains offset (Levels levels ∷ []) s new
+  gains_levels levels new rest asked = record {
+    reads = λ c j. ap (λ n. reads_in n c j) rest ∙ reads c j;
+    writes = λ c j. ap (λ n. writes_in n c j) rest ∙ writes c j;
+    takes = λ j. ap (λ (n : Steps). is_among j n.inputs) rest ∙ none (is_among j s.inputs) (j == offset);
+  }
+    where
+      last : (b : Bool) → b ≡ (b || false)
+      last true = refl
+      last false = refl
+
+      reads : (c : Cell) (j : ℕ) → reads_in (record s { levels = new.levels }) c j ≡ (reads_in s c j || (j == offset && is_read (Levels levels ∷ []) c))
+      reads (ram_byte i) j = none _ (j == offset)
+      reads waiting_bytes j = none _ (j == offset)
+      reads (pending_level l) j = asked l j ∙ ap (λ b. list_any (is_asked_in l j) s.levels || (j == offset && b)) (last (bit levels l))
+
+      writes : (c : Cell) (j : ℕ) → writes_in s c j ≡ (writes_in s c j || (j == offset && is_told_written (Levels levels ∷ []) c))
+      writes (ram_byte i) j = none _ (j == offset)
+      writes waiting_bytes j = none _ (j == offset)
+      writes (pending_level l) j = (gains_nothing offset s).writes (pending_level l) j
+
+-- ---- one touch after another
+
+gathered : (x o a b : Bool) → ((x || (o && a)) || (o && b)) ≡ (x || (o && (a || b)))
+gathered true o a b = refl
+gathered false true a b = refl
+gathered false false a b = refl
+
+pub read_append : (ts us : List Touch) (c : Cell) → is_read (ts ++ us) c ≡ (is_read ts c || is_read us c)
+read_append ts us (ram_byte i) = any_append (is_read_of (word_address i)) ts us
+read_append ts us waiting_bytes = any_append is_input ts us
+read_append ts us (pending_level l) = any_append (asks l) ts us
+
+pub written_append : (ts us : List Touch) (c : Cell) → is_told_written (ts ++ us) c ≡ (is_told_written ts c || is_told_written us c)
+written_append ts us (ram_byte i) = any_append (is_write_of (word_address i)) ts us
+written_append ts us waiting_bytes = refl
+written_append ts us (pending_level l) = ap (λ b. l == timer_level && b) (any_append is_expiry ts us) ∙ over (l == timer_level) (list_any is_expiry ts) (list_any is_expiry us)
+  where
+    over : (t a b : Bool) → (t && (a || b)) ≡ ((t && a) || (t && b))
+    over true a b = refl
+    over false a b = refl
+
+pub gains_then : (offset : ℕ) (ts us : List Touch) (r s t : Steps) → Gains offset ts r s → Gains offset us s t → Gains offset (ts ++ us) r t
+gains_then offset ts us r s t p q = record {
+  reads = λ c j. q.reads c j ∙ ap (λ b. b || (j == offset && is_read us c)) (p.reads c j) ∙ gathered (reads_in r c j) (j == offset) (is_read ts c) (is_read us c) ∙ ap (λ b. reads_in r c j || (j == offset && b)) (sym (read_append ts us c));
+  writes = λ c j. q.writes c j ∙ ap (λ b. b || (j == offset && is_told_written us c)) (p.writes c j) ∙ gathered (writes_in r c j) (j == offset) (is_told_written ts c) (is_told_written us c) ∙ ap (λ b. writes_in r c j || (j == offset && b)) (sym (written_append ts us c));
+  takes = λ j. q.takes j ∙ ap (λ b. b || (j == offset && reads_input us)) (p.takes j) ∙ gathered (is_among j r.inputs) (j == offset) (reads_input ts) (reads_input us) ∙ ap (λ b. is_among j r.inputs || (j == offset && b)) (sym (any_append is_input ts us));
+}
+
+-- a fetch, whose note is behind those of other fetches and in front of other reads
+pub gains_fetch : (offset a : ℕ) (old s : Steps) (fetches more reads : List WordNote) → old ≡ s → old.reads ≡ fetches ++ reads → more ≡ fetches ++ record { address = a; offset = offset } ∷ []
+    → Gains offset (Read a ∷ []) s (record old { reads = more ++ reads })
+gains_fetch offset a old s fetches more reads same is longer =
+    subst (λ r. Gains offset (Read a ∷ []) r (record old { reads = more ++ reads })) same
+    (subst (λ words. Gains offset (Read a ∷ []) old (record old { reads = words ++ reads })) (sym longer) (gains_read offset old a fetches reads is))
+
+-- the same of touches that read, write and take the same
+pub gains_like : (offset : ℕ) (ts us : List Touch) (r s : Steps) → ((c : Cell) → is_read us c ≡ is_read ts c) → ((c : Cell) → is_told_written us c ≡ is_told_written ts c) → reads_input us ≡ reads_input ts
+    → Gains offset ts r s → Gains offset us r s
+gains_like offset ts us r s reads writes takes p = record {
+  reads = λ c j. p.reads c j ∙ ap (λ b. reads_in r c j || (j == offset && b)) (sym (reads c));
+  writes = λ c j. p.writes c j ∙ ap (λ b. writes_in r c j || (j == offset && b)) (sym (writes c));
+  takes = λ j. p.takes j ∙ ap (λ b. is_among j r.inputs || (j == offset && b)) (sym takes);
+}
+
+pub gains_taken : (offset : ℕ) (ts : List Touch) (i : ℕ) (d : Touch) (r s t : Steps) → i < length ts → Gains offset (take i ts) r s → Gains offset (get_or ts i d ∷ []) s t → Gains offset (take (i + 1) ts) r t
+gains_taken offset ts i d r s t h p q = rw (take_more ts i d h) (gains_then offset (take i ts) (get_or ts i d ∷ []) r s t p q)

@@ -1,0 +1,11 @@
+pub mod KeptLists
+pub mod Touching
+pub mod Gaining
+pub mod Flagging
+pub mod Told
+pub mod Firsts
+pub mod RunsOfWords
+pub mod Marking
+pub mod NotesInRange
+pub mod RunLists
+pub mod Common

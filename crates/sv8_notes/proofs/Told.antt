@@ -1,0 +1,81 @@
+-- What is told of the steps that are most frequent.
+use Rattle.std.proofs.Common.{◌≡◌, ◌≢◌, ℕ, List, [], ◌∷◌, ◌++◌, ◌==◌, Bool, true, false, not, ◌&&◌, ◌||◌, refl, sym, ◌∙◌, ap, ne_eqb}
+use Rattle.std.specs.List.{list_any}
+use Rattle.sv8_model.specs.declared.touch.Touch.{Touch}
+use Rattle.sv8_model.specs.declared.touch.Touch.TheVariants.{Read, Write, Levels}
+use Rattle.sv8_model.specs.Outside.{word_address}
+use Rattle.sv8_model.specs.Footprint.{is_write_of, reads_input}
+use Rattle.sv8_model.specs.Cells.{Cell, ram_byte, waiting_bytes, pending_level, is_read, is_written}
+use Rattle.sv8_phys.specs.Notes.{told}
+use Rattle.sv8_notes.specs.Touched.{is_touched, is_told_written}
+use Rattle.sv8_notes.specs.Steps.{Steps, Gains}
+use Rattle.sv8_notes.proofs.Gaining.{or_none, gains_like, gains_then, read_append, written_append}
+use Rattle.sv8_notes.proofs.Touching.{told_read, told_written, touched_parts, touched_told}
+
+-- a word that is fetched
+pub told_fetch : (a : ℕ) → told (Read a ∷ []) ≡ Read a ∷ []
+unfolding told
+told_fetch a = refl
+
+pub told_load : (a b : ℕ) → told (Read a ∷ Read b ∷ []) ≡ Read a ∷ Read b ∷ []
+unfolding told
+told_load a b = refl
+
+-- a store of another word than that
+pub told_store : (a b : ℕ) → a ≢ b → told (Read a ∷ Write b ∷ []) ≡ Read a ∷ Write b ∷ []
+unfolding told
+told_store a b apart = rw (ne_eqb a b apart)
+
+-- ---- levels that are asked first
+
+or_swap : (x y : Bool) → (x || y) ≡ (y || x)
+or_swap true true = refl
+or_swap true false = refl
+or_swap false true = refl
+or_swap false false = refl
+
+module _ (levels : ℕ) (ts : List Touch) where
+  reads : (c : Cell) → is_read (told (Levels levels ∷ ts)) c ≡ is_read (told ts ++ Levels levels ∷ []) c
+  reads c =
+      told_read (Levels levels ∷ ts) c
+      ∙ read_append (Levels levels ∷ []) ts c
+      ∙ or_swap (is_read (Levels levels ∷ []) c) (is_read ts c)
+      ∙ ap (λ b. b || is_read (Levels levels ∷ []) c) (sym (told_read ts c))
+      ∙ sym (read_append (told ts) (Levels levels ∷ []) c)
+
+  none_written : (c : Cell) → is_written (Levels levels ∷ ts) c ≡ (is_written ts c || is_told_written (Levels levels ∷ []) c)
+  none_written (ram_byte i) = sym (or_none _)
+  none_written waiting_bytes = refl
+  none_written (pending_level l) = both (l == 10) (is_written ts (pending_level l))
+    where
+      both : (t x : Bool) → x ≡ (x || (t && false))
+      both true x = sym (or_none x)
+      both false x = sym (or_none x)
+
+  writes : (c : Cell) → is_told_written (told (Levels levels ∷ ts)) c ≡ is_told_written (told ts ++ Levels levels ∷ []) c
+  writes c =
+      told_written (Levels levels ∷ ts) c
+      ∙ none_written c
+      ∙ ap (λ b. b || is_told_written (Levels levels ∷ []) c) (sym (told_written ts c))
+      ∙ sym (written_append (told ts) (Levels levels ∷ []) c)
+
+  takes : reads_input (told (Levels levels ∷ ts)) ≡ reads_input (told ts ++ Levels levels ∷ [])
+  takes = reads waiting_bytes
+
+  pub gains_levels_first : (offset : ℕ) (r s t : Steps) → Gains offset (told ts) r s → Gains offset (Levels levels ∷ []) s t → Gains offset (told (Levels levels ∷ ts)) r t
+  gains_levels_first offset r s t p q =
+      gains_like offset (told ts ++ Levels levels ∷ []) (told (Levels levels ∷ ts)) r t reads writes takes (gains_then offset (told ts) (Levels levels ∷ []) r s t p q)
+
+-- what is told touches the cells that what was noted touches
+pub touches_told : (ts : List Touch) (c : Cell) → is_touched ts c ≡ is_touched (told ts) c
+touches_told ts c = touched_parts ts c ∙ parts c ∙ sym (touched_told ts c)
+  where
+    over : (r w : Bool) → (r || w) ≡ (r || (w && not r))
+    over true w = refl
+    over false true = refl
+    over false false = refl
+
+    parts : (c : Cell) → (is_read ts c || is_told_written ts c) ≡ (is_read ts c || is_written ts c)
+    parts (ram_byte i) = over (is_read ts (ram_byte i)) (list_any (is_write_of (word_address i)) ts)
+    parts waiting_bytes = refl
+    parts (pending_level l) = refl

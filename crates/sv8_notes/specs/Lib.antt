@@ -1,0 +1,10 @@
+pub mod Cells
+pub mod Kept
+pub mod Touched
+pub mod Steps
+pub mod Sought
+pub mod Marks
+pub mod WordRuns
+pub mod Touching
+pub mod Flags
+pub mod PageRuns

@@ -1,0 +1,507 @@
+//! The notes of the steps from a checkpoint to the next one.
+
+ghost use Rattle.std.specs.Prelude.{◌≡◌, ℕ, ◌+◌, ◌<◌, ◌≤◌, ◌==◌, ◌&&◌, ◌||◌, ◌++◌, ◌∷◌, [], Bool, true, false, IfOk, OnOk, MatchBool};
+ghost use Rattle.std.specs.List.{list_any};
+ghost use Rattle.sv8_model.specs.Words.{bit};
+ghost use Rattle.sv8_notes.specs.Cells.{cell_of};
+ghost use Rattle.sv8_notes.specs.Flags.{IsFlagged};
+ghost use Rattle.sv8_notes.specs.Marks.{mark_of, IsUntouched};
+ghost use Rattle.sv8_notes.specs.Steps.{Gains, IsFirstBelow, footprint_in, is_among, is_asked_in, is_word_of, has_word, no_steps};
+ghost use Rattle.sv8_notes.specs.Sought.{is_met, sought_word};
+ghost use Rattle.sv8_notes.specs.Touching.{is_from_to, is_note_in, are_notes_in, touches_any};
+ghost use Rattle.sv8_notes.specs.WordRuns.{words_of};
+ghost use Rattle.sv8_phys.specs.Notes.{told};
+
+use crate::cell::Cell;
+use crate::flags::flag_step;
+use crate::level_run::LevelRun;
+use crate::mark_words::{mark_all, mark_runs};
+use crate::marks::Marks;
+use crate::offsets::{first_among, lesser, within};
+use crate::step_notes::TIMER_LEVEL;
+use crate::word_run::WordRun;
+use std::alloc::{AllocError, Global};
+use std::marker::Model;
+use sv8_phys::Touch;
+
+/// A word of RAM that a step reads, or writes. Steps are named by their offset, the number of steps since the checkpoint.
+#[derive(Clone, Copy)]
+pub(crate) struct WordNote {
+    pub address: u32,
+    pub offset: u32,
+}
+
+/// What is looked for in the steps.
+#[derive(Clone, Copy)]
+pub enum Sought {
+    /// A step that reads the cell.
+    Read(Cell),
+    /// A step that writes the cell.
+    Write(Cell),
+    /// A step that does either.
+    Touch(Cell),
+    /// A step that takes or counts the bytes that wait at the console.
+    Input,
+}
+
+impl Sought {
+    /// The address of the word that is looked for, if one is.
+    pub fn word(self) -> Option<u32>
+        ensures { result ≡ sought_word self }
+    {
+        match self {
+            Sought::Read(cell) | Sought::Write(cell) | Sought::Touch(cell) => cell.word(),
+            Sought::Input => None,
+        }
+    }
+}
+
+/// What each of the steps from a checkpoint to the next one touches.
+#[derive(Drop)]
+pub struct Notes {
+    /// The words that are read as the first of their step, but for the rarer steps: instructions that are fetched.
+    fetches: Vec<WordRun>,
+    /// All other words that are read.
+    reads: Vec<WordNote>,
+    writes: Vec<WordNote>,
+    levels: Vec<LevelRun>,
+    inputs: Vec<u32>,
+    expiries: Vec<u32>,
+}
+
+impl Model for Notes {
+    ghost use Rattle.std.specs.Prelude.{◌++◌};
+    ghost use Rattle.sv8_notes.specs.Steps.{Steps};
+    ghost use Rattle.sv8_notes.specs.WordRuns.{words_of};
+
+    ghost Value = { Steps };
+
+    ghost view = { λ n. record { reads = words_of n.fetches.items ++ n.reads.items; writes = n.writes.items; levels = n.levels.items; inputs = n.inputs.items; expiries = n.expiries.items } };
+}
+
+impl WordNote {
+    /// The step, if it is from one step on and below another, and the word has this address.
+    fn first(&self, address: u32, from: u32, end: u32) -> Option<u32>
+        ensures { IsFirstBelow (λ n. is_word_of address n self.now) from end result }
+    {
+        if self.address == address {
+            within(self.offset, from, end)
+        } else {
+            None
+        }
+    }
+}
+
+/// The first step from one offset on and below another that has a note of a word.
+fn first_of_word(notes: &[WordNote], address: u32, from: u32, end: u32) -> Option<u32>
+    ensures { IsFirstBelow (has_word notes.now address) from end result }
+{
+    let mut found = None;
+    for note in notes {
+        found = lesser(found, note.first(address, from, end));
+    }
+    found
+}
+
+/// The first step from one offset on and below another that reads a word of some runs.
+fn first_of_runs(runs: &[WordRun], address: u32, from: u32, end: u32) -> Option<u32>
+    ensures { IsFirstBelow (has_word (words_of runs.now) address) from end result }
+{
+    let mut found = None;
+    for run in runs {
+        found = lesser(found, run.first_of(address, from, end));
+    }
+    found
+}
+
+/// Whether a number is one of those from one to another.
+fn is_from_to(low: u32, last: u32, number: u32) -> bool
+    ensures { result ≡ is_from_to low last number }
+{
+    low <= number && number <= last
+}
+
+impl WordNote {
+    /// Whether it is of a word whose address is from one to another, at a step from one offset on and below another.
+    pub(crate) fn is_in(&self, low: u32, last: u32, from: u32, end: u32) -> bool
+        ensures { result ≡ is_note_in low last from end self.now }
+    {
+        (self.address % 4 == 0 && is_from_to(low, last, self.address))
+            && (from <= self.offset && self.offset < end)
+    }
+}
+
+impl WordNote {
+    /// Sets the flag of its step, where its word has an address from one to another. Flag number i is that of the step with
+    /// the offset `from + i`.
+    #[inline(always)]
+    pub(crate) fn flag(&self, low: u32, last: u32, from: u32, flags: &mut [bool])
+        ensures { IsFlagged (λ i. is_note_in low last (from + i) (from + i + 1) self.now) flags.old flags.new }
+    {
+        if self.address % 4 == 0 && is_from_to(low, last, self.address) {
+            flag_step(self.offset, from, flags);
+        }
+    }
+}
+
+/// Sets the flags of the steps of some notes.
+fn flag_notes(notes: &[WordNote], low: u32, last: u32, from: u32, flags: &mut [bool])
+    ensures { IsFlagged (λ i. are_notes_in low last (from + i) (from + i + 1) notes.now) flags.old flags.new }
+{
+    let mut rest = notes;
+    while let [note, after @ ..] = rest {
+        note.flag(low, last, from, flags);
+        rest = after;
+    }
+}
+
+/// Sets the flags of the steps of some runs.
+fn flag_runs(runs: &[WordRun], low: u32, last: u32, from: u32, flags: &mut [bool])
+    ensures { IsFlagged (λ i. are_notes_in low last (from + i) (from + i + 1) (words_of runs.now)) flags.old flags.new }
+{
+    let mut rest = runs;
+    while let [run, after @ ..] = rest {
+        run.flag(low, last, from, flags);
+        rest = after;
+    }
+}
+
+/// Whether one of some notes is.
+fn are_in(notes: &[WordNote], low: u32, last: u32, from: u32, end: u32) -> bool
+    ensures { result ≡ are_notes_in low last from end notes.now }
+{
+    let mut rest = notes;
+    while let [note, after @ ..] = rest {
+        if note.is_in(low, last, from, end) {
+            return true;
+        }
+        rest = after;
+    }
+    false
+}
+
+/// Whether one of the notes of some runs is.
+fn are_in_runs(runs: &[WordRun], low: u32, last: u32, from: u32, end: u32) -> bool
+    ensures { result ≡ are_notes_in low last from end (words_of runs.now) }
+{
+    let mut rest = runs;
+    while let [run, after @ ..] = rest {
+        if run.is_any_in(low, last, from, end) {
+            return true;
+        }
+        rest = after;
+    }
+    false
+}
+
+/// Takes a note of a word.
+#[inline(always)]
+fn note_word(notes: &mut Vec<WordNote>, address: u32, offset: u32) -> Result<(), AllocError>
+    ensures { OnOk result (notes.new.items ≡ notes.old.items ++ record { address = address; offset = offset } ∷ []) }
+{
+    notes.reserve(1)?;
+    notes.push_reserved(WordNote { address, offset });
+    Ok(())
+}
+
+/// Takes a word more into the last run, if it is the next one. Tells whether it was taken.
+#[inline(always)]
+fn extend_last(runs: &mut Vec<WordRun>, address: u32, offset: u32) -> bool
+    requires { offset < 1000000 }
+    ensures { MatchBool result (words_of runs.new.items ≡ words_of runs.old.items ++ record { address = address; offset = offset } ∷ []) (runs.new.items ≡ runs.old.items) }
+{
+    let count = runs.len();
+    if count == 0 {
+        return false;
+    }
+    runs[count - 1].extend(address, offset)
+}
+
+impl Notes {
+    /// Of no steps.
+    pub fn new(alloc: Global) -> Notes
+        ensures { result ≡ no_steps }
+    {
+        Notes {
+            fetches: Vec::new(alloc),
+            reads: Vec::new(alloc),
+            writes: Vec::new(alloc),
+            levels: Vec::new(alloc),
+            inputs: Vec::new(alloc),
+            expiries: Vec::new(alloc),
+        }
+    }
+
+    /// Lets all notes go; the memory stays.
+    pub fn clear(&mut self)
+        ensures { self.new ≡ no_steps }
+    {
+        self.fetches.clear();
+        self.reads.clear();
+        self.writes.clear();
+        self.levels.clear();
+        self.inputs.clear();
+        self.expiries.clear();
+    }
+
+    /// The same notes once more, in no more memory than they need.
+    ///
+    /// # Errors
+    ///
+    /// `AllocError` where that memory cannot be had.
+    pub fn copy(&self) -> Result<Notes, AllocError>
+        ensures { IfOk result (λ n. n ≡ self.now) }
+    {
+        Ok(Notes {
+            fetches: self.fetches.clone()?,
+            reads: self.reads.clone()?,
+            writes: self.writes.clone()?,
+            levels: self.levels.clone()?,
+            inputs: self.inputs.clone()?,
+            expiries: self.expiries.clone()?,
+        })
+    }
+
+    /// Levels are asked: the last run goes on, or another begins.
+    #[inline(always)]
+    fn note_levels(&mut self, levels: u16, offset: u32) -> Result<(), AllocError>
+        requires { offset < 1000000 }
+        ensures asked { OnOk result ((l j : ℕ) → list_any (is_asked_in l j) self.new.levels ≡ (list_any (is_asked_in l j) self.old.levels || (j == offset && bit levels l))) }
+        ensures others { OnOk result (self.new ≡ record self.old { levels = self.new.levels }) }
+    {
+        let count = self.levels.len();
+        if count > 0 && self.levels[count - 1].extend(levels, offset) {
+            return Ok(());
+        }
+        self.levels.reserve(1)?;
+        self.levels.push_reserved(LevelRun {
+            first: offset,
+            end: offset + 1,
+            levels,
+        });
+        Ok(())
+    }
+
+    /// Takes a note of a touch.
+    #[inline(always)]
+    fn note(&mut self, touch: Touch, offset: u32) -> Result<(), AllocError>
+        requires { offset < 1000000 }
+        ensures { OnOk result (Gains offset (touch ∷ []) self.old self.new) }
+    {
+        match touch {
+            Touch::Read(address) => note_word(&mut self.reads, address, offset)?,
+            Touch::Write(address) => note_word(&mut self.writes, address, offset)?,
+            Touch::Input => self.inputs.push(offset)?,
+            Touch::Levels(levels) => self.note_levels(levels, offset)?,
+            Touch::Expiry => self.expiries.push(offset)?,
+        }
+        Ok(())
+    }
+
+    /// Takes a note of the first word that a step reads.
+    #[inline(always)]
+    fn note_fetch(&mut self, address: u32, offset: u32) -> Result<(), AllocError>
+        requires { offset < 1000000 }
+        ensures { OnOk result (Gains offset (Touch.Read address ∷ []) self.old self.new) }
+    {
+        if extend_last(&mut self.fetches, address, offset) {
+            return Ok(());
+        }
+        self.fetches.reserve(1)?;
+        self.fetches.push_reserved(WordRun::new(address, offset));
+        Ok(())
+    }
+
+    /// Takes a note of the only touch of a step, if it reads a word. Tells whether it does; else no note is taken.
+    #[inline(always)]
+    fn note_one(&mut self, touch: Touch, offset: u32) -> Result<bool, AllocError>
+        requires { offset < 1000000 }
+        ensures { IfOk result (λ done. MatchBool done (Gains offset (told (touch ∷ [])) self.old self.new) (self.new ≡ self.old)) }
+    {
+        match touch {
+            Touch::Read(fetched) => {
+                self.note_fetch(fetched, offset)?;
+                Ok(true)
+            }
+            _ => Ok(false),
+        }
+    }
+
+    /// The same of a step that touches twice: it reads a word, and reads a word or writes another one.
+    #[inline(always)]
+    fn note_two(&mut self, first: Touch, second: Touch, offset: u32) -> Result<bool, AllocError>
+        requires { offset < 1000000 }
+        ensures { IfOk result (λ done. MatchBool done (Gains offset (told (first ∷ second ∷ [])) self.old self.new) (self.new ≡ self.old)) }
+    {
+        match (first, second) {
+            (Touch::Read(fetched), Touch::Read(_)) => {
+                self.note_fetch(fetched, offset)?;
+                self.note(second, offset)?;
+                Ok(true)
+            }
+            (Touch::Read(fetched), Touch::Write(written)) if fetched != written => {
+                self.note_fetch(fetched, offset)?;
+                self.note(second, offset)?;
+                Ok(true)
+            }
+            _ => Ok(false),
+        }
+    }
+
+    /// The same of one touch or two: an instruction that is fetched, and its data.
+    #[inline(always)]
+    fn note_words(&mut self, touches: &[Touch], offset: u32) -> Result<bool, AllocError>
+        requires { offset < 1000000 }
+        ensures { IfOk result (λ done. MatchBool done (Gains offset (told touches.now) self.old self.new) (self.new ≡ self.old)) }
+    {
+        match touches {
+            [touch] => self.note_one(*touch, offset),
+            [first, second] => self.note_two(*first, *second, offset),
+            _ => Ok(false),
+        }
+    }
+
+    /// The same of a step that asks interrupt levels first.
+    #[inline(always)]
+    fn note_asking(
+        &mut self,
+        levels: u16,
+        touches: &[Touch],
+        offset: u32,
+    ) -> Result<bool, AllocError>
+        requires { offset < 1000000 }
+        ensures { IfOk result (λ done. MatchBool done (Gains offset (told (Touch.Levels levels ∷ touches.now)) self.old self.new) (self.new ≡ self.old)) }
+    {
+        if !self.note_words(touches, offset)? {
+            return Ok(false);
+        }
+        self.note_levels(levels, offset)?;
+        Ok(true)
+    }
+
+    /// Takes notes of a step, if it is one of the frequent ones: it fetches a word, may read or write one more, and may ask
+    /// interrupt levels before. Tells whether it is such a step; of another no note is taken.
+    ///
+    /// # Errors
+    ///
+    /// `AllocError` where memory for them cannot be had; some are then taken.
+    #[inline(always)]
+    pub fn note_frequent(&mut self, touches: &[Touch], offset: u32) -> Result<bool, AllocError>
+        requires { offset < 1000000 }
+        ensures { IfOk result (λ done. MatchBool done (Gains offset (told touches.now) self.old self.new) (self.new ≡ self.old)) }
+    {
+        match touches {
+            [] => Ok(false),
+            [first, rest @ ..] => match *first {
+                Touch::Levels(levels) => self.note_asking(levels, rest, offset),
+                _ => self.note_words(touches, offset),
+            },
+        }
+    }
+
+    /// Takes notes of what a step touches.
+    ///
+    /// # Errors
+    ///
+    /// `AllocError` where memory for them cannot be had; some are then taken.
+    #[inline(never)]
+    pub fn note_step(&mut self, touches: &[Touch], offset: u32) -> Result<(), AllocError>
+        requires { offset < 1000000 }
+        ensures { OnOk result (Gains offset touches.now self.old self.new) }
+    {
+        for touch in touches {
+            self.note(*touch, offset)?;
+        }
+        Ok(())
+    }
+
+    /// Marks the words that the steps touch with a number, unless their marks are greater.
+    ///
+    /// # Errors
+    ///
+    /// `AllocError` where memory for the marks cannot be had; some words are then marked.
+    pub fn mark_words(&self, alloc: Global, marks: &mut Marks, mark: u32) -> Result<(), AllocError>
+        ensures grows { (a : ℕ) → mark_of marks.old a ≤ mark_of marks.new a }
+        ensures marked { OnOk result ((a : ℕ) → mark_of marks.new a < mark → IsUntouched self.now a) }
+    {
+        mark_runs(alloc, marks, &self.fetches, mark)?;
+        mark_all(alloc, marks, &self.reads, mark)?;
+        mark_all(alloc, marks, &self.writes, mark)?;
+        Ok(())
+    }
+
+    /// The first step from one offset on and below another that asks a level.
+    fn first_asking(&self, level: u32, from: u32, end: u32) -> Option<u32>
+        ensures { IsFirstBelow (λ n. list_any (is_asked_in level n) self.now.levels) from end result }
+    {
+        let mut found = None;
+        for run in &self.levels {
+            found = lesser(found, run.first_asking(level, from, end));
+        }
+        found
+    }
+
+    /// The first step from one offset on and below another that reads a word.
+    fn first_word_read(&self, address: u32, from: u32, end: u32) -> Option<u32>
+        ensures { IsFirstBelow (has_word self.now.reads address) from end result }
+    {
+        lesser(
+            first_of_runs(&self.fetches, address, from, end),
+            first_of_word(&self.reads, address, from, end),
+        )
+    }
+
+    /// The first step that reads a cell.
+    fn first_read(&self, cell: Cell, from: u32, end: u32) -> Option<u32>
+        ensures { IsFirstBelow (λ n. (footprint_in self.now n).reads (cell_of cell)) from end result }
+    {
+        match cell {
+            Cell::Byte(address) => self.first_word_read(4 * (address / 4), from, end),
+            Cell::Level(level) => self.first_asking(level, from, end),
+        }
+    }
+
+    /// The first step that writes a cell.
+    fn first_write(&self, cell: Cell, from: u32, end: u32) -> Option<u32>
+        ensures { IsFirstBelow (λ n. (footprint_in self.now n).writes (cell_of cell)) from end result }
+    {
+        match cell {
+            Cell::Byte(address) => first_of_word(&self.writes, 4 * (address / 4), from, end),
+            Cell::Level(level) if level == TIMER_LEVEL => first_among(&self.expiries, from, end),
+            Cell::Level(_) => None,
+        }
+    }
+
+    /// The first step from one offset on and below another that does what is sought.
+    pub fn first_from(&self, sought: Sought, from: u32, end: u32) -> Option<u32>
+        ensures { IsFirstBelow (λ n. is_met sought (footprint_in self.now n)) from end result }
+    {
+        match sought {
+            Sought::Read(cell) => self.first_read(cell, from, end),
+            Sought::Write(cell) => self.first_write(cell, from, end),
+            Sought::Touch(cell) => lesser(
+                self.first_read(cell, from, end),
+                self.first_write(cell, from, end),
+            ),
+            Sought::Input => first_among(&self.inputs, from, end),
+        }
+    }
+    /// Whether a step from one offset on and below another touches a word whose address is from one to another.
+    pub fn touches_any(&self, low: u32, last: u32, from: u32, end: u32) -> bool
+        ensures { result ≡ touches_any low last from end self.now }
+    {
+        are_in_runs(&self.fetches, low, last, from, end)
+            || are_in(&self.reads, low, last, from, end)
+            || are_in(&self.writes, low, last, from, end)
+    }
+
+    /// Sets the flag of each step that touches a word whose address is from one to another. Flag number i is that of the
+    /// step with the offset `from + i`.
+    pub fn flag_touching(&self, low: u32, last: u32, from: u32, flags: &mut [bool])
+        ensures { IsFlagged (λ i. touches_any low last (from + i) (from + i + 1) self.now) flags.old flags.new }
+    {
+        flag_runs(&self.fetches, low, last, from, flags);
+        flag_notes(&self.reads, low, last, from, flags);
+        flag_notes(&self.writes, low, last, from, flags);
+    }
+}

@@ -1,6 +1,0 @@
-use Rattle.std.proofs.Common.{◌≡◌, ◌+◌}
-use Rattle.sv8_trace.specs.PageRuns.{before}
-use Rattle.sv8_trace.proofs.runs.find.Given as goal
-
-abbrev pub invariant-loop-run : goal.invariant-loop-run
-invariant-loop-run l = before l.run l.runs + l.offset ≡ l.at

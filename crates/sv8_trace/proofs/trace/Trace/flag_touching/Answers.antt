@@ -1,0 +1,40 @@
+use Rattle.std.proofs.Common.{◌≡◌, ◌≤◌, ◌<◌, ◌+◌, ◌-◌, ◌*◌, ◌/◌, ◌%◌, ◌∙◌, ℕ, MatchBool, arith, ap, sym, subst, refl, length, get_or}
+use Rattle.std.proofs.Math.Nat.{div-add-mod, div-eq_of_lt-le, mod-lt}
+use Rattle.sv8_notes.specs.Steps.{Steps}
+use Rattle.sv8_notes.specs.Touching.{touches_any}
+use Rattle.sv8_notes.proofs.Common.{flag_unless}
+use Rattle.sv8_trace.specs.Recording.{Recording, no_interval}
+use Rattle.sv8_trace.specs.Touching.{NoneTouches}
+use Rattle.sv8_trace.proofs.Searching.{notes_of}
+use Rattle.sv8_trace.proofs.Untouched.{touched_step}
+use Rattle.sv8_trace.proofs.trace.Trace.flag_touching.Goals as goal
+
+pub returns : goal.returns
+returns g c =
+    let k = g.row.K in
+    let a = c.args in
+    let r = a.self.now in
+    let from = a.from in
+    let flags = a.flags.now in
+    let xs = c.self.inside.intervals.items in
+    let pos : 0 < k = c.self.invariant.3 in
+    let same = ap (λ (q : Recording). q.intervals) c.self.view_is in
+    let all : k * length r.intervals ≡ k * length xs = ap (λ ys. k * length ys) (sym same) in
+    let low = 4 * (a.address / 4) in
+    let last = a.address + (a.count - 1) in
+    let some : 1 ≤ a.count = omega (arith, c.if-count-eq0.false) in
+    let notes = c.notes.result.now in
+    let spared : (i : ℕ) → i < length flags
+    → MatchBool (touches_any low last (from % k + i) (from % k + i + 1) notes) (NoneTouches g.row.NW g.row.PAGES k r a.address a.count (from + i) (from + i + 1) → ⊥)
+    (NoneTouches g.row.NW g.row.PAGES k r a.address a.count (from + i) (from + i + 1)) = λ i inside.
+    let split = div-add-mod from k in
+    let there : (from + i) / k ≡ from / k = div-eq_of_lt-le k (omega (arith, split)) (omega (arith, split, c.requires.interval, inside)) in
+    let turned = ap (λ q. k * q) there in
+    let rest : (from + i) % k ≡ from % k + i = omega (arith, div-add-mod (from + i) k, split, turned) in
+    let is = c.notes.ensures ∙ notes_of k from (from + length flags) xs r c.index.result.now _ pos same (omega (arith, inside)) (omega (arith, c.requires.recorded, all)) c.index.ensures
+    ∙ ap (λ q. (get_or r.intervals q no_interval).notes) (sym there) in
+    subst (λ j. MatchBool (touches_any low last j (j + 1) notes) (NoneTouches g.row.NW g.row.PAGES k r a.address a.count (from + i) (from + i + 1) → ⊥)
+    (NoneTouches g.row.NW g.row.PAGES k r a.address a.count (from + i) (from + i + 1))) rest
+    (touched_step g.row.NW g.row.PAGES k pos r a.address a.count low last refl some (omega (arith, some)) (from + i) notes is) in
+    flag_unless flags c.flag_touching.new.flags (λ i. touches_any low last (from % k + i) (from % k + i + 1) notes)
+    (λ i. NoneTouches g.row.NW g.row.PAGES k r a.address a.count (from + i) (from + i + 1)) c.flag_touching.ensures spared
