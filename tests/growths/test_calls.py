@@ -38,6 +38,9 @@ class Calls(unittest.TestCase):
     def test_trace(self) -> None:
         self.each_is_kept("trace")
 
+    def test_traps(self) -> None:
+        self.each_is_kept("traps")
+
     def test_assembler(self) -> None:
         self.each_is_kept("assembler")
 

@@ -4,17 +4,20 @@ use Rattle.std.specs.Prelude.{◌&&◌, ◌||◌, is_some}
 use Rattle.std.proofs.lemmas.List.Folds.{list_any-append}
 use Rattle.std.proofs.lemmas.Bool.{true≢false, MatchBool-at_false}
 use Rattle.std.proofs.Math.Nat.{div-add-mod, div-lt_iff_lt-mul, mod-lt, mul_comm}
+use Rattle.sv8_model.specs.declared.touch.TouchKind.{TouchKind}
+use Rattle.sv8_model.specs.declared.touch.TouchKind.TheVariants.{Any, Data}
 use Rattle.sv8_model.specs.Cells.{ram_byte}
-use Rattle.sv8_history.specs.Machine.{state_at, touches_of}
+use Rattle.sv8_history.specs.Machine.{state_at}
 use Rattle.sv8_time.specs.declared.words.WordPoke.{WordPoke}
 use Rattle.sv8_time.specs.Words.{poked_from, poked_bytes, bytes_of_words}
 use Rattle.sv8_cpu.specs.State.{State}
 use Rattle.sv8_cpu.specs.Recorded.{machine}
 use Rattle.sv8_cpu.specs.Run.{footprint}
-use Rattle.sv8_cpu.specs.Touching.{touches_byte, is_within, pokes_any}
+use Rattle.sv8_cpu.specs.Touching.{touches_byte_as, is_within, pokes_any}
 use Rattle.sv8_cpu.proofs.Common.{footprint_is, state_is}
 use Rattle.sv8_trace.specs.Recording.{recorded, trace_of}
 use Rattle.sv8_notes.specs.Flags.{IsFlagged, IsFlaggedUnless}
+use Rattle.sv8_notes.specs.Touching.{touches_as}
 use Rattle.sv8_trace.specs.Touching.{NoneTouches}
 use Rattle.sv8_trace.specs.Showing.{NoneShows}
 use Rattle.sv8_trace.specs.Signs.{has_sign, shows}
@@ -69,38 +72,42 @@ more_words address count w ws = list_any-append (λ p. is_within address count p
 
 -- ---- the recorded steps
 
-module _ (k : ℕ) (w : Workbench) (run : IsRun k w) (address count from to : ℕ) where
+module _ (kind : TouchKind) (k : ℕ) (w : Workbench) (run : IsRun k w) (address count from to : ℕ) where
   -- the notes of a recorded step are what it touches
-  noted : (n i : ℕ) → n < recorded k w.recording
-      → touches_of (machine w.kept.windows w.kept.pages) (trace_of w.kept.windows w.kept.pages k w.recording).notes (ram_byte i) n
-      ≡ touches_byte (footprint w.kept.windows w.kept.pages w.kept.timeline n (machine_state w.kept n)) i
-  noted n i below =
+  noted : (which : TouchKind) (n i : ℕ) → n < recorded k w.recording
+      → touches_as which ((trace_of w.kept.windows w.kept.pages k w.recording).notes n) (ram_byte i)
+      ≡ touches_byte_as which (footprint w.kept.windows w.kept.pages w.kept.timeline n (machine_state w.kept n)) i
+  noted Any n i below =
       let same = run.record_is.trace.notes n below in
       let it = footprint_is w.kept.windows w.kept.pages w.kept.source w.kept.timeline run.events n in
       ap₂ (λ x y. x || y) (same.reads (ram_byte i) ∙ ap (λ f. f.reads (ram_byte i)) it) (same.writes (ram_byte i) ∙ ap (λ f. f.writes (ram_byte i)) it)
+  noted Data n i below =
+      let same = run.record_is.trace.notes n below in
+      let it = footprint_is w.kept.windows w.kept.pages w.kept.source w.kept.timeline run.events n in
+      same.uses (ram_byte i) ∙ ap (λ f. f.uses (ram_byte i)) it
 
-  pub untouched : to ≤ recorded k w.recording → NoneTouches w.kept.windows w.kept.pages k w.recording address count from to → NonePokes w.kept.timeline address count from to
-      → IsUntouched k w address count from to
+  pub untouched : to ≤ recorded k w.recording → NoneTouches kind w.kept.windows w.kept.pages k w.recording address count from to → NonePokes w.kept.timeline address count from to
+      → IsUntouched kind k w address count from to
   untouched within none spared = record {
     recorded = within;
-    spared = λ n a b. record { touched = λ i c d. sym (noted n i (omega (arith, within, b))) ∙ none n i a b c d; poked = spared n a b };
+    spared = λ n a b. record { touched = λ i c d. sym (noted kind n i (omega (arith, within, b))) ∙ none n i a b c d; poked = spared n a b };
   }
 
-  pub none_touches : IsUntouched k w address count from to → NoneTouches w.kept.windows w.kept.pages k w.recording address count from to
-  none_touches h n i a b c d = let within = h.recorded in noted n i (omega (arith, within, b)) ∙ (h.spared n a b).touched i c d
+  pub none_touches : IsUntouched kind k w address count from to → NoneTouches kind w.kept.windows w.kept.pages k w.recording address count from to
+  none_touches h n i a b c d = let within = h.recorded in noted kind n i (omega (arith, within, b)) ∙ (h.spared n a b).touched i c d
 
-  pub none_pokes : IsUntouched k w address count from to → NonePokes w.kept.timeline address count from to
+  pub none_pokes : IsUntouched kind k w address count from to → NonePokes w.kept.timeline address count from to
   none_pokes h n a b = (h.spared n a b).poked
 
   -- the answer of a search through the notes, and of one through the events
-  pub answer_by_pokes : (poked : Bool) → to ≤ recorded k w.recording → NoneTouches w.kept.windows w.kept.pages k w.recording address count from to
+  pub answer_by_pokes : (poked : Bool) → to ≤ recorded k w.recording → NoneTouches kind w.kept.windows w.kept.pages k w.recording address count from to
       → MatchBool poked (NonePokes w.kept.timeline address count from to → ⊥) (NonePokes w.kept.timeline address count from to)
-      → MatchBool (not poked) (IsUntouched k w address count from to) (IsUntouched k w address count from to → ⊥)
+      → MatchBool (not poked) (IsUntouched kind k w address count from to) (IsUntouched kind k w address count from to → ⊥)
   answer_by_pokes true within none h = λ it. h (none_pokes it)
   answer_by_pokes false within none h = untouched within none h
 
-  pub answer_by_touches : (spared : Bool) → spared ≡ false → (NoneTouches w.kept.windows w.kept.pages k w.recording address count from to → ⊥)
-      → MatchBool spared (IsUntouched k w address count from to) (IsUntouched k w address count from to → ⊥)
+  pub answer_by_touches : (spared : Bool) → spared ≡ false → (NoneTouches kind w.kept.windows w.kept.pages k w.recording address count from to → ⊥)
+      → MatchBool spared (IsUntouched kind k w address count from to) (IsUntouched kind k w address count from to → ⊥)
   answer_by_touches true e h = absurd (true≢false e)
   answer_by_touches false e h = λ it. h (none_touches it)
 
@@ -127,9 +134,9 @@ module _ (k : ℕ) (w : Workbench) (pos : 0 < k) (run : IsRun k w) (from to : �
       sym (ap₂ (shows s) before after) ∙ each_shows_none s (λ x. state_of (k * i + x)) k j it (mod-lt n pos)
 
   -- the answers by the signs
-  pub answer_unreached : (address : ℕ) (none : Bool) → IsUntouched k w address 4 from to
+  pub answer_unreached : (address : ℕ) (none : Bool) → IsUntouched Any k w address 4 from to
       → MatchBool none (NoneShows sign.Translation k w.recording from to) (NoneShows sign.Translation k w.recording from to → ⊥)
-      → MatchBool none (IsUnreached k w address from to) (IsUntouched k w address 4 from to → NoneShows sign.Translation k w.recording from to → ⊥)
+      → MatchBool none (IsUnreached k w address from to) (IsUntouched Any k w address 4 from to → NoneShows sign.Translation k w.recording from to → ⊥)
   answer_unreached address true spared h = record { untouched = spared; untranslated = shown_none sign.Translation h }
   answer_unreached address false spared h = λ it none. h none
 
@@ -149,12 +156,12 @@ unflagged s k w pos run from old new within h i inside unset =
 
 -- ---- the flags of steps that are not spared
 
-module _ (k : ℕ) (w : Workbench) (run : IsRun k w) (address count from : ℕ) (old mid new : List Bool) (within : from + length old ≤ recorded k w.recording) where
+module _ (kind : TouchKind) (k : ℕ) (w : Workbench) (run : IsRun k w) (address count from : ℕ) (old mid new : List Bool) (within : from + length old ≤ recorded k w.recording) where
   abbrev Spared : ℕ → Type 0
-  Spared i = IsUntouched k w address count (from + i) (from + i + 1)
+  Spared i = IsUntouched kind k w address count (from + i) (from + i + 1)
 
   abbrev Untouching : ℕ → Type 0
-  Untouching i = NoneTouches w.kept.windows w.kept.pages k w.recording address count (from + i) (from + i + 1)
+  Untouching i = NoneTouches kind w.kept.windows w.kept.pages k w.recording address count (from + i) (from + i + 1)
 
   poked_nowhere : (i : ℕ) → pokes_at w.kept.timeline address count (from + i) ≡ false → NonePokes w.kept.timeline address count (from + i) (from + i + 1)
   poked_nowhere i none n low high =
@@ -165,10 +172,10 @@ module _ (k : ℕ) (w : Workbench) (run : IsRun k w) (address count from : ℕ) 
       → MatchBool touched ((get_or old i false ≡ true) ⊎ (Untouching i → ⊥)) ((get_or old i false ≡ false) × Untouching i)
       → MatchBool (touched || poked) ((get_or old i false ≡ true) ⊎ (Spared i → ⊥)) ((get_or old i false ≡ false) × Spared i)
   by_both i inside true poked e (inl was) = inl was
-  by_both i inside true poked e (inr touched) = inr (λ it. touched (none_touches k w run address count (from + i) (from + i + 1) it))
+  by_both i inside true poked e (inr touched) = inr (λ it. touched (none_touches kind k w run address count (from + i) (from + i + 1) it))
   by_both i inside false true e h =
-      inr (λ it. true≢false (sym e ∙ none_pokes k w run address count (from + i) (from + i + 1) it (from + i) (omega arith) (omega arith)))
-  by_both i inside false false e h = (h.0, untouched k w run address count (from + i) (from + i + 1) (omega (arith, within, inside)) h.1 (poked_nowhere i e))
+      inr (λ it. true≢false (sym e ∙ none_pokes kind k w run address count (from + i) (from + i + 1) it (from + i) (omega arith) (omega arith)))
+  by_both i inside false false e h = (h.0, untouched kind k w run address count (from + i) (from + i + 1) (omega (arith, within, inside)) h.1 (poked_nowhere i e))
 
   -- by their notes, and then by their events
   pub flagged_unless : IsFlaggedUnless Untouching old mid → IsFlagged (λ i. pokes_at w.kept.timeline address count (from + i)) mid new → IsFlaggedUnless Spared old new
@@ -186,7 +193,7 @@ shown_by false P Q h e = absurd (true≢false (sym e))
 
 -- a step whose flag is not set reaches no instruction, where no address is translated
 pub unreached_flag : (k : ℕ) (w : Workbench) → 0 < k → IsRun k w → (address from : ℕ) (old new : List Bool) → from + length old ≤ recorded k w.recording
-    → IsFlaggedUnless (λ i. IsUntouched k w address 4 (from + i) (from + i + 1)) old new → NoneShows sign.Translation k w.recording from (from + length old)
+    → IsFlaggedUnless (λ i. IsUntouched Any k w address 4 (from + i) (from + i + 1)) old new → NoneShows sign.Translation k w.recording from (from + length old)
     → (i : ℕ) → i < length old → get_or new i false ≡ false → (get_or old i false ≡ false) × IsUnreached k w address (from + i) (from + i + 1)
 unreached_flag k w pos run address from old new within h none i inside unset =
     let spared = MatchBool-at_false _ _ unset (h.flags i inside) in (

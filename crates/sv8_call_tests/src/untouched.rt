@@ -3,6 +3,7 @@
 use std::alloc::Global;
 use std::test::Fail;
 use sv8_bench::{Bench, BenchFault};
+use sv8_phys::TouchKind;
 
 /// A machine with one page of RAM, and a checkpoint every four steps.
 pub(crate) type Small = Bench<8, 1, 4>;
@@ -64,6 +65,32 @@ const POKED: [Range; 6] = [
     (0x202, 2, 0, 8, true),
 ];
 
+/// Ranges of `STORES` by their data: what is fetched is none.
+const STORED: [Range; 8] = [
+    (0, 4, 0, 8, true),
+    (0x10, 4, 0, 8, true),
+    (0x100, 4, 0, 3, true),
+    (0x100, 4, 3, 4, false),
+    (0x103, 1, 3, 4, false),
+    (0x100, 4, 4, 8, true),
+    (0xfc, 4, 0, 8, true),
+    (0xfc, 5, 0, 8, false),
+];
+
+/// A program that stores over an instruction while it is carried out, and loads a byte of the next one in it.
+const OWN: &[&[u8]] = &[b"st %g2, [0]", b"ldub [5], %g3", b"end: ba end", b"nop"];
+
+/// Ranges of `OWN` by their data.
+const OWN_WORDS: [Range; 7] = [
+    (0, 4, 0, 1, false),
+    (0, 4, 1, 8, true),
+    (4, 4, 0, 1, true),
+    (4, 1, 1, 2, false),
+    (5, 1, 1, 2, false),
+    (4, 4, 2, 8, true),
+    (8, 8, 0, 8, true),
+];
+
 /// Ranges of `TRANSLATES`: from step 5 on each fetch reads the entry.
 const WALKED: [Range; 5] = [
     (0x400, 4, 0, 5, true),
@@ -84,27 +111,28 @@ pub(crate) fn workbench(alloc: Global, texts: &[&[u8]]) -> Result<Small, Fail> {
     Ok(bench)
 }
 
-/// Whether each of these ranges has its answer.
-fn answers(bench: &Small, ranges: &[Range]) -> bool {
+/// Whether each of these ranges has its answer, by the touches that count.
+fn answers(bench: &Small, kind: TouchKind, ranges: &[Range]) -> bool {
     let mut holds = true;
     for &(address, count, from, to, due) in ranges {
-        let told = bench.is_untouched(u32::from(address), u32::from(count), from, to);
+        let told = bench.is_untouched(kind, u32::from(address), u32::from(count), from, to);
         holds = holds && told == due;
     }
     holds
 }
 
 /// Whether each has, once eight steps are recorded.
-fn tells(bench: &mut Small, ranges: &[Range]) -> Result<bool, BenchFault> {
+fn tells(bench: &mut Small, kind: TouchKind, ranges: &[Range]) -> Result<bool, BenchFault> {
     bench.regs_at(8)?;
-    Ok(answers(bench, ranges))
+    Ok(answers(bench, kind, ranges))
 }
 
 /// Whether the ranges of `STORES` have their answers, and those with a poke once it is set, for which no step is made.
 fn tells_pokes(bench: &mut Small) -> Result<bool, BenchFault> {
-    let stores = tells(bench, &RANGES)?;
+    let stores = tells(bench, TouchKind::Any, &RANGES)?;
     bench.set_poke_byte(6, 0x201, 7)?;
-    Ok(stores && answers(bench, &POKED) && (bench.recorded(), bench.worked()) == (8, 8))
+    let poked = answers(bench, TouchKind::Any, &POKED) && answers(bench, TouchKind::Data, &POKED);
+    Ok(stores && poked && (bench.recorded(), bench.worked()) == (8, 8))
 }
 
 #[test]
@@ -117,6 +145,20 @@ fn stores_and_pokes_touch_their_words(rt: HostRuntime) -> Result<(), Fail> {
 #[test]
 fn walks_touch_the_tables(rt: HostRuntime) -> Result<(), Fail> {
     let mut bench = workbench(rt.alloc(), TRANSLATES)?;
-    assert!(rt; tells(&mut bench, &WALKED)?);
+    assert!(rt; tells(&mut bench, TouchKind::Any, &WALKED)?);
+    Ok(())
+}
+
+#[test]
+fn what_is_fetched_is_no_data(rt: HostRuntime) -> Result<(), Fail> {
+    let mut bench = workbench(rt.alloc(), STORES)?;
+    assert!(rt; tells(&mut bench, TouchKind::Data, &STORED)?);
+    Ok(())
+}
+
+#[test]
+fn an_access_to_the_own_word_is_to_data(rt: HostRuntime) -> Result<(), Fail> {
+    let mut bench = workbench(rt.alloc(), OWN)?;
+    assert!(rt; tells(&mut bench, TouchKind::Data, &OWN_WORDS)?);
     Ok(())
 }

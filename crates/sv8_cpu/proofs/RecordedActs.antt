@@ -74,6 +74,7 @@ same_touches : (ts us : List Touch) → ts ≡ us → SameFootprint (footprint_o
 same_touches ts us e = record {
   reads = λ c. ap (λ ts. (footprint_of ts).reads c) e;
   writes = λ c. ap (λ ts. (footprint_of ts).writes c) e;
+  uses = λ c. ap (λ ts. (footprint_of ts).uses c) e;
   takes = ap (λ ts. (footprint_of ts).takes) e;
 }
 

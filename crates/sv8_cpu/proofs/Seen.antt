@@ -446,7 +446,7 @@ module _ (windows limit : ℕ) (low : limit ≤ input_address) where
   executed_shows m i None e =
       shows_then limit _ _ (access_shows limit m.units (asked windows m.processor i) low (aligned_asked windows m.processor i e)) (λ o. answer_shows _ _)
 
-  fetched_shows : (p : Processor) (r : Response) (u : Units) → Shows limit (fetched windows limit p r u)
+  pub fetched_shows : (p : Processor) (r : Response) (u : Units) → Shows limit (fetched windows limit p r u)
   fetched_shows p (Refused t) u = shows_trap limit _ _
   fetched_shows p (Value value) u = executed_shows _ _ _ refl
 

@@ -5,6 +5,8 @@ use Rattle.std.specs.List.{list_any}
 use Rattle.std.proofs.lemmas.Bool.{or_parts}
 use Rattle.std.proofs.lemmas.Bool.Decides.{nat_tests}
 use Rattle.std.proofs.lemmas.List.{get_or-set_other, length-set}
+use Rattle.sv8_model.specs.declared.touch.TouchKind.TheVariants.{Any}
+use Rattle.sv8_model.specs.Footprint.{is_touch_of}
 use Rattle.sv8_model.specs.Outside.{Outside, with_byte, with_word, word_address}
 use Rattle.sv8_model.specs.Action.{Action, done, load_word, store_word, load_byte, store_byte, take_input, count_waiting, emit, ask_levels, clear_levels, expire, observe, after, touches}
 use Rattle.sv8_model.proofs.Common.{word_other, length-with_word}
@@ -13,9 +15,9 @@ use Rattle.sv8_phys.specs.Contents.{arrived, outside_of}
 use Rattle.sv8_memory.specs.Events.{poked, with_events}
 use Rattle.sv8_cpu.specs.State.{State}
 use Rattle.sv8_cpu.specs.Run as run
-use Rattle.sv8_cpu.specs.Touching.{is_within, pokes_any, SparedBytesStay}
+use Rattle.sv8_cpu.specs.Touching.{is_within, pokes_any, SparesBytes}
 use Rattle.sv8_cpu.proofs.RecordedEvents.{length-poked}
-use Rattle.sv8_cpu.proofs.Touched.{is_touch_of, touched_is}
+use Rattle.sv8_cpu.proofs.Touched.{touched_is}
 
 -- ---- an action
 
@@ -27,7 +29,7 @@ unfolding with_byte
 byte_stays ram j v i apart =
     get_or-set_other ram j i _ 0 (λ e. let same : word_address j ≡ word_address i = ap word_address (sym e) in grind (arith, nat_tests, same, apart))
 
-stays : {R : Type 0} (a : Action R) (o : Outside) (i : ℕ) → list_any (is_touch_of (word_address i)) (touches a o) ≡ false → get_or (after a o).ram i 0 ≡ get_or o.ram i 0
+pub stays : {R : Type 0} (a : Action R) (o : Outside) (i : ℕ) → list_any (is_touch_of (word_address i)) (touches a o) ≡ false → get_or (after a o).ram i 0 ≡ get_or o.ram i 0
 stays (done x) o i h = refl
 stays (load_word k g) o i h = stays (g _) o i (or_parts _ _ h).1
 stays (store_word k v a) o i h = stays a _ i (or_parts _ _ h).1 ∙ word_stays o.ram k v i (or_parts _ _ h).0
@@ -54,13 +56,21 @@ unpoked address count i low high (p ∷ ps) ram h =
     elsewhere : (a : ℕ) → i ≡ a → (nat_le address a && nat_lt a (address + count)) ≡ false → ⊥
     elsewhere a e none = grind (arith, nat_tests, e, none, low, high)
 
-pub spared_bytes_stay : SparedBytesStay
-unfolding run.step run.footprint with_events
-spared_bytes_stay windows pages schedule n s address count spared i low high =
+-- what the events of a step leave of such a byte
+pub unpoked_stays : (schedule : Schedule) (n : ℕ) (s : State) (address count i : ℕ) → address ≤ i → i < address + count → pokes_any address count (pokes_of_step n schedule.pokes) ≡ false
+    → get_or (run.eventful schedule n s).memory.ram i 0 ≡ get_or s.memory.ram i 0
+unfolding with_events
+unpoked_stays schedule n s address count i low high none = unpoked address count i low high (pokes_of_step n schedule.pokes) s.memory.ram none
+
+-- by all that a step touches
+pub spared_by_any : (windows pages : ℕ) (schedule : Schedule) (n : ℕ) (s : State) (address count : ℕ) → SparesBytes Any windows pages schedule n s address count
+    → (i : ℕ) → address ≤ i → i < address + count → get_or (run.step windows pages schedule n s).memory.ram i 0 ≡ get_or s.memory.ram i 0
+unfolding run.step run.footprint
+spared_by_any windows pages schedule n s address count spared i low high =
     let t = run.eventful schedule n s in
     stays (run.step_action windows pages t) (outside_of t.memory (arrived (n + 1) schedule)) i
     (sym (touched_is (run.touched windows pages (arrived (n + 1) schedule) t) i) ∙ spared.touched i low high)
-    ∙ unpoked address count i low high (pokes_of_step n schedule.pokes) s.memory.ram spared.poked
+    ∙ unpoked_stays schedule n s address count i low high spared.poked
 
 -- ---- the size of RAM
 

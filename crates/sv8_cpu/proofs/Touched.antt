@@ -10,12 +10,8 @@ use Rattle.sv8_model.specs.declared.touch.Touch.TheVariants.{Read, Write}
 use Rattle.sv8_model.specs.declared.observation.Observation.{Observation}
 use Rattle.sv8_model.specs.declared.observation.Observation.TheVariants as seen
 use Rattle.sv8_model.specs.Outside.{word_address}
-use Rattle.sv8_model.specs.Footprint.{is_read_of, is_write_of}
+use Rattle.sv8_model.specs.Footprint.{is_read_of, is_write_of, is_touch_of}
 use Rattle.sv8_cpu.specs.Touching.{touches_byte, IsTouched}
-
--- the touch is of a word
-abbrev pub is_touch_of : ℕ → Touch → Bool
-is_touch_of address t = is_read_of address t || is_write_of address t
 
 merge : (a b x y z : Bool) → (x || (y && not x)) ≡ z → ((a || x) || ((b || y) && not (a || x))) ≡ ((a || b) || z)
 merge true b x y z e = refl

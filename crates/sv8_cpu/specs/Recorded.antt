@@ -6,7 +6,7 @@ use Rattle.std.specs.List.{list_any}
 use Rattle.sv8_model.specs.declared.touch.Touch.{Touch}
 use Rattle.sv8_model.specs.Outside.{Outside}
 use Rattle.sv8_model.specs.Cells as cells
-use Rattle.sv8_model.specs.Cells.{Cell, ram_byte, waiting_bytes, pending_level, Value, byte, held, same_cell, Fits, is_read, is_written}
+use Rattle.sv8_model.specs.Cells.{Cell, ram_byte, waiting_bytes, pending_level, Value, byte, held, same_cell, Fits, is_read, is_written, is_data}
 use Rattle.sv8_model.specs.Footprint.{reads_input}
 use Rattle.sv8_history.specs.Machine.{Footprint, Machine, Run}
 use Rattle.sv8_history.specs.Acting.{Acting}
@@ -109,7 +109,7 @@ act windows pages r = acted_on r.arrived r.state (step_action windows pages r.st
 
 -- a footprint from what was touched
 abbrev pub footprint_of : List Touch → Footprint Cell
-footprint_of ts = record { reads = is_read ts; writes = is_written ts; takes = reads_input ts }
+footprint_of ts = record { reads = is_read ts; writes = is_written ts; uses = is_data ts; takes = reads_input ts }
 
 abbrev pub footprint_of_act : ℕ → ℕ → Ready → Footprint Cell
 footprint_of_act windows pages r = footprint_of (touched windows pages r.arrived r.state)

@@ -3,11 +3,13 @@
 use Rattle.std.specs.Prelude.{◌≡◌, ◌⊎◌, ℕ, ◌+◌, ◌<◌, ◌≤◌, ◌&&◌, ◌||◌, Bool, true, false, nat_le, nat_lt, List, [], ◌∷◌, slice_index_or}
 use Rattle.std.specs.List.{list_any}
 use Rattle.sv8_model.specs.declared.touch.Touch.{Touch}
+use Rattle.sv8_model.specs.declared.touch.TouchKind.{TouchKind}
+use Rattle.sv8_model.specs.declared.touch.TouchKind.TheVariants.{Any, Data}
 use Rattle.sv8_model.specs.declared.observation.Observation.{Observation}
 use Rattle.sv8_model.specs.declared.observation.Observation.TheVariants as seen
 use Rattle.sv8_model.specs.Outside.{Outside}
 use Rattle.sv8_model.specs.Action.{touches, observations}
-use Rattle.sv8_model.specs.Cells.{ram_byte, is_read, is_written}
+use Rattle.sv8_model.specs.Cells.{ram_byte, is_read, is_written, is_data}
 use Rattle.sv8_time.specs.Order.{Each}
 use Rattle.sv8_time.specs.Schedule.{Schedule, BytePoke, pokes_of_step}
 use Rattle.sv8_phys.specs.Memory.{ram_size}
@@ -26,9 +28,14 @@ use Rattle.sv8_cpu.specs.Run.{step, footprint, observed}
 abbrev pub touches_byte : List Touch → ℕ → Bool
 touches_byte ts i = is_read ts (ram_byte i) || is_written ts (ram_byte i)
 
+-- the same of the touches that count
+abbrev pub touches_byte_as : TouchKind → List Touch → ℕ → Bool
+touches_byte_as Any ts i = touches_byte ts i
+touches_byte_as Data ts i = is_data ts (ram_byte i)
+
 -- none of the words of so many bytes from an address on is
-abbrev pub AreUntouched : ℕ → ℕ → List Touch → Type 0
-AreUntouched address count ts = (i : ℕ) → address ≤ i → i < address + count → touches_byte ts i ≡ false
+abbrev pub AreUntouched : TouchKind → ℕ → ℕ → List Touch → Type 0
+AreUntouched kind address count ts = (i : ℕ) → address ≤ i → i < address + count → touches_byte_as kind ts i ≡ false
 
 -- a byte is one of so many from an address on
 abbrev pub is_within : ℕ → ℕ → ℕ → Bool
@@ -38,14 +45,15 @@ is_within address count i = nat_le address i && nat_lt i (address + count)
 abbrev pub pokes_any : ℕ → ℕ → List BytePoke → Bool
 pokes_any address count ps = list_any (λ p. is_within address count p.address) ps
 
--- STEP n SPARES so many bytes of RAM: it touches none of their words, and no event of the step pokes one of them
-pub record SparesBytes (windows pages : ℕ) (schedule : Schedule) (n : ℕ) (s : State) (address count : ℕ) : Type 0 where
-  pub touched : AreUntouched address count (footprint windows pages schedule n s)
+-- STEP n SPARES so many bytes of RAM: it touches none of their words, by the touches that count, and no event of the step pokes one of them
+pub record SparesBytes (kind : TouchKind) (windows pages : ℕ) (schedule : Schedule) (n : ℕ) (s : State) (address count : ℕ) : Type 0 where
+  pub touched : AreUntouched kind address count (footprint windows pages schedule n s)
   pub poked : pokes_any address count (pokes_of_step n schedule.pokes) ≡ false
 
--- each of them then holds after the step what it held before
+-- Each of them then holds after the step what it held before. It does where no data is among them: of the words that a step fetches, and of the tables that
+-- it walks through to fetch, it changes none but those that count as data.
 abbrev pub SparedBytesStay : Type 0
-SparedBytesStay = (windows pages : ℕ) (schedule : Schedule) (n : ℕ) (s : State) (address count : ℕ) → SparesBytes windows pages schedule n s address count
+SparedBytesStay = (kind : TouchKind) (windows pages : ℕ) (schedule : Schedule) (n : ℕ) (s : State) (address count : ℕ) → SparesBytes kind windows pages schedule n s address count
     → (i : ℕ) → address ≤ i → i < address + count → slice_index_or (step windows pages schedule n s).memory.ram i 0 ≡ slice_index_or s.memory.ram i 0
 
 -- ---- what is seen is touched
@@ -66,6 +74,16 @@ AccessesTouch = (limit : ℕ) (u : Units) (request : AccessRequest) (o : Outside
 abbrev pub StepsTouch : Type 0
 StepsTouch = (windows pages : ℕ) (schedule : Schedule) (n : ℕ) (s : State) → pages ≤ 65536
     → Each (IsTouched (ram_size pages) (footprint windows pages schedule n s)) (observed windows pages schedule n s)
+
+-- Each byte of an access in RAM is data of the step. An access is of one byte at least.
+abbrev pub IsOfData : ℕ → List Touch → Observation → Type 0
+IsOfData limit ts (seen.Fetch from word) = Unit {0}
+IsOfData limit ts (seen.Access kind bytes va pa) = (1 ≤ bytes) × (pa < limit → (i : ℕ) → pa ≤ i → i < pa + bytes → is_data ts (ram_byte i) ≡ true)
+IsOfData limit ts (seen.Trap tt) = Unit {0}
+
+abbrev pub AccessesAreData : Type 0
+AccessesAreData = (windows pages : ℕ) (schedule : Schedule) (n : ℕ) (s : State) → pages ≤ 65536
+    → Each (IsOfData (ram_size pages) (footprint windows pages schedule n s)) (observed windows pages schedule n s)
 
 -- ---- the instruction at PC
 

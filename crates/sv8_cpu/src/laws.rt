@@ -7,7 +7,7 @@ ghost use Rattle.sv8_model.specs.Outside.{word_of};
 ghost use Rattle.sv8_cpu.specs.Examples.{counting, spinning, moving, saving, setting, calling, tagging, returning, run};
 ghost use Rattle.sv8_cpu.specs.RecordedLaws.{AccessFrames, StepFrames, RunsAgree, TimelinesServe};
 ghost use Rattle.sv8_cpu.specs.Frames.{EventsCome, StepsAreWhole, RunsAreWhole, SetsFrame, RunsFrame, CellsStay, BytesFrame, WaitingFrames, LevelsFrame, RequestedLevelsAgree};
-ghost use Rattle.sv8_cpu.specs.Touching.{SparedBytesStay, AccessesTouch, StepsTouch, FetchesTouch, AnnulledStepsPass};
+ghost use Rattle.sv8_cpu.specs.Touching.{SparedBytesStay, AccessesTouch, StepsTouch, AccessesAreData, FetchesTouch, AnnulledStepsPass};
 ghost use Rattle.sv8_cpu.specs.Trapping.{TrapsLeadThere, TrapTypesLeadThere};
 ghost use Rattle.sv8_cpu.specs.Console.{ConsolesGrow};
 
@@ -183,8 +183,8 @@ pub fn requested_levels_agree()
     ensures { RequestedLevelsAgree }
 {}
 
-/// A byte of RAM whose word a step neither reads nor writes, and which no event of the step pokes, holds after the step what it held
-/// before.
+/// A byte of RAM whose word is no data of a step, and which no event of the step pokes, holds after the step what it held before. So
+/// does one whose word the step neither reads nor writes.
 pub fn spared_bytes_stay()
     ensures { SparedBytesStay }
 {}
@@ -200,6 +200,12 @@ pub fn accesses_touch()
 /// fetches, lie in words that the step reads or writes.
 pub fn steps_touch()
     ensures { StepsTouch }
+{}
+
+/// What is seen of the access of a step in RAM is its data: each byte that it loads or stores lies in a word that the step touches
+/// otherwise than by its fetch.
+pub fn accesses_are_data()
+    ensures { AccessesAreData }
 {}
 
 /// A step that carries out the instruction at PC, or traps in it, touches the word at PC, where no address is translated and PC is in

@@ -10,6 +10,7 @@ mod memory;
 mod queries;
 mod timeline;
 mod trace;
+mod traps;
 
 use std::alloc::{AllocError, Global};
 use std::env;
@@ -22,6 +23,7 @@ enum Part {
     Memory,
     Machine,
     Trace,
+    Traps,
     Assembler,
     Queries,
 }
@@ -33,6 +35,7 @@ impl Part {
             Part::Memory => "memory",
             Part::Machine => "machine",
             Part::Trace => "trace",
+            Part::Traps => "traps",
             Part::Assembler => "assembler",
             Part::Queries => "queries",
         }
@@ -44,17 +47,19 @@ impl Part {
             Part::Memory => memory::keeps(alloc),
             Part::Machine => machine::keeps(alloc),
             Part::Trace => trace::keeps(alloc),
+            Part::Traps => traps::keeps(alloc),
             Part::Assembler => assembler::keeps(alloc),
             Part::Queries => queries::keeps(alloc),
         }
     }
 }
 
-const PARTS: [Part; 6] = [
+const PARTS: [Part; 7] = [
     Part::Timeline,
     Part::Memory,
     Part::Machine,
     Part::Trace,
+    Part::Traps,
     Part::Assembler,
     Part::Queries,
 ];

@@ -18,7 +18,7 @@ use sv8_trace::{Cause, Cell, Content, Draft, NO_END, Patch, Trace};
 type Point = Machine<8, 2>;
 
 /// A checkpoint every four steps.
-type Small = Trace<8, 2, 4>;
+pub(crate) type Small = Trace<8, 2, 4>;
 
 /// A program that takes a byte at step 1, puts one out at step 3, stores it at step 4 and reads another word at step 5.
 const LINES: &[&[u8]] = &[
@@ -302,7 +302,11 @@ fn is_done(alloc: Global, trace: &mut Small, deed: Deed, before: Due, after: Due
 }
 
 /// Records the next four steps, and counts them.
-fn lengthen(alloc: Global, trace: &mut Small, timeline: &Timeline) -> Result<u64, AllocError>
+pub(crate) fn lengthen(
+    alloc: Global,
+    trace: &mut Small,
+    timeline: &Timeline,
+) -> Result<u64, AllocError>
     requires limit { timeline.now.limit ≡ 8192 }
     requires delivered { (last_point trace.old).memory.taken ≤ bytes_below (recorded 4 trace.old) timeline.now.inputs }
     ensures delivered { (last_point trace.new).memory.taken ≤ bytes_below (recorded 4 trace.new) timeline.now.inputs }
@@ -355,15 +359,16 @@ fn are_done(alloc: Global, trace: &mut Small) -> bool {
     holds
 }
 
-fn source(alloc: Global) -> Result<Option<Source>, AllocError> {
+/// The source of some lines, which are to be programs.
+pub(crate) fn source_of(alloc: Global, texts: &[&[u8]]) -> Result<Source, AllocError> {
     let mut lines = Vec::new(alloc);
-    for text in LINES {
+    for text in texts {
         lines.push(text.to_vec(alloc)?)?;
     }
     let mut source = Source::new(alloc, 8_192);
     match source.replace(alloc, 1, 0, &lines) {
-        Ok(_) => Ok(Some(source)),
-        Err(_) => Ok(None),
+        Ok(_) => Ok(source),
+        Err(_) => Err(AllocError),
     }
 }
 
@@ -378,7 +383,11 @@ fn schedule(alloc: Global, timeline: &mut Timeline) -> Result<(), TimeFault>
 }
 
 /// A trace that has nothing recorded, at the second try where memory was refused at the first.
-fn fresh(alloc: Global, source: &Source, timeline: &Timeline) -> Result<Small, AllocError>
+pub(crate) fn fresh(
+    alloc: Global,
+    source: &Source,
+    timeline: &Timeline,
+) -> Result<Small, AllocError>
     ensures { IfOk result (λ t. (last_point t).memory.taken ≤ bytes_below (recorded 4 t) timeline.now.inputs) }
 {
     match begun(alloc, source, timeline) {
@@ -399,7 +408,7 @@ fn begun(alloc: Global, source: &Source, timeline: &Timeline) -> Result<Small, A
 }
 
 /// A copy of a recorded run, at the second try where memory was refused at the first.
-fn copied(alloc: Global, trace: &Small) -> Result<Small, AllocError> {
+pub(crate) fn copied(alloc: Global, trace: &Small) -> Result<Small, AllocError> {
     match trace.copy(alloc) {
         Ok(copy) => Ok(copy),
         Err(_) => trace.copy(alloc),
@@ -455,7 +464,11 @@ fn watched(
 }
 
 /// Records the next four steps one at a time, each watched, and counts them.
-fn watch_four(alloc: Global, trace: &mut Small, timeline: &Timeline) -> Result<u64, AllocError>
+pub(crate) fn watch_four(
+    alloc: Global,
+    trace: &mut Small,
+    timeline: &Timeline,
+) -> Result<u64, AllocError>
     requires limit { timeline.now.limit ≡ 8192 }
     requires delivered { (last_point trace.old).memory.taken ≤ bytes_below (recorded 4 trace.old) timeline.now.inputs }
 {
@@ -483,16 +496,28 @@ fn are_watched(alloc: Global, trace: &mut Small, timeline: &Timeline) -> bool
     }
 }
 
+/// Whether each call is as it should be, of a run of which nothing is recorded.
+fn is_kept(alloc: Global, source: &Source, timeline: &Timeline) -> Result<bool, AllocError>
+    requires limit { timeline.now.limit ≡ 8192 }
+{
+    let mut trace = fresh(alloc, source, timeline)?;
+    Ok(are_kept(alloc, &mut trace, timeline))
+}
+
+/// Whether watched steps are recorded as they should be, of such a run.
+fn is_watched(alloc: Global, source: &Source, timeline: &Timeline) -> Result<bool, AllocError>
+    requires limit { timeline.now.limit ≡ 8192 }
+{
+    let mut trace = fresh(alloc, source, timeline)?;
+    Ok(are_watched(alloc, &mut trace, timeline))
+}
+
 pub fn keeps(alloc: Global) -> Result<bool, AllocError> {
-    let Some(source) = source(alloc)? else {
-        return Err(AllocError);
-    };
+    let source = source_of(alloc, LINES)?;
     let mut timeline = Timeline::new(alloc, 8_192);
     if schedule(alloc, &mut timeline).is_err() {
         return Err(AllocError);
     }
-    let mut trace = fresh(alloc, &source, &timeline)?;
-    let kept = are_kept(alloc, &mut trace, &timeline);
-    let mut other = fresh(alloc, &source, &timeline)?;
-    Ok(kept && are_watched(alloc, &mut other, &timeline))
+    let kept = is_kept(alloc, &source, &timeline)?;
+    Ok(kept && is_watched(alloc, &source, &timeline)?)
 }

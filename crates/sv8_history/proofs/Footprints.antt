@@ -7,13 +7,13 @@ use Rattle.sv8_history.specs.Reads.{reads_change, reads_edit}
 use Rattle.sv8_history.proofs.Spans.{some_from-like}
 
 pub footprint_same : {C : Type 0} (x : Footprint C) → SameFootprint x x
-footprint_same x = record { reads = λ a. refl; writes = λ a. refl; takes = refl }
+footprint_same x = record { reads = λ a. refl; writes = λ a. refl; uses = λ a. refl; takes = refl }
 
 pub footprint_then : {C : Type 0} (x y z : Footprint C) → SameFootprint x y → SameFootprint y z → SameFootprint x z
-footprint_then x y z p q = record { reads = λ a. p.reads a ∙ q.reads a; writes = λ a. p.writes a ∙ q.writes a; takes = p.takes ∙ q.takes }
+footprint_then x y z p q = record { reads = λ a. p.reads a ∙ q.reads a; writes = λ a. p.writes a ∙ q.writes a; uses = λ a. p.uses a ∙ q.uses a; takes = p.takes ∙ q.takes }
 
 pub footprint_back : {C : Type 0} (x y : Footprint C) → SameFootprint x y → SameFootprint y x
-footprint_back x y p = record { reads = λ a. sym (p.reads a); writes = λ a. sym (p.writes a); takes = sym p.takes }
+footprint_back x y p = record { reads = λ a. sym (p.reads a); writes = λ a. sym (p.writes a); uses = λ a. sym (p.uses a); takes = sym p.takes }
 
 -- the notes of the steps before `r` are the same
 abbrev pub AreAlike : (m : Machine) → Notes m → Notes m → ℕ → Type 0

@@ -194,7 +194,7 @@ quiet level v r unread =
     own = ap (λ z. cond (r.state.timer == 1) z (record (act r) { pending = bit_of v })) (sym (quiet_pending (code_of r.state) r.delivered (tick r.state) (r.state.pending || r.state.timer == 1) unread))
 
 same_footprint : (a : Cell) (v : Value) (s : State) → SameFootprint (footprint (put_cell a v s)) (footprint s)
-same_footprint a v s = record { reads = reads a; writes = writes a; takes = takes a }
+same_footprint a v s = record { reads = reads a; writes = writes a; uses = λ b. refl; takes = takes a }
   where
     reads : (a b : Cell) → reads_cell (put_cell a v s) b ≡ reads_cell s b
     reads high_byte high_byte = refl
@@ -241,7 +241,7 @@ toy_acts = record {
   quiet = λ a v r has fit unread. quiet a v r unread;
   quiet_footprint = λ a v r has fit unread. same_footprint a v r.state;
   untaken = λ bytes r sound none. untaken (code_of r.state) bytes r.delivered (tick r.state) none;
-  untaken_footprint = λ bytes r sound none. record { reads = λ a. refl; writes = λ a. refl; takes = refl };
+  untaken_footprint = λ bytes r sound none. record { reads = λ a. refl; writes = λ a. refl; uses = λ a. refl; takes = refl };
 }
 
 pub toy_framed : IsFramed toy

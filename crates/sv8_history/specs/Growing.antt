@@ -8,7 +8,7 @@ abbrev pub new_trace : (m : Machine) → m.State → Trace m
 new_trace m s = record {
   count = 0;
   point = λ n. s;
-  notes = λ n. record { reads = λ a. false; writes = λ a. false; takes = false };
+  notes = λ n. record { reads = λ a. false; writes = λ a. false; uses = λ a. false; takes = false };
   kept = λ n a. None;
 }
 

@@ -1,12 +1,15 @@
 -- A machine, as a recorded run sees it: states, events from outside, and cells, which are the parts of a state that events may set. Runs of it.
 use Rattle.std.specs.Prelude.{◌≡◌, ℕ, zero, suc, Bool, ◌||◌, Option}
 
--- The footprint of a step: the cells that it reads, those that it sets whatever stood there, and whether it takes input.
+-- The footprint of a step: the cells that it reads, those that it sets whatever stood there, those that are its data, and whether it takes input.
 pub record Footprint (Cell : Type 0) : Type 0 where
   -- A byte of RAM is read and written with its word. A level is read where the step asks for it or changes it by program.
   pub reads : Cell → Bool
   -- A level is written where the timer expires.
   pub writes : Cell → Bool
+  -- The step loads or stores nothing but its data. It may read and write other cells, to find out what to do. The laws ask only that this, too, is the same
+  -- in runs that are alike.
+  pub uses : Cell → Bool
   -- the step takes or counts the bytes that wait at the console
   pub takes : Bool
 
@@ -14,6 +17,7 @@ pub record Footprint (Cell : Type 0) : Type 0 where
 pub record SameFootprint {Cell : Type 0} (x y : Footprint Cell) : Type 0 where
   pub reads : (a : Cell) → x.reads a ≡ y.reads a
   pub writes : (a : Cell) → x.writes a ≡ y.writes a
+  pub uses : (a : Cell) → x.uses a ≡ y.uses a
   pub takes : x.takes ≡ y.takes
 
 -- A cell is a byte of RAM or the condition of an interrupt level. The bytes that wait at the console are no cell: a state has only the number of

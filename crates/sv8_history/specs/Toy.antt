@@ -144,7 +144,7 @@ writes_cell s low_byte = writes_word (code_of s)
 writes_cell s level = s.timer == 1
 
 abbrev pub footprint : State → Footprint Cell
-footprint s = record { reads = reads_cell s; writes = writes_cell s; takes = takes_input (code_of s) }
+footprint s = record { reads = reads_cell s; writes = writes_cell s; uses = λ a. false; takes = takes_input (code_of s) }
 
 -- the search for a read of the level goes on where the timer expires
 abbrev pub ends_search : Cell → Bool

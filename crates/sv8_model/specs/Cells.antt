@@ -3,7 +3,7 @@ use Rattle.std.specs.Prelude.{ℕ, ◌<◌, ◌≤◌, ◌==◌, Bool, true, fal
 use Rattle.sv8_model.specs.declared.touch.Touch.{Touch}
 use Rattle.sv8_model.specs.Outside.{Outside, word_address}
 use Rattle.sv8_model.specs.Levels.{timer_level}
-use Rattle.sv8_model.specs.Footprint.{reads_word, writes_word, reads_input, reads_level, expires}
+use Rattle.sv8_model.specs.Footprint.{reads_word, writes_word, reads_input, reads_level, expires, touches_data}
 
 pub data Cell : Type 0 where
   -- the byte of RAM at an address
@@ -71,3 +71,9 @@ abbrev pub is_written : List Touch → Cell → Bool
 is_written ts (ram_byte i) = writes_word ts (word_address i)
 is_written ts waiting_bytes = false
 is_written ts (pending_level l) = l == timer_level && expires ts
+
+-- a byte of RAM is data with its word; no other cell is
+abbrev pub is_data : List Touch → Cell → Bool
+is_data ts (ram_byte i) = touches_data ts (word_address i)
+is_data ts waiting_bytes = false
+is_data ts (pending_level l) = false

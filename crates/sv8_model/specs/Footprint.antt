@@ -1,6 +1,6 @@
 -- The footprint of a step, from what it touches: what it reads, and what it writes without reading it, in whatever order it does that.
 -- A word of RAM is named by its address, a multiple of 4.
-use Rattle.std.specs.Prelude.{ℕ, ◌==◌, Bool, true, false, not, ◌&&◌, List}
+use Rattle.std.specs.Prelude.{ℕ, ◌==◌, Bool, true, false, not, ◌&&◌, ◌||◌, List, [], ◌∷◌, if◌then◌else◌}
 use Rattle.std.specs.List.{list_any}
 use Rattle.sv8_model.specs.declared.touch.Touch.{Touch}
 use Rattle.sv8_model.specs.declared.touch.Touch.TheVariants.{Read, Write, Input, Levels, Expiry}
@@ -50,3 +50,26 @@ reads_level ts level = list_any (asks level) ts
 -- the timer expires
 abbrev pub expires : List Touch → Bool
 expires ts = list_any is_expiry ts
+
+-- ---- data
+
+-- a word is read or written, in whatever order
+abbrev pub is_touch_of : ℕ → Touch → Bool
+is_touch_of address t = is_read_of address t || is_write_of address t
+
+-- A step that fetches a word, and reads one more or writes another one, touches that one as its data. Of any other step all that it touches counts as data,
+-- with its fetch and the walks through tables.
+abbrev pub behind_fetch : List Touch → List Touch
+behind_fetch (Read fetched ∷ []) = []
+behind_fetch (Read fetched ∷ Read other ∷ []) = Read other ∷ []
+behind_fetch (Read fetched ∷ Write other ∷ []) = if fetched == other then Read fetched ∷ Write other ∷ [] else Write other ∷ []
+behind_fetch ts = ts
+
+-- the same of a step that may ask interrupt levels first
+abbrev pub data_touches : List Touch → List Touch
+data_touches (Levels word ∷ ts) = behind_fetch ts
+data_touches ts = behind_fetch ts
+
+-- a word is touched as data
+abbrev pub touches_data : List Touch → ℕ → Bool
+touches_data ts address = list_any (is_touch_of address) (data_touches ts)

@@ -11,4 +11,4 @@ mod touch;
 
 pub use level::Level;
 pub use observation::{AccessKind, Observation};
-pub use touch::Touch;
+pub use touch::{Touch, TouchKind};

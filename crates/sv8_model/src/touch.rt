@@ -14,3 +14,13 @@ pub enum Touch {
     /// The timer expires, which makes level 10 pending, whether it was or not.
     Expiry,
 }
+
+/// Which touches of words of RAM count.
+#[derive(Clone, Copy, PartialEq, Eq, Debug)]
+pub enum TouchKind {
+    /// All of a step: those of its fetch and of walks through tables, and those of its data.
+    Any,
+    /// Those of its data: what a step touches behind its fetch, where it fetches a word and touches one word more at most.
+    /// Of any other step all count. The access of an instruction touches data (`accesses_are_data` of `sv8_cpu`).
+    Data,
+}

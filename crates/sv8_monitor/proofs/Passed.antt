@@ -9,7 +9,7 @@ use Rattle.sv8_watch.specs.declared.condition.Condition.{Condition}
 use Rattle.sv8_watch.specs.declared.condition.Condition.TheVariants.{Pc, Load, Store, Touch, Change, Trap, TrapType, Error, Input, Output, Event, Every}
 use Rattle.sv8_watch.specs.declared.span.Span.{Span}
 use Rattle.sv8_watch.specs.Conditions.{meets, meets_any}
-use Rattle.sv8_watch.specs.Touching.{some_bytes, word_span, span_of}
+use Rattle.sv8_watch.specs.Touching.{some_bytes, word_span, span_of, kind_of}
 use Rattle.sv8_watch.proofs.Sparing.{spared_steps_miss, spared_pcs_miss}
 use Rattle.sv8_bench.specs.Kept.{Kept}
 use Rattle.sv8_bench.specs.Shown.{machine_state}
@@ -82,13 +82,13 @@ untouched : (b : Bool) (P : Type 0) → MatchBool b P (P → ⊥) → b ≡ true
 untouched true P h e = h
 untouched false P h e = cc
 
-module _ (k : ℕ) (w : Workbench) (c : Condition) (span : Span) (from to : ℕ) (b : Bool) (h : MatchBool b (IsUntouched k w span.address span.count from to) (IsUntouched k w span.address span.count from to → ⊥))
+module _ (k : ℕ) (w : Workbench) (c : Condition) (span : Span) (from to : ℕ) (b : Bool) (h : MatchBool b (IsUntouched (kind_of c) k w span.address span.count from to) (IsUntouched (kind_of c) k w span.address span.count from to → ⊥))
     (e : b ≡ true) where
   pub none_spared : w.kept.pages ≤ 65536 → Some span ≡ span_of c → span.address + span.count ≤ ram_size w.kept.pages → (n : ℕ) → from ≤ n → n < to
       → meets w.kept.windows w.kept.pages w.kept.timeline n (machine_state w.kept n) c ≡ false
   none_spared few is inside n low below =
       let kept = w.kept in
-      let all = untouched b (IsUntouched k w span.address span.count from to) h e in
+      let all = untouched b (IsUntouched (kind_of c) k w span.address span.count from to) h e in
       spared_steps_miss kept.windows kept.pages kept.timeline n (machine_state kept n) c span few (sym is) inside (all.spared n low below)
 
 -- no instruction at an address is reached

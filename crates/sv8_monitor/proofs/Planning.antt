@@ -11,7 +11,7 @@ use Rattle.sv8_bench.specs.Workbench.{Workbench, checkpoints}
 use Rattle.sv8_watch.specs.declared.condition.Condition.{Condition}
 use Rattle.sv8_watch.specs.declared.condition.Condition.TheVariants.{Pc}
 use Rattle.sv8_watch.specs.declared.span.Span.{Span}
-use Rattle.sv8_watch.specs.Touching.{span_of}
+use Rattle.sv8_watch.specs.Touching.{span_of, kind_of}
 use Rattle.sv8_watch.proofs.Sparing.{spared_steps_miss, spared_pcs_miss}
 use Rattle.sv8_monitor.specs.Search.{is_wanted, meets_at}
 use Rattle.sv8_monitor.specs.Plans.{HasFlagsOf, IsPlan}
@@ -43,7 +43,7 @@ module _ (kept : Kept) (c : Condition) (from : ℕ) (old new : List Bool) where
 
 module _ (k : ℕ) (w : Workbench) (n : ℕ) where
   pub untouched_missed : (c : Condition) (span : Span) → w.kept.pages ≤ 65536 → span_of c ≡ Some span → span.address + span.count ≤ ram_size w.kept.pages
-      → IsUntouched k w span.address span.count n (n + 1) → meets_at w.kept c n ≡ false
+      → IsUntouched (kind_of c) k w span.address span.count n (n + 1) → meets_at w.kept c n ≡ false
   untouched_missed c span few is inside h =
       let kept = w.kept in
       spared_steps_miss kept.windows kept.pages kept.timeline n (machine_state kept n) c span few is inside (h.spared n (omega arith) (omega arith))

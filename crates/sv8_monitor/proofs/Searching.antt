@@ -3,6 +3,7 @@ use Rattle.std.proofs.Common.{◌≡◌, ◌∙◌, ℕ, zero, suc, ◌+◌, ◌
 use Rattle.std.proofs.Math.Nat.{mul-le-mul_left, mul-div-le}
 use Rattle.sv8_model.specs.declared.touch.Touch.{Touch}
 use Rattle.sv8_model.specs.declared.observation.Observation.{Observation}
+use Rattle.sv8_model.specs.Does.{Notes}
 use Rattle.sv8_model.specs.Footprint.{expires}
 use Rattle.sv8_time.specs.Schedule.{Schedule}
 use Rattle.sv8_cpu.specs.State.{State}
@@ -18,6 +19,8 @@ use Rattle.sv8_watch.specs.declared.condition.Condition.{Condition}
 use Rattle.sv8_watch.specs.declared.happening.Happening.{Happening}
 use Rattle.sv8_watch.specs.Conditions.{meets_any}
 use Rattle.sv8_watch.specs.Happening.{happened, happening}
+use Rattle.sv8_watch.specs.Watched.{IsBefore, IsStepFrom}
+use Rattle.sv8_watch.specs.declared.watched.Before.{Before}
 use Rattle.sv8_monitor.specs.declared.found.Found.{Found}
 use Rattle.sv8_monitor.specs.Search.{any_met, found_at, is_wanted, wanted_found, list_of, left_behind, rising, looked_to, IsAdded, IsSearched, IsTried, IsWalked, IsStopped, IsAbandoned}
 use Rattle.sv8_monitor.proofs.Sought.{divided}
@@ -76,19 +79,37 @@ next_state kept n =
 
 -- the state after it, and that it is not wanted, by what is known of the sizes and the timeline
 module _ (kept : Kept) (n m nw ram_pages : ℕ) (timeline : Schedule) where
-  pub after_is : (after : State) → after ≡ machine_state kept (n + 1) → m ≡ n → timeline ≡ kept.timeline → kept.windows ≡ nw → kept.pages ≡ ram_pages
+  after_is : (after : State) → after ≡ machine_state kept (n + 1) → m ≡ n → timeline ≡ kept.timeline → kept.windows ≡ nw → kept.pages ≡ ram_pages
       → after ≡ step nw ram_pages timeline m (machine_state kept n)
   after_is after state at same windows pages =
       let s = machine_state kept n in
       state ∙ next_state kept n ∙ ap (λ w. step w kept.pages kept.timeline n s) windows ∙ ap (λ p. step nw p kept.timeline n s) pages
       ∙ ap (λ t. step nw ram_pages t n s) (sym same) ∙ ap (λ i. step nw ram_pages timeline i s) (sym at)
 
-  pub touched_by : (ts : List Touch) → ts ≡ footprint kept.windows kept.pages kept.timeline n (machine_state kept n) → m ≡ n → timeline ≡ kept.timeline → kept.windows ≡ nw
+  touched_by : (ts : List Touch) → ts ≡ footprint kept.windows kept.pages kept.timeline n (machine_state kept n) → m ≡ n → timeline ≡ kept.timeline → kept.windows ≡ nw
       → kept.pages ≡ ram_pages → ts ≡ footprint nw ram_pages timeline m (machine_state kept n)
   touched_by ts is at same windows pages =
       let s = machine_state kept n in
       is ∙ ap (λ w. footprint w kept.pages kept.timeline n s) windows ∙ ap (λ p. footprint nw p kept.timeline n s) pages
       ∙ ap (λ t. footprint nw ram_pages t n s) (sym same) ∙ ap (λ i. footprint nw ram_pages timeline i s) (sym at)
+
+  seen_by : (os : List Observation) → os ≡ observed kept.windows kept.pages kept.timeline n (machine_state kept n) → m ≡ n → timeline ≡ kept.timeline → kept.windows ≡ nw
+      → kept.pages ≡ ram_pages → os ≡ observed nw ram_pages timeline m (machine_state kept n)
+  seen_by os is at same windows pages =
+      let s = machine_state kept n in
+      is ∙ ap (λ w. observed w kept.pages kept.timeline n s) windows ∙ ap (λ p. observed nw p kept.timeline n s) pages
+      ∙ ap (λ t. observed nw ram_pages t n s) (sym same) ∙ ap (λ i. observed nw ram_pages timeline i s) (sym at)
+
+  pub step_from : (b : Before) (after : State) (notes : Notes) → IsBefore (machine_state kept n) b → after ≡ machine_state kept (n + 1)
+      → notes.touches ≡ footprint kept.windows kept.pages kept.timeline n (machine_state kept n)
+      → notes.observations ≡ observed kept.windows kept.pages kept.timeline n (machine_state kept n)
+      → m ≡ n → timeline ≡ kept.timeline → kept.windows ≡ nw → kept.pages ≡ ram_pages → IsStepFrom nw ram_pages timeline m (machine_state kept n) b after notes
+  step_from b after notes before state touched seen at same windows pages = record {
+    before = before;
+    state = after_is after state at same windows pages;
+    touches = touched_by notes.touches touched at same windows pages;
+    observations = seen_by notes.observations seen at same windows pages;
+  }
 
   pub not_added : (cs : List Condition) (left : ℕ) (found : List Found) → m ≡ n → timeline ≡ kept.timeline → kept.windows ≡ nw → kept.pages ≡ ram_pages
       → meets_any nw ram_pages timeline m (machine_state kept n) cs ≡ false → IsAdded (wanted_found kept cs n) left found found left
@@ -295,3 +316,9 @@ module _ (k : Kept) (cs : List Condition) (n to left : ℕ) where
     nothing : (b : ℕ) → looked_to (is_wanted k cs) n b 0 ≡ n
     nothing zero = refl
     nothing (suc b) = refl
+
+-- as many may follow as before, so the step was not wanted
+pub unwanted : (wanted : Bool) (it : Found) (left rest : ℕ) (before after : List Found) → IsAdded (if wanted then Some it else None) left before after rest → rest ≡ left → 0 < left
+    → wanted ≡ false
+unwanted true it left rest before after h same some = let room : rest ≡ left - 1 = h.room in absurd (omega (arith, room, same, some))
+unwanted false it left rest before after h same some = refl

@@ -42,7 +42,9 @@ fn touches_none<const NW: usize, const PAGES: usize, const K: u32>(
 {
     bench.sizes();
     match condition.span() {
-        Some(span) => bench.is_untouched(span.address, span.count, from, to),
+        Some(span) => {
+            bench.is_untouched(condition.touch_kind(), span.address, span.count, from, to)
+        }
         None => false,
     }
 }

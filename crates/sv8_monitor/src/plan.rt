@@ -87,7 +87,13 @@ fn flag_touching<const NW: usize, const PAGES: usize, const K: u32>(
 {
     bench.sizes();
     match condition.span() {
-        Some(span) => bench.flag_touching(span.address, span.count, from, flags),
+        Some(span) => bench.flag_touching(
+            condition.touch_kind(),
+            span.address,
+            span.count,
+            from,
+            flags,
+        ),
         None => flags.fill(true),
     }
 }

@@ -7,11 +7,10 @@ ghost use Rattle.sv8_monitor.specs.Answers.{steps_refusal};
 ghost use Rattle.sv8_model.specs.Footprint.{expires};
 ghost use Rattle.sv8_phys.specs.Memory.{ram_size};
 ghost use Rattle.sv8_cpu.specs.State.{State};
-ghost use Rattle.sv8_cpu.specs.Run.{step, footprint};
 ghost use Rattle.sv8_watch.specs.declared.condition.Condition.TheVariants as condition;
 ghost use Rattle.sv8_watch.specs.Conditions.{is_met, meets, meets_any};
 ghost use Rattle.sv8_watch.specs.Happening.{happened};
-ghost use Rattle.sv8_watch.specs.Watched.{IsBefore, happening_of};
+ghost use Rattle.sv8_watch.specs.Watched.{IsBefore, IsStepFrom, happening_of};
 ghost use Rattle.sv8_bench.specs.Shown.{machine_state};
 ghost use Rattle.sv8_bench.specs.Walks.{IsWalk, IsMade};
 ghost use Rattle.sv8_bench.specs.Workbench.{checkpoints};
@@ -25,7 +24,7 @@ use crate::plan::Plan;
 use std::alloc::AllocError;
 use sv8_bench::{Bench, BenchFault, LAST_STEP, Walk};
 use sv8_cpu::Machine;
-use sv8_phys::{Touch, Watch};
+use sv8_phys::Watch;
 use sv8_time::Timeline;
 use sv8_watch::{Before, Condition, MadeStep};
 
@@ -131,25 +130,25 @@ fn add_wanted<const NW: usize, const PAGES: usize>(
     Ok(left - 1)
 }
 
-/// Whether a step may meet one of some conditions, by the machines before and after it and by what it touches.
+/// Whether a step may meet one of some conditions, by the machines before and after it and by its notes.
 #[inline(always)]
 fn may_meet_any<const NW: usize, const PAGES: usize>(
     n: u32,
     timeline: &Timeline,
     before: &Before,
     after: &Machine<NW, PAGES>,
-    touches: &[Touch],
+    watch: &Watch,
     conditions: &[Condition],
 ) -> bool
     requires few_windows { NW ≤ 32 }
     requires few_pages { PAGES ≤ 65536 }
     requires inside { are_inside (ram_size PAGES) conditions.now ≡ true }
-    ensures { (s : State) → IsBefore s before.now → after.now ≡ step NW PAGES timeline.now n s
-        → touches.now ≡ footprint NW PAGES timeline.now n s → result ≡ false → list_any (meets NW PAGES timeline.now n s) conditions.now ≡ false }
+    ensures { (s : State) → IsStepFrom NW PAGES timeline.now n s before.now after.now watch.now → result ≡ false
+        → list_any (meets NW PAGES timeline.now n s) conditions.now ≡ false }
 {
     let mut rest = conditions;
     while let [first, others @ ..] = rest {
-        if first.may_be_met(n, timeline, before, after, touches) {
+        if first.may_be_met(n, timeline, before, after, watch) {
             return true;
         }
         rest = others;
@@ -164,27 +163,26 @@ fn may_be_wanted<const NW: usize, const PAGES: usize>(
     timeline: &Timeline,
     before: &Before,
     after: &Machine<NW, PAGES>,
-    touches: &[Touch],
+    watch: &Watch,
     conditions: &[Condition],
 ) -> bool
     requires few_windows { NW ≤ 32 }
     requires few_pages { PAGES ≤ 65536 }
     requires inside { are_inside (ram_size PAGES) conditions.now ≡ true }
-    ensures wanted { (s : State) → IsBefore s before.now → after.now ≡ step NW PAGES timeline.now n s
-        → touches.now ≡ footprint NW PAGES timeline.now n s → result ≡ false → meets_any NW PAGES timeline.now n s conditions.now ≡ false }
-    ensures bytes { (s : State) → IsBefore s before.now → after.now ≡ step NW PAGES timeline.now n s
-        → touches.now ≡ footprint NW PAGES timeline.now n s → length s.memory.ram ≡ ram_size PAGES → result ≡ false
-        → olds_of conditions.now s.memory.ram ≡ olds_of conditions.now after.now.memory.ram }
+    ensures wanted { (s : State) → IsStepFrom NW PAGES timeline.now n s before.now after.now watch.now → result ≡ false
+        → meets_any NW PAGES timeline.now n s conditions.now ≡ false }
+    ensures bytes { (s : State) → IsStepFrom NW PAGES timeline.now n s before.now after.now watch.now → length s.memory.ram ≡ ram_size PAGES
+        → result ≡ false → olds_of conditions.now s.memory.ram ≡ olds_of conditions.now after.now.memory.ram }
 {
     let _size = after.ram_size();
     match conditions {
         [] => true,
-        [_, ..] => may_meet_any(n, timeline, before, after, touches, conditions),
+        [_, ..] => may_meet_any(n, timeline, before, after, watch, conditions),
     }
 }
 
 /// Makes the next step of a walk, and adds it where it is wanted; answers how many more may follow, of so many. `old` are the
-/// bytes that the conditions compare, before and afterwards.
+/// bytes that the conditions compare, before and afterwards; a step that is not wanted leaves them.
 #[inline(always)]
 fn look<const NW: usize, const PAGES: usize, const K: u32>(
     bench: &mut Bench<NW, PAGES, K>,
@@ -217,8 +215,7 @@ fn look<const NW: usize, const PAGES: usize, const K: u32>(
     let _size = walk.machine().ram_size();
     bench.walk_on(walk, watch)?;
     let after = walk.machine();
-    let touches = watch.touches();
-    if !may_be_wanted(n, bench.timeline(), &before, after, touches, conditions) {
+    if !may_be_wanted(n, bench.timeline(), &before, after, watch, conditions) {
         return Ok(left);
     }
     let rest = add_wanted(
@@ -232,6 +229,9 @@ fn look<const NW: usize, const PAGES: usize, const K: u32>(
         old.as_slice(),
         left,
     )?;
+    if rest == left {
+        return Ok(rest);
+    }
     look_again(old, conditions, walk.machine())?;
     Ok(rest)
 }

@@ -4,5 +4,5 @@ pub use Rattle.sv8_notes.proofs.Gaining.{any_append, swap}
 pub use Rattle.sv8_notes.proofs.KeptLists.{kept_in-append, kept_in-filter}
 pub use Rattle.sv8_notes.proofs.Marking.{longer, unmet}
 pub use Rattle.sv8_notes.proofs.NotesInRange.{none_in, some_in}
-pub use Rattle.sv8_notes.proofs.Told.{touches_told}
+pub use Rattle.sv8_notes.proofs.Told.{gains_all, touches_told}
 pub use Rattle.sv8_notes.proofs.Touching.{told_read, told_written, touched_told}

@@ -7,11 +7,11 @@ use Rattle.sv8_model.specs.declared.touch.Touch.TheVariants.{Read, Write, Input,
 use Rattle.sv8_model.specs.Outside.{word_address}
 use Rattle.sv8_model.specs.Words.{bit}
 use Rattle.sv8_model.specs.Levels.{timer_level}
-use Rattle.sv8_model.specs.Footprint.{is_read_of, is_write_of, is_input, asks, is_expiry, reads_input}
+use Rattle.sv8_model.specs.Footprint.{is_read_of, is_write_of, is_touch_of, is_input, asks, is_expiry, reads_input}
 use Rattle.sv8_model.specs.Cells.{Cell, ram_byte, waiting_bytes, pending_level, is_read}
 use Rattle.sv8_notes.specs.declared.notes.WordNote.{WordNote}
 use Rattle.sv8_notes.specs.Touched.{is_told_written}
-use Rattle.sv8_notes.specs.Steps.{Steps, Gains, is_word_of, has_word, is_asked_in, is_among, reads_in, writes_in}
+use Rattle.sv8_notes.specs.Steps.{Steps, Gains, is_word_of, has_word, is_asked_in, is_among, reads_in, writes_in, data_in, are_of}
 
 flip : (p q : Bool) → (p ≡ true → q ≡ true) → (q ≡ true → p ≡ true) → p ≡ q
 flip true q f g = sym (f refl)
@@ -53,10 +53,17 @@ none true o = refl
 none false true = refl
 none false false = refl
 
-pub gains_nothing : (offset : ℕ) (s : Steps) → Gains offset [] s s
+-- no data more
+no_data : (offset : ℕ) (s : Steps) (c : Cell) (j : ℕ) → data_in s c j ≡ (data_in s c j || (j == offset && are_of [] c))
+no_data offset s (ram_byte i) j = none _ (j == offset)
+no_data offset s waiting_bytes j = none _ (j == offset)
+no_data offset s (pending_level l) j = none _ (j == offset)
+
+pub gains_nothing : (offset : ℕ) (s : Steps) → Gains offset [] [] s s
 gains_nothing offset s = record {
   reads = λ c j. reads c j;
   writes = λ c j. writes c j;
+  uses = λ c j. no_data offset s c j;
   takes = λ j. none (is_among j s.inputs) (j == offset);
 }
   where
@@ -91,43 +98,65 @@ module _ (offset : ℕ) (s : Steps) where
       order false true = refl
       order false false = refl
 
-  -- the note of a word that is read, in front of others
-  pub gains_read : (a : ℕ) (front behind : List WordNote) → s.reads ≡ front ++ behind
-      → Gains offset (Read a ∷ []) s (record s { reads = (front ++ record { address = a; offset = offset } ∷ []) ++ behind })
-  gains_read a front behind is = record {
+  turned : (x n y : Bool) → ((x || n) || y) ≡ ((x || y) || n)
+  turned true n y = refl
+  turned false true true = refl
+  turned false true false = refl
+  turned false false true = refl
+  turned false false false = refl
+
+  -- a read writes nothing
+  none_written : (a : ℕ) (c : Cell) (j : ℕ) → writes_in s c j ≡ (writes_in s c j || (j == offset && is_told_written (Read a ∷ []) c))
+  none_written a (ram_byte i) j = none _ (j == offset)
+  none_written a waiting_bytes j = none _ (j == offset)
+  none_written a (pending_level l) j = (gains_nothing offset s).writes (pending_level l) j
+
+  -- the note of a word that is fetched
+  pub gains_read : (a : ℕ) → Gains offset (Read a ∷ []) [] s (record s { fetches = s.fetches ++ record { address = a; offset = offset } ∷ [] })
+  gains_read a = record {
     reads = λ c j. reads c j;
-    writes = λ c j. writes c j;
+    writes = λ c j. none_written a c j;
+    uses = λ c j. no_data offset s c j;
     takes = λ j. none (is_among j s.inputs) (j == offset);
   }
     where
-      between : (w j : ℕ) → has_word ((front ++ word a ∷ []) ++ behind) w j ≡ (has_word s.reads w j || (j == offset && (a == w || false)))
-      between w j =
-          any_append (is_word_of w j) (front ++ word a ∷ []) behind
-          ∙ ap (λ b. b || has_word behind w j) (noted front a w j)
-          ∙ turned (has_word front w j) (j == offset && (a == w || false)) (has_word behind w j)
-          ∙ ap (λ b. b || (j == offset && (a == w || false))) (sym (ap (λ notes. has_word notes w j) is ∙ any_append (is_word_of w j) front behind))
-        where
-          turned : (x n y : Bool) → ((x || n) || y) ≡ ((x || y) || n)
-          turned true n y = refl
-          turned false true true = refl
-          turned false true false = refl
-          turned false false true = refl
-          turned false false false = refl
-
-      reads : (c : Cell) (j : ℕ) → reads_in (record s { reads = (front ++ word a ∷ []) ++ behind }) c j ≡ (reads_in s c j || (j == offset && is_read (Read a ∷ []) c))
-      reads (ram_byte i) j = between (word_address i) j
+      reads : (c : Cell) (j : ℕ) → reads_in (record s { fetches = s.fetches ++ word a ∷ [] }) c j ≡ (reads_in s c j || (j == offset && is_read (Read a ∷ []) c))
+      reads (ram_byte i) j =
+          let w = word_address i in
+          ap (λ b. b || has_word s.reads w j) (noted s.fetches a w j) ∙ turned (has_word s.fetches w j) (j == offset && (a == w || false)) (has_word s.reads w j)
       reads waiting_bytes j = none _ (j == offset)
       reads (pending_level l) j = none _ (j == offset)
 
-      writes : (c : Cell) (j : ℕ) → writes_in s c j ≡ (writes_in s c j || (j == offset && is_told_written (Read a ∷ []) c))
-      writes (ram_byte i) j = none _ (j == offset)
-      writes waiting_bytes j = none _ (j == offset)
-      writes (pending_level l) j = (gains_nothing offset s).writes (pending_level l) j
+  -- that of a word that is read as data
+  pub gains_load : (a : ℕ) → Gains offset (Read a ∷ []) (Read a ∷ []) s (record s { reads = s.reads ++ record { address = a; offset = offset } ∷ [] })
+  gains_load a = record {
+    reads = λ c j. reads c j;
+    writes = λ c j. none_written a c j;
+    uses = λ c j. uses c j;
+    takes = λ j. none (is_among j s.inputs) (j == offset);
+  }
+    where
+      reads : (c : Cell) (j : ℕ) → reads_in (record s { reads = s.reads ++ word a ∷ [] }) c j ≡ (reads_in s c j || (j == offset && is_read (Read a ∷ []) c))
+      reads (ram_byte i) j =
+          let w = word_address i in
+          ap (λ b. has_word s.fetches w j || b) (noted s.reads a w j) ∙ or_groups (has_word s.fetches w j) (has_word s.reads w j) (j == offset && (a == w || false))
+      reads waiting_bytes j = none _ (j == offset)
+      reads (pending_level l) j = none _ (j == offset)
 
-  pub gains_write : (a : ℕ) → Gains offset (Write a ∷ []) s (record s { writes = s.writes ++ record { address = a; offset = offset } ∷ [] })
+      uses : (c : Cell) (j : ℕ) → data_in (record s { reads = s.reads ++ word a ∷ [] }) c j ≡ (data_in s c j || (j == offset && are_of (Read a ∷ []) c))
+      uses (ram_byte i) j =
+          let w = word_address i in
+          ap (λ b. b || has_word s.writes w j) (noted s.reads a w j)
+          ∙ turned (has_word s.reads w j) (j == offset && (a == w || false)) (has_word s.writes w j)
+          ∙ ap (λ b. (has_word s.reads w j || has_word s.writes w j) || (j == offset && b)) (sym (or_none (a == w || false)))
+      uses waiting_bytes j = none _ (j == offset)
+      uses (pending_level l) j = none _ (j == offset)
+
+  pub gains_write : (a : ℕ) → Gains offset (Write a ∷ []) (Write a ∷ []) s (record s { writes = s.writes ++ record { address = a; offset = offset } ∷ [] })
   gains_write a = record {
     reads = λ c j. reads c j;
     writes = λ c j. writes c j;
+    uses = λ c j. uses c j;
     takes = λ j. none (is_among j s.inputs) (j == offset);
   }
     where
@@ -141,6 +170,13 @@ module _ (offset : ℕ) (s : Steps) where
       writes waiting_bytes j = none _ (j == offset)
       writes (pending_level l) j = (gains_nothing offset s).writes (pending_level l) j
 
+      uses : (c : Cell) (j : ℕ) → data_in (record s { writes = s.writes ++ record { address = a; offset = offset } ∷ [] }) c j ≡ (data_in s c j || (j == offset && are_of (Write a ∷ []) c))
+      uses (ram_byte i) j =
+          let w = word_address i in
+          ap (λ b. has_word s.reads w j || b) (noted s.writes a w j) ∙ or_groups (has_word s.reads w j) (has_word s.writes w j) (j == offset && (a == w || false))
+      uses waiting_bytes j = none _ (j == offset)
+      uses (pending_level l) j = none _ (j == offset)
+
   among : (xs : List ℕ) (j : ℕ) → is_among j (xs ++ offset ∷ []) ≡ (is_among j xs || (j == offset && true))
   among xs j = any_one (λ o. o == j) xs offset ∙ ap (λ b. is_among j xs || b) (swap offset j ∙ yes (j == offset))
     where
@@ -148,10 +184,20 @@ module _ (offset : ℕ) (s : Steps) where
       yes true = refl
       yes false = refl
 
-  pub gains_input : Gains offset (Input ∷ []) s (record s { inputs = s.inputs ++ offset ∷ [] })
+  -- what touches no word is no data
+  abbrev NoWord : Touch → Type 0
+  NoWord t = (address : ℕ) → is_touch_of address t ≡ false
+
+  data_stays : (t : Touch) → NoWord t → (c : Cell) (j : ℕ) → data_in s c j ≡ (data_in s c j || (j == offset && are_of (t ∷ []) c))
+  data_stays t apart (ram_byte i) j = none _ (j == offset) ∙ ap (λ b. data_in s (ram_byte i) j || (j == offset && (b || false))) (sym (apart (word_address i)))
+  data_stays t apart waiting_bytes j = none _ (j == offset)
+  data_stays t apart (pending_level l) j = none _ (j == offset)
+
+  pub gains_input : Gains offset (Input ∷ []) (Input ∷ []) s (record s { inputs = s.inputs ++ offset ∷ [] })
   gains_input = record {
     reads = λ c j. reads c j;
     writes = λ c j. writes c j;
+    uses = λ c j. data_stays Input (λ w. refl) c j;
     takes = λ j. among s.inputs j;
   }
     where
@@ -165,10 +211,11 @@ module _ (offset : ℕ) (s : Steps) where
       writes waiting_bytes j = none _ (j == offset)
       writes (pending_level l) j = (gains_nothing offset s).writes (pending_level l) j
 
-  pub gains_expiry : Gains offset (Expiry ∷ []) s (record s { expiries = s.expiries ++ offset ∷ [] })
+  pub gains_expiry : Gains offset (Expiry ∷ []) (Expiry ∷ []) s (record s { expiries = s.expiries ++ offset ∷ [] })
   gains_expiry = record {
     reads = λ c j. reads c j;
     writes = λ c j. writes c j;
+    uses = λ c j. data_stays Expiry (λ w. refl) c j;
     takes = λ j. none (is_among j s.inputs) (j == offset);
   }
     where
@@ -188,10 +235,11 @@ module _ (offset : ℕ) (s : Steps) where
           level false x false = refl
 
   pub gains_levels : (levels : ℕ) (new : Steps) → new ≡ record s { levels = new.levels }
-      → ((l j : ℕ) → list_any (is_asked_in l j) new.levels ≡ (list_any (is_asked_in l j) s.levels || (j == offset && bit levels l))) → Gains offset (Levels levels ∷ []) s new
+      → ((l j : ℕ) → list_any (is_asked_in l j) new.levels ≡ (list_any (is_asked_in l j) s.levels || (j == offset && bit levels l))) → Gains offset (Levels levels ∷ []) (Levels levels ∷ []) s new
   gains_levels levels new rest asked = record {
     reads = λ c j. ap (λ n. reads_in n c j) rest ∙ reads c j;
     writes = λ c j. ap (λ n. writes_in n c j) rest ∙ writes c j;
+    uses = λ c j. ap (λ n. data_in n c j) rest ∙ data_stays (Levels levels) (λ w. refl) c j;
     takes = λ j. ap (λ (n : Steps). is_among j n.inputs) rest ∙ none (is_among j s.inputs) (j == offset);
   }
     where
@@ -230,28 +278,37 @@ written_append ts us (pending_level l) = ap (λ b. l == timer_level && b) (any_a
     over true a b = refl
     over false a b = refl
 
-pub gains_then : (offset : ℕ) (ts us : List Touch) (r s t : Steps) → Gains offset ts r s → Gains offset us s t → Gains offset (ts ++ us) r t
-gains_then offset ts us r s t p q = record {
+pub are_of_append : (ts us : List Touch) (c : Cell) → are_of (ts ++ us) c ≡ (are_of ts c || are_of us c)
+are_of_append ts us (ram_byte i) = any_append (is_touch_of (word_address i)) ts us
+are_of_append ts us waiting_bytes = refl
+are_of_append ts us (pending_level l) = refl
+
+pub gains_then : (offset : ℕ) (ts us ds es : List Touch) (r s t : Steps) → Gains offset ts ds r s → Gains offset us es s t → Gains offset (ts ++ us) (ds ++ es) r t
+gains_then offset ts us ds es r s t p q = record {
+  uses = λ c j. q.uses c j ∙ ap (λ b. b || (j == offset && are_of es c)) (p.uses c j) ∙ gathered (data_in r c j) (j == offset) (are_of ds c) (are_of es c) ∙ ap (λ b. data_in r c j || (j == offset && b)) (sym (are_of_append ds es c));
   reads = λ c j. q.reads c j ∙ ap (λ b. b || (j == offset && is_read us c)) (p.reads c j) ∙ gathered (reads_in r c j) (j == offset) (is_read ts c) (is_read us c) ∙ ap (λ b. reads_in r c j || (j == offset && b)) (sym (read_append ts us c));
   writes = λ c j. q.writes c j ∙ ap (λ b. b || (j == offset && is_told_written us c)) (p.writes c j) ∙ gathered (writes_in r c j) (j == offset) (is_told_written ts c) (is_told_written us c) ∙ ap (λ b. writes_in r c j || (j == offset && b)) (sym (written_append ts us c));
   takes = λ j. q.takes j ∙ ap (λ b. b || (j == offset && reads_input us)) (p.takes j) ∙ gathered (is_among j r.inputs) (j == offset) (reads_input ts) (reads_input us) ∙ ap (λ b. is_among j r.inputs || (j == offset && b)) (sym (any_append is_input ts us));
 }
 
--- a fetch, whose note is behind those of other fetches and in front of other reads
-pub gains_fetch : (offset a : ℕ) (old s : Steps) (fetches more reads : List WordNote) → old ≡ s → old.reads ≡ fetches ++ reads → more ≡ fetches ++ record { address = a; offset = offset } ∷ []
-    → Gains offset (Read a ∷ []) s (record old { reads = more ++ reads })
-gains_fetch offset a old s fetches more reads same is longer =
-    subst (λ r. Gains offset (Read a ∷ []) r (record old { reads = more ++ reads })) same
-    (subst (λ words. Gains offset (Read a ∷ []) old (record old { reads = words ++ reads })) (sym longer) (gains_read offset old a fetches reads is))
+-- the same of a fetch, by the notes as they stand
+pub gains_fetch : (offset a : ℕ) (old s : Steps) (fetches more : List WordNote) → old ≡ s → old.fetches ≡ fetches → more ≡ fetches ++ record { address = a; offset = offset } ∷ []
+    → Gains offset (Read a ∷ []) [] s (record old { fetches = more })
+gains_fetch offset a old s fetches more same is longer =
+    subst (λ r. Gains offset (Read a ∷ []) [] r (record old { fetches = more })) same
+    (subst (λ words. Gains offset (Read a ∷ []) [] old (record old { fetches = words })) (ap (λ words. words ++ record { address = a; offset = offset } ∷ []) is ∙ sym longer)
+    (gains_read offset old a))
 
--- the same of touches that read, write and take the same
-pub gains_like : (offset : ℕ) (ts us : List Touch) (r s : Steps) → ((c : Cell) → is_read us c ≡ is_read ts c) → ((c : Cell) → is_told_written us c ≡ is_told_written ts c) → reads_input us ≡ reads_input ts
-    → Gains offset ts r s → Gains offset us r s
-gains_like offset ts us r s reads writes takes p = record {
+-- the same of touches that read, write and take the same, and of data that is of the same words
+pub gains_like : (offset : ℕ) (ts us ds es : List Touch) (r s : Steps) → ((c : Cell) → are_of es c ≡ are_of ds c) → ((c : Cell) → is_read us c ≡ is_read ts c) → ((c : Cell) → is_told_written us c ≡ is_told_written ts c) → reads_input us ≡ reads_input ts
+    → Gains offset ts ds r s → Gains offset us es r s
+gains_like offset ts us ds es r s uses reads writes takes p = record {
+  uses = λ c j. p.uses c j ∙ ap (λ b. data_in r c j || (j == offset && b)) (sym (uses c));
   reads = λ c j. p.reads c j ∙ ap (λ b. reads_in r c j || (j == offset && b)) (sym (reads c));
   writes = λ c j. p.writes c j ∙ ap (λ b. writes_in r c j || (j == offset && b)) (sym (writes c));
   takes = λ j. p.takes j ∙ ap (λ b. is_among j r.inputs || (j == offset && b)) (sym takes);
 }
 
-pub gains_taken : (offset : ℕ) (ts : List Touch) (i : ℕ) (d : Touch) (r s t : Steps) → i < length ts → Gains offset (take i ts) r s → Gains offset (get_or ts i d ∷ []) s t → Gains offset (take (i + 1) ts) r t
-gains_taken offset ts i d r s t h p q = rw (take_more ts i d h) (gains_then offset (take i ts) (get_or ts i d ∷ []) r s t p q)
+pub gains_taken : (offset : ℕ) (ts : List Touch) (i : ℕ) (d : Touch) (r s t : Steps) → i < length ts → Gains offset (take i ts) (take i ts) r s
+    → Gains offset (get_or ts i d ∷ []) (get_or ts i d ∷ []) s t → Gains offset (take (i + 1) ts) (take (i + 1) ts) r t
+gains_taken offset ts i d r s t h p q = rw (take_more ts i d h) (gains_then offset (take i ts) (get_or ts i d ∷ []) (take i ts) (get_or ts i d ∷ []) r s t p q)

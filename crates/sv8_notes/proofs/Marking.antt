@@ -72,10 +72,10 @@ unmarked (n ∷ ns) marks mark all a less j = rw (first (cases_eq n.address a), 
 
 -- what is sought of a word is not met by a step that does not touch it
 pub unmet : (sought : Sought) (word offset : ℕ) (s : Steps) → sought_word sought ≡ Some word → IsUntouched s word → is_met sought (footprint_in s offset) ≡ false
-unmet (Read (Byte a)) word offset s e none = let i : 4 * (a / 4) ≡ word = ap (λ (o : Option ℕ). unwrap_or o 0) e in rw i (none offset).0
+unmet (Read (Byte a)) word offset s e none = let i : 4 * (a / 4) ≡ word = ap (λ (o : Option ℕ). unwrap_or o 0) e in rw (i, (none offset).0) (none offset).1
 unmet (Read (Level l)) word offset s e none = absurd (none-some word e)
-unmet (Write (Byte a)) word offset s e none = let i : 4 * (a / 4) ≡ word = ap (λ (o : Option ℕ). unwrap_or o 0) e in rw i (none offset).1
+unmet (Write (Byte a)) word offset s e none = let i : 4 * (a / 4) ≡ word = ap (λ (o : Option ℕ). unwrap_or o 0) e in rw i (none offset).2
 unmet (Write (Level l)) word offset s e none = absurd (none-some word e)
-unmet (Touch (Byte a)) word offset s e none = let i : 4 * (a / 4) ≡ word = ap (λ (o : Option ℕ). unwrap_or o 0) e in rw (i, (none offset).0) (none offset).1
+unmet (Touch (Byte a)) word offset s e none = let i : 4 * (a / 4) ≡ word = ap (λ (o : Option ℕ). unwrap_or o 0) e in rw (i, (none offset).0, (none offset).1) (none offset).2
 unmet (Touch (Level l)) word offset s e none = absurd (none-some word e)
 unmet Input word offset s e none = absurd (none-some word e)

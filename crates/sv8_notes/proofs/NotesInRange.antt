@@ -4,12 +4,13 @@ use Rattle.std.specs.Prelude.{nat_le, nat_lt, ◌&&◌, ◌||◌}
 use Rattle.std.proofs.lemmas.Bool.{cases_lt, or_parts, true≢false}
 use Rattle.std.proofs.lemmas.Bool.Decides.{nat_tests}
 use Rattle.sv8_model.specs.Outside.{word_address}
-use Rattle.sv8_notes.specs.declared.cell.Cell.TheVariants.{Byte}
+use Rattle.sv8_model.specs.declared.touch.TouchKind.{TouchKind}
+use Rattle.sv8_model.specs.declared.touch.TouchKind.TheVariants.{Any, Data}
+use Rattle.sv8_model.specs.Cells.{ram_byte}
 use Rattle.sv8_notes.specs.declared.notes.WordNote.{WordNote}
-use Rattle.sv8_notes.specs.declared.notes.Sought.TheVariants.{Touch}
 use Rattle.sv8_notes.specs.Steps.{Steps, is_word_of, has_word, footprint_in}
-use Rattle.sv8_notes.specs.Sought.{is_met}
-use Rattle.sv8_notes.specs.Touching.{is_from_to, is_note_in, are_notes_in, touches_any}
+use Rattle.sv8_notes.proofs.Gaining.{or_groups}
+use Rattle.sv8_notes.specs.Touching.{is_from_to, is_note_in, are_notes_in, fetches_of, touches_any, touches_as}
 
 both : (a b : Bool) → a ≡ true → b ≡ true → (a && b) ≡ true
 both a b p q = ap (λ x. x && b) p ∙ q
@@ -139,16 +140,28 @@ module _ (low last from end : ℕ) where
 
 -- ---- the notes of an interval
 
+-- a byte is touched where its word has a note
+touched_byte : (kind : TouchKind) (s : Steps) (j i : ℕ)
+    → touches_as kind (footprint_in s j) (ram_byte i) ≡ (has_word (fetches_of kind s) (word_address i) j || (has_word s.reads (word_address i) j || has_word s.writes (word_address i) j))
+touched_byte Any s j i = sym (or_groups (has_word s.fetches (word_address i) j) (has_word s.reads (word_address i) j) (has_word s.writes (word_address i) j))
+touched_byte Data s j i = refl
+
 -- the bytes are from one address to another; their words are those from `low` on
-module _ (address count low last from end : ℕ) (word : low ≡ word_address address) (some : 1 ≤ count) (last_is : last + 1 ≡ address + count) where
-  pub none_in : (s : Steps) (j i : ℕ) → touches_any low last from end s ≡ false → from ≤ j → j < end → address ≤ i → i < address + count → is_met (Touch (Byte i)) (footprint_in s j) ≡ false
+module _ (kind : TouchKind) (address count low last from end : ℕ) (word : low ≡ word_address address) (some : 1 ≤ count) (last_is : last + 1 ≡ address + count) where
+  pub none_in : (s : Steps) (j i : ℕ) → touches_any kind low last from end s ≡ false → from ≤ j → j < end → address ≤ i → i < address + count
+      → touches_as kind (footprint_in s j) (ram_byte i) ≡ false
   none_in s j i h a b c d =
       let aligned : word_address i % 4 ≡ 0 = omega arith in
       let above : low ≤ word_address i = omega (arith, word, c) in
       let below : word_address i ≤ last = omega (arith, last_is, d) in
-      neither (has_word s.reads (word_address i) j) (has_word s.writes (word_address i) j)
-      (none_of_word low last from end (word_address i) j aligned above below a b s.reads (or_parts (are_notes_in low last from end s.reads) (are_notes_in low last from end s.writes) h).0)
-      (none_of_word low last from end (word_address i) j aligned above below a b s.writes (or_parts (are_notes_in low last from end s.reads) (are_notes_in low last from end s.writes) h).1)
+      let first = or_parts (are_notes_in low last from end (fetches_of kind s)) (are_notes_in low last from end s.reads || are_notes_in low last from end s.writes) h in
+      let others = or_parts (are_notes_in low last from end s.reads) (are_notes_in low last from end s.writes) first.1 in
+      touched_byte kind s j i
+      ∙ neither (has_word (fetches_of kind s) (word_address i) j) _
+      (none_of_word low last from end (word_address i) j aligned above below a b (fetches_of kind s) first.0)
+      (neither (has_word s.reads (word_address i) j) (has_word s.writes (word_address i) j)
+      (none_of_word low last from end (word_address i) j aligned above below a b s.reads others.0)
+      (none_of_word low last from end (word_address i) j aligned above below a b s.writes others.1))
 
   -- a byte whose word is touched
   pub record Touched (s : Steps) : Type 0 where
@@ -158,19 +171,15 @@ module _ (address count low last from end : ℕ) (word : low ≡ word_address ad
     pub below : byte < address + count
     pub behind : from ≤ step
     pub before : step < end
-    pub met : is_met (Touch (Byte byte)) (footprint_in s step) ≡ true
-
-  or_true : (a b : Bool) → (a ≡ true) ⊎ (b ≡ true) → (a || b) ≡ true
-  or_true true b h = refl
-  or_true false b (inl h) = absurd (true≢false (sym h))
-  or_true false b (inr h) = h
+    pub met : touches_as kind (footprint_in s step) (ram_byte byte) ≡ true
 
   -- the byte of a word, which is the first one of it or that of the address
-  byte_in : (s : Steps) (w j : ℕ) → w % 4 ≡ 0 → low ≤ w → w ≤ last → from ≤ j → j < end → (has_word s.reads w j ≡ true) ⊎ (has_word s.writes w j ≡ true) → Touched s
+  byte_in : (s : Steps) (w j : ℕ) → w % 4 ≡ 0 → low ≤ w → w ≤ last → from ≤ j → j < end
+      → (has_word (fetches_of kind s) w j || (has_word s.reads w j || has_word s.writes w j)) ≡ true → Touched s
   byte_in s w j aligned a b c d has = by_case (cases_lt w address)
     where
-      there : (i : ℕ) → w ≡ word_address i → is_met (Touch (Byte i)) (footprint_in s j) ≡ true
-      there i e = subst (λ x. (has_word s.reads x j || has_word s.writes x j) ≡ true) e (or_true (has_word s.reads w j) (has_word s.writes w j) has)
+      there : (i : ℕ) → w ≡ word_address i → touches_as kind (footprint_in s j) (ram_byte i) ≡ true
+      there i e = touched_byte kind s j i ∙ subst (λ x. (has_word (fetches_of kind s) x j || (has_word s.reads x j || has_word s.writes x j)) ≡ true) e has
 
       by_case : (w < address) ⊎ (address ≤ w) → Touched s
       by_case (inl below) = record {
@@ -192,8 +201,21 @@ module _ (address count low last from end : ℕ) (word : low ≡ word_address ad
         met = there w (omega (arith, aligned));
       }
 
-  pub some_in : (s : Steps) → touches_any low last from end s ≡ true → Touched s
-  some_in s h = elim (first_or (are_notes_in low last from end s.reads) (are_notes_in low last from end s.writes) h) [
-    | inl reads ↦ let it = some_noted low last from end s.reads reads in byte_in s it.word it.step it.aligned it.above it.below it.behind it.before (inl it.has)
-    | inr writes ↦ let it = some_noted low last from end s.writes writes in byte_in s it.word it.step it.aligned it.above it.below it.behind it.before (inr it.has)
+  pub some_in : (s : Steps) → touches_any kind low last from end s ≡ true → Touched s
+  some_in s h = elim (first_or (are_notes_in low last from end (fetches_of kind s)) _ h) [
+    | inl fetches ↦ at (fetches_of kind s) fetches (λ w j e. or_first _ _ e)
+    | inr others ↦ elim (first_or (are_notes_in low last from end s.reads) (are_notes_in low last from end s.writes) others) [
+      | inl reads ↦ at s.reads reads (λ w j e. second_or (has_word (fetches_of kind s) w j) _ (or_first _ _ e))
+      | inr writes ↦ at s.writes writes (λ w j e. second_or (has_word (fetches_of kind s) w j) _ (second_or (has_word s.reads w j) _ e))
+    ]
   ]
+    where
+      or_first : (a b : Bool) → a ≡ true → (a || b) ≡ true
+      or_first true b h = refl
+      or_first false b h = absurd (true≢false (sym h))
+
+      at : (notes : List WordNote) → are_notes_in low last from end notes ≡ true
+          → ((w j : ℕ) → has_word notes w j ≡ true → (has_word (fetches_of kind s) w j || (has_word s.reads w j || has_word s.writes w j)) ≡ true) → Touched s
+      at notes some among =
+          let it = some_noted low last from end notes some in
+          byte_in s it.word it.step it.aligned it.above it.below it.behind it.before (among it.word it.step it.has)

@@ -4,13 +4,13 @@ use Rattle.std.specs.List.{list_any}
 use Rattle.sv8_model.specs.declared.touch.Touch.{Touch}
 use Rattle.sv8_model.specs.declared.touch.Touch.TheVariants.{Read, Write, Levels}
 use Rattle.sv8_model.specs.Outside.{word_address}
-use Rattle.sv8_model.specs.Footprint.{is_write_of, reads_input}
+use Rattle.sv8_model.specs.Footprint.{is_read_of, is_write_of, is_touch_of, reads_input, touches_data}
 use Rattle.sv8_model.specs.Cells.{Cell, ram_byte, waiting_bytes, pending_level, is_read, is_written}
 use Rattle.sv8_phys.specs.Notes.{told}
-use Rattle.sv8_notes.specs.Touched.{is_touched, is_told_written}
-use Rattle.sv8_notes.specs.Steps.{Steps, Gains}
-use Rattle.sv8_notes.proofs.Gaining.{or_none, gains_like, gains_then, read_append, written_append}
-use Rattle.sv8_notes.proofs.Touching.{told_read, told_written, touched_parts, touched_told}
+use Rattle.sv8_notes.specs.Touched.{is_touched, is_touched_by, is_told_written}
+use Rattle.sv8_notes.specs.Steps.{Steps, Gains, IsAllData, are_of}
+use Rattle.sv8_notes.proofs.Gaining.{or_none, any_append, gains_like, gains_then, read_append, written_append}
+use Rattle.sv8_notes.proofs.Touching.{any_split, byte_split, told_read, told_written, touched_parts, touched_told}
 
 -- a word that is fetched
 pub told_fetch : (a : ℕ) → told (Read a ∷ []) ≡ Read a ∷ []
@@ -62,9 +62,16 @@ module _ (levels : ℕ) (ts : List Touch) where
   takes : reads_input (told (Levels levels ∷ ts)) ≡ reads_input (told ts ++ Levels levels ∷ [])
   takes = reads waiting_bytes
 
-  pub gains_levels_first : (offset : ℕ) (r s t : Steps) → Gains offset (told ts) r s → Gains offset (Levels levels ∷ []) s t → Gains offset (told (Levels levels ∷ ts)) r t
-  gains_levels_first offset r s t p q =
-      gains_like offset (told ts ++ Levels levels ∷ []) (told (Levels levels ∷ ts)) r t reads writes takes (gains_then offset (told ts) (Levels levels ∷ []) r s t p q)
+  behind : (ds : List Touch) (c : Cell) → are_of ds c ≡ are_of (ds ++ Levels levels ∷ []) c
+  behind ds (ram_byte i) = sym (any_append (is_touch_of (word_address i)) ds (Levels levels ∷ []) ∙ or_none (list_any (is_touch_of (word_address i)) ds))
+  behind ds waiting_bytes = refl
+  behind ds (pending_level l) = refl
+
+  pub gains_levels_first : (offset : ℕ) (ds : List Touch) (r s t : Steps) → Gains offset (told ts) ds r s → Gains offset (Levels levels ∷ []) (Levels levels ∷ []) s t
+      → Gains offset (told (Levels levels ∷ ts)) ds r t
+  gains_levels_first offset ds r s t p q =
+      gains_like offset (told ts ++ Levels levels ∷ []) (told (Levels levels ∷ ts)) (ds ++ Levels levels ∷ []) ds r t (behind ds) reads writes takes
+      (gains_then offset (told ts) (Levels levels ∷ []) ds (Levels levels ∷ []) r s t p q)
 
 -- what is told touches the cells that what was noted touches
 pub touches_told : (ts : List Touch) (c : Cell) → is_touched ts c ≡ is_touched (told ts) c
@@ -79,3 +86,21 @@ touches_told ts c = touched_parts ts c ∙ parts c ∙ sym (touched_told ts c)
     parts (ram_byte i) = over (is_read ts (ram_byte i)) (list_any (is_write_of (word_address i)) ts)
     parts waiting_bytes = refl
     parts (pending_level l) = refl
+
+-- ---- data of other steps
+
+-- by the word of a byte, whatever is done to it
+touch_parts : (ts : List Touch) (i : ℕ) → list_any (is_touch_of (word_address i)) ts ≡ is_touched ts (ram_byte i)
+touch_parts ts i =
+    any_split (is_read_of (word_address i)) (is_write_of (word_address i)) (is_touch_of (word_address i)) (λ t. refl) ts
+    ∙ sym (any_split (is_read_of (word_address i)) (is_write_of (word_address i)) (is_touched_by (ram_byte i)) (byte_split i) ts)
+
+-- all that such a step touches is told, and is its data
+pub gains_all : (offset : ℕ) (ts ds : List Touch) (r s : Steps) → ((address : ℕ) → list_any (is_touch_of address) ds ≡ list_any (is_touch_of address) ts)
+    → Gains offset (told ts) (told ts) r s → Gains offset (told ts) ds r s
+gains_all offset ts ds r s all p = gains_like offset (told ts) (told ts) (told ts) ds r s uses (λ c. refl) (λ c. refl) refl p
+  where
+    uses : (c : Cell) → are_of ds c ≡ are_of (told ts) c
+    uses (ram_byte i) = all (word_address i) ∙ touch_parts ts i ∙ touches_told ts (ram_byte i) ∙ sym (touch_parts (told ts) i)
+    uses waiting_bytes = refl
+    uses (pending_level l) = refl

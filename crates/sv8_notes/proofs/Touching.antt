@@ -18,7 +18,7 @@ four false true false d = refl
 four false false true d = refl
 four false false false d = refl
 
-any_split : (f g h : Touch → Bool) → ((t : Touch) → h t ≡ (f t || g t)) → (ts : List Touch) → list_any h ts ≡ (list_any f ts || list_any g ts)
+pub any_split : (f g h : Touch → Bool) → ((t : Touch) → h t ≡ (f t || g t)) → (ts : List Touch) → list_any h ts ≡ (list_any f ts || list_any g ts)
 any_split f g h e [] = refl
 any_split f g h e (t ∷ ts) = ap₂ (λ a b. a || b) (e t) (any_split f g h e ts) ∙ four (f t) (g t) (list_any f ts) (list_any g ts)
 
@@ -44,7 +44,7 @@ or_and_none true b = refl
 or_and_none false true = refl
 or_and_none false false = refl
 
-byte_split : (i : ℕ) (t : Touch) → is_touched_by (ram_byte i) t ≡ (is_read_of (word_address i) t || is_write_of (word_address i) t)
+pub byte_split : (i : ℕ) (t : Touch) → is_touched_by (ram_byte i) t ≡ (is_read_of (word_address i) t || is_write_of (word_address i) t)
 byte_split i (Read a) = or_none (a == word_address i)
 byte_split i (Write a) = refl
 byte_split i Input = refl

@@ -10,6 +10,6 @@ mark_of marks address = slice_index_or (slice_index_or marks (address / 4096) []
 abbrev pub AreMarkedFrom : List (List ℕ) → ℕ → ℕ → ℕ → Type 0
 AreMarkedFrom marks address mark count = (k : ℕ) → k < count → mark ≤ mark_of marks (address + 4 * k)
 
--- no step reads or writes a word
+-- no step fetches, reads or writes a word
 abbrev pub IsUntouched : Steps → ℕ → Type 0
-IsUntouched s address = (offset : ℕ) → (has_word s.reads address offset ≡ false) × (has_word s.writes address offset ≡ false)
+IsUntouched s address = (offset : ℕ) → (has_word s.fetches address offset ≡ false) × (has_word s.reads address offset ≡ false) × (has_word s.writes address offset ≡ false)

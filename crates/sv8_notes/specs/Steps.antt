@@ -5,7 +5,7 @@ use Rattle.sv8_model.specs.declared.touch.Touch.{Touch}
 use Rattle.sv8_model.specs.Words.{bit}
 use Rattle.sv8_model.specs.Levels.{timer_level}
 use Rattle.sv8_model.specs.Outside.{word_address}
-use Rattle.sv8_model.specs.Footprint.{reads_input}
+use Rattle.sv8_model.specs.Footprint.{reads_input, is_touch_of, touches_data}
 use Rattle.sv8_model.specs.Cells.{Cell, ram_byte, waiting_bytes, pending_level, is_read}
 use Rattle.sv8_history.specs.Machine.{Footprint}
 use Rattle.sv8_notes.specs.declared.notes.WordNote.{WordNote}
@@ -13,7 +13,8 @@ use Rattle.sv8_notes.specs.declared.level_run.LevelRun.{LevelRun}
 use Rattle.sv8_notes.specs.Touched.{is_told_written}
 
 pub record Steps : Type 0 where
-  -- the words of RAM that steps read, and those that they write
+  -- the words of RAM that steps fetch, those that they read besides, and those that they write
+  pub fetches : List WordNote
   pub reads : List WordNote
   pub writes : List WordNote
   -- the levels that steps ask, in runs of steps that ask the same
@@ -24,7 +25,7 @@ pub record Steps : Type 0 where
 
 -- of no steps
 abbrev pub no_steps : Steps
-no_steps = record { reads = []; writes = []; levels = []; inputs = []; expiries = [] }
+no_steps = record { fetches = []; reads = []; writes = []; levels = []; inputs = []; expiries = [] }
 
 -- ---- the footprint of a step
 
@@ -44,7 +45,7 @@ abbrev pub is_among : ℕ → List ℕ → Bool
 is_among offset offsets = list_any (λ o. o == offset) offsets
 
 abbrev pub reads_in : Steps → Cell → ℕ → Bool
-reads_in s (ram_byte i) offset = has_word s.reads (word_address i) offset
+reads_in s (ram_byte i) offset = has_word s.fetches (word_address i) offset || has_word s.reads (word_address i) offset
 reads_in s waiting_bytes offset = is_among offset s.inputs
 reads_in s (pending_level l) offset = list_any (is_asked_in l offset) s.levels
 
@@ -53,11 +54,28 @@ writes_in s (ram_byte i) offset = has_word s.writes (word_address i) offset
 writes_in s waiting_bytes offset = false
 writes_in s (pending_level l) offset = l == timer_level && is_among offset s.expiries
 
-abbrev pub footprint_in : Steps → ℕ → Footprint Cell
-footprint_in s offset = record { reads = λ c. reads_in s c offset; writes = λ c. writes_in s c offset; takes = is_among offset s.inputs }
+-- what is not fetched is data
+abbrev pub data_in : Steps → Cell → ℕ → Bool
+data_in s (ram_byte i) offset = has_word s.reads (word_address i) offset || has_word s.writes (word_address i) offset
+data_in s waiting_bytes offset = false
+data_in s (pending_level l) offset = false
 
--- a step touches more, and the others touch what they did
-pub record Gains (offset : ℕ) (ts : List Touch) (old new : Steps) : Type 0 where
+abbrev pub footprint_in : Steps → ℕ → Footprint Cell
+footprint_in s offset = record { reads = λ c. reads_in s c offset; writes = λ c. writes_in s c offset; uses = λ c. data_in s c offset; takes = is_among offset s.inputs }
+
+-- some touches are of the word of a byte
+abbrev pub are_of : List Touch → Cell → Bool
+are_of ts (ram_byte i) = list_any (is_touch_of (word_address i)) ts
+are_of ts waiting_bytes = false
+are_of ts (pending_level l) = false
+
+-- all words that a step touches are its data
+abbrev pub IsAllData : List Touch → Type 0
+IsAllData ts = (address : ℕ) → touches_data ts address ≡ list_any (is_touch_of address) ts
+
+-- a step touches more, some of it as data, and the others touch what they did
+pub record Gains (offset : ℕ) (ts data_of_it : List Touch) (old new : Steps) : Type 0 where
+  pub uses : (c : Cell) (j : ℕ) → data_in new c j ≡ (data_in old c j || (j == offset && are_of data_of_it c))
   pub reads : (c : Cell) (j : ℕ) → reads_in new c j ≡ (reads_in old c j || (j == offset && is_read ts c))
   pub writes : (c : Cell) (j : ℕ) → writes_in new c j ≡ (writes_in old c j || (j == offset && is_told_written ts c))
   pub takes : (j : ℕ) → is_among j new.inputs ≡ (is_among j old.inputs || (j == offset && reads_input ts))

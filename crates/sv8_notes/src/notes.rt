@@ -6,7 +6,8 @@ ghost use Rattle.sv8_model.specs.Words.{bit};
 ghost use Rattle.sv8_notes.specs.Cells.{cell_of};
 ghost use Rattle.sv8_notes.specs.Flags.{IsFlagged};
 ghost use Rattle.sv8_notes.specs.Marks.{mark_of, IsUntouched};
-ghost use Rattle.sv8_notes.specs.Steps.{Gains, IsFirstBelow, footprint_in, is_among, is_asked_in, is_word_of, has_word, no_steps};
+ghost use Rattle.sv8_model.specs.Footprint.{behind_fetch, data_touches};
+ghost use Rattle.sv8_notes.specs.Steps.{Gains, IsAllData, IsFirstBelow, footprint_in, is_among, is_asked_in, is_word_of, has_word, no_steps};
 ghost use Rattle.sv8_notes.specs.Sought.{is_met, sought_word};
 ghost use Rattle.sv8_notes.specs.Touching.{is_from_to, is_note_in, are_notes_in, touches_any};
 ghost use Rattle.sv8_notes.specs.WordRuns.{words_of};
@@ -22,7 +23,7 @@ use crate::step_notes::TIMER_LEVEL;
 use crate::word_run::WordRun;
 use std::alloc::{AllocError, Global};
 use std::marker::Model;
-use sv8_phys::Touch;
+use sv8_phys::{Touch, TouchKind};
 
 /// A word of RAM that a step reads, or writes. Steps are named by their offset, the number of steps since the checkpoint.
 #[derive(Clone, Copy)]
@@ -70,13 +71,12 @@ pub struct Notes {
 }
 
 impl Model for Notes {
-    ghost use Rattle.std.specs.Prelude.{◌++◌};
     ghost use Rattle.sv8_notes.specs.Steps.{Steps};
     ghost use Rattle.sv8_notes.specs.WordRuns.{words_of};
 
     ghost Value = { Steps };
 
-    ghost view = { λ n. record { reads = words_of n.fetches.items ++ n.reads.items; writes = n.writes.items; levels = n.levels.items; inputs = n.inputs.items; expiries = n.expiries.items } };
+    ghost view = { λ n. record { fetches = words_of n.fetches.items; reads = n.reads.items; writes = n.writes.items; levels = n.levels.items; inputs = n.inputs.items; expiries = n.expiries.items } };
 }
 
 impl WordNote {
@@ -282,11 +282,11 @@ impl Notes {
         Ok(())
     }
 
-    /// Takes a note of a touch.
+    /// Takes a note of a touch, as data.
     #[inline(always)]
     fn note(&mut self, touch: Touch, offset: u32) -> Result<(), AllocError>
         requires { offset < 1000000 }
-        ensures { OnOk result (Gains offset (touch ∷ []) self.old self.new) }
+        ensures { OnOk result (Gains offset (touch ∷ []) (touch ∷ []) self.old self.new) }
     {
         match touch {
             Touch::Read(address) => note_word(&mut self.reads, address, offset)?,
@@ -298,11 +298,11 @@ impl Notes {
         Ok(())
     }
 
-    /// Takes a note of the first word that a step reads.
+    /// Takes a note of the first word that a step reads, as no data.
     #[inline(always)]
     fn note_fetch(&mut self, address: u32, offset: u32) -> Result<(), AllocError>
         requires { offset < 1000000 }
-        ensures { OnOk result (Gains offset (Touch.Read address ∷ []) self.old self.new) }
+        ensures { OnOk result (Gains offset (Touch.Read address ∷ []) [] self.old self.new) }
     {
         if extend_last(&mut self.fetches, address, offset) {
             return Ok(());
@@ -316,7 +316,7 @@ impl Notes {
     #[inline(always)]
     fn note_one(&mut self, touch: Touch, offset: u32) -> Result<bool, AllocError>
         requires { offset < 1000000 }
-        ensures { IfOk result (λ done. MatchBool done (Gains offset (told (touch ∷ [])) self.old self.new) (self.new ≡ self.old)) }
+        ensures { IfOk result (λ done. MatchBool done (Gains offset (told (touch ∷ [])) (behind_fetch (touch ∷ [])) self.old self.new) ((self.new ≡ self.old) × (behind_fetch (touch ∷ []) ≡ touch ∷ []))) }
     {
         match touch {
             Touch::Read(fetched) => {
@@ -331,7 +331,7 @@ impl Notes {
     #[inline(always)]
     fn note_two(&mut self, first: Touch, second: Touch, offset: u32) -> Result<bool, AllocError>
         requires { offset < 1000000 }
-        ensures { IfOk result (λ done. MatchBool done (Gains offset (told (first ∷ second ∷ [])) self.old self.new) (self.new ≡ self.old)) }
+        ensures { IfOk result (λ done. MatchBool done (Gains offset (told (first ∷ second ∷ [])) (behind_fetch (first ∷ second ∷ [])) self.old self.new) ((self.new ≡ self.old) × (behind_fetch (first ∷ second ∷ []) ≡ first ∷ second ∷ []))) }
     {
         match (first, second) {
             (Touch::Read(fetched), Touch::Read(_)) => {
@@ -352,7 +352,7 @@ impl Notes {
     #[inline(always)]
     fn note_words(&mut self, touches: &[Touch], offset: u32) -> Result<bool, AllocError>
         requires { offset < 1000000 }
-        ensures { IfOk result (λ done. MatchBool done (Gains offset (told touches.now) self.old self.new) (self.new ≡ self.old)) }
+        ensures { IfOk result (λ done. MatchBool done (Gains offset (told touches.now) (behind_fetch touches.now) self.old self.new) ((self.new ≡ self.old) × (behind_fetch touches.now ≡ touches.now))) }
     {
         match touches {
             [touch] => self.note_one(*touch, offset),
@@ -370,7 +370,7 @@ impl Notes {
         offset: u32,
     ) -> Result<bool, AllocError>
         requires { offset < 1000000 }
-        ensures { IfOk result (λ done. MatchBool done (Gains offset (told (Touch.Levels levels ∷ touches.now)) self.old self.new) (self.new ≡ self.old)) }
+        ensures { IfOk result (λ done. MatchBool done (Gains offset (told (Touch.Levels levels ∷ touches.now)) (data_touches (Touch.Levels levels ∷ touches.now)) self.old self.new) ((self.new ≡ self.old) × IsAllData (Touch.Levels levels ∷ touches.now))) }
     {
         if !self.note_words(touches, offset)? {
             return Ok(false);
@@ -388,7 +388,7 @@ impl Notes {
     #[inline(always)]
     pub fn note_frequent(&mut self, touches: &[Touch], offset: u32) -> Result<bool, AllocError>
         requires { offset < 1000000 }
-        ensures { IfOk result (λ done. MatchBool done (Gains offset (told touches.now) self.old self.new) (self.new ≡ self.old)) }
+        ensures { IfOk result (λ done. MatchBool done (Gains offset (told touches.now) (data_touches touches.now) self.old self.new) ((self.new ≡ self.old) × IsAllData touches.now)) }
     {
         match touches {
             [] => Ok(false),
@@ -399,7 +399,7 @@ impl Notes {
         }
     }
 
-    /// Takes notes of what a step touches.
+    /// Takes notes of what a step touches, of all as data.
     ///
     /// # Errors
     ///
@@ -407,7 +407,7 @@ impl Notes {
     #[inline(never)]
     pub fn note_step(&mut self, touches: &[Touch], offset: u32) -> Result<(), AllocError>
         requires { offset < 1000000 }
-        ensures { OnOk result (Gains offset touches.now self.old self.new) }
+        ensures { OnOk result (Gains offset touches.now touches.now self.old self.new) }
     {
         for touch in touches {
             self.note(*touch, offset)?;
@@ -443,7 +443,7 @@ impl Notes {
 
     /// The first step from one offset on and below another that reads a word.
     fn first_word_read(&self, address: u32, from: u32, end: u32) -> Option<u32>
-        ensures { IsFirstBelow (has_word self.now.reads address) from end result }
+        ensures { IsFirstBelow (λ n. has_word self.now.fetches address n || has_word self.now.reads address n) from end result }
     {
         lesser(
             first_of_runs(&self.fetches, address, from, end),
@@ -486,21 +486,25 @@ impl Notes {
             Sought::Input => first_among(&self.inputs, from, end),
         }
     }
-    /// Whether a step from one offset on and below another touches a word whose address is from one to another.
-    pub fn touches_any(&self, low: u32, last: u32, from: u32, end: u32) -> bool
-        ensures { result ≡ touches_any low last from end self.now }
+
+    /// Whether a step from one offset on and below another touches a word whose address is from one to another, by the
+    /// touches that count.
+    pub fn touches_any(&self, kind: TouchKind, low: u32, last: u32, from: u32, end: u32) -> bool
+        ensures { result ≡ touches_any kind low last from end self.now }
     {
-        are_in_runs(&self.fetches, low, last, from, end)
+        (kind == TouchKind::Any && are_in_runs(&self.fetches, low, last, from, end))
             || are_in(&self.reads, low, last, from, end)
             || are_in(&self.writes, low, last, from, end)
     }
 
-    /// Sets the flag of each step that touches a word whose address is from one to another. Flag number i is that of the
-    /// step with the offset `from + i`.
-    pub fn flag_touching(&self, low: u32, last: u32, from: u32, flags: &mut [bool])
-        ensures { IsFlagged (λ i. touches_any low last (from + i) (from + i + 1) self.now) flags.old flags.new }
+    /// Sets the flag of each step that touches a word whose address is from one to another, by the touches that count. Flag
+    /// number i is that of the step with the offset `from + i`.
+    pub fn flag_touching(&self, kind: TouchKind, low: u32, last: u32, from: u32, flags: &mut [bool])
+        ensures { IsFlagged (λ i. touches_any kind low last (from + i) (from + i + 1) self.now) flags.old flags.new }
     {
-        flag_runs(&self.fetches, low, last, from, flags);
+        if kind == TouchKind::Any {
+            flag_runs(&self.fetches, low, last, from, flags);
+        }
         flag_notes(&self.reads, low, last, from, flags);
         flag_notes(&self.writes, low, last, from, flags);
     }

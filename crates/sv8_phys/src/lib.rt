@@ -23,7 +23,7 @@ pub use page::Page;
 pub use phys::{INPUT, OUTPUT, PENDING, Phys, TIMER_COUNT, TIMER_RELOAD, WAITING};
 pub use size::Size;
 pub use step_touches::{StepTouches, tell_all};
-pub use sv8_model::{AccessKind, Observation, Touch};
+pub use sv8_model::{AccessKind, Observation, Touch, TouchKind};
 pub use timer::Timer;
 pub use touch::{NoTouches, Touches};
 pub use watch::Watch;

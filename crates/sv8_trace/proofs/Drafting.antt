@@ -2,6 +2,7 @@
 use Rattle.std.proofs.Common.{◌≡◌, ℕ, ◌+◌, ◌*◌, ◌<◌, ◌&&◌, ◌==◌, List, [], ◌∷◌, ◌++◌, length, cond, Some, None, is_some, Result, Ok, Err, refl, sym, ◌∙◌, ap, subst, arith}
 use Rattle.std.specs.Prelude.{OnOk}
 use Rattle.std.proofs.lemmas.List.{length-append}
+use Rattle.sv8_model.specs.Footprint.{data_touches}
 use Rattle.sv8_model.specs.Cells.{Cell}
 use Rattle.sv8_time.specs.Schedule.{Schedule}
 use Rattle.sv8_phys.specs.Notes.{told}
@@ -28,7 +29,7 @@ module _ (windows pages k : ℕ) (schedule : Schedule) (old : Recording) (draft 
   was = subst (λ (x : Drafted). IsDraft windows pages k schedule old x) (sym view) d
 
   -- the step is recorded behind those of the draft
-  pub drafted_more : (next : State) (new : Interval) → next ≡ step windows pages schedule at s → Gains count (told (footprint windows pages schedule at s)) interval.notes new.notes
+  pub drafted_more : (next : State) (new : Interval) → next ≡ step windows pages schedule at s → Gains count (told (footprint windows pages schedule at s)) (data_touches (footprint windows pages schedule at s)) interval.notes new.notes
       → ((i : ℕ) (c : Cell) → kept_in i c new.kept
       ≡ cond (is_touched (told (footprint windows pages schedule at s)) c) None (cond (i == count && is_some (poke_of c (event_at schedule at))) (Some (get c s)) (kept_in i c interval.kept)))
       → new.signs ≡ with_step interval.signs count s next
@@ -36,7 +37,7 @@ module _ (windows pages k : ℕ) (schedule : Schedule) (old : Recording) (draft 
   drafted_more next new stepped gains law signs =
       one_more windows pages schedule (recorded k old) (last_point old) s next count interval new was.state
       (stepped ∙ ap (λ x. step windows pages schedule x s) here) was.steps
-      (subst (λ x. Gains count (told (footprint windows pages schedule x s)) interval.notes new.notes) here gains)
+      (subst (λ x. Gains count (told (footprint windows pages schedule x s)) (data_touches (footprint windows pages schedule x s)) interval.notes new.notes) here gains)
       (subst
       (λ x.
       (i : ℕ) (c : Cell) → kept_in i c new.kept

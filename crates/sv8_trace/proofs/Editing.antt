@@ -1,6 +1,6 @@
 -- What the first read of an edit leaves of a trace.
 use Rattle.std.specs.Bool.{⊤}
-use Rattle.std.proofs.Common.{◌≡◌, ℕ, ◌*◌, ◌/◌, ◌%◌, ◌<◌, ◌≤◌, List, [], ◌∷◌, Bool, true, not, ◌&&◌, cond, leb, ltb, Option, Some, None, MatchOption, refl, sym, ◌∙◌, ap, subst, arith, inl, inr, ◌⊎◌, lt-ltb, le-ltb, length, ◌-◌, get_or, take, take_all, drop, le-div_iff_mul-le, mul_comm, div-mul-le_self}
+use Rattle.std.proofs.Common.{◌≡◌, ℕ, ◌*◌, ◌/◌, ◌%◌, ◌<◌, ◌≤◌, List, [], ◌∷◌, Bool, true, not, ◌&&◌, ◌||◌, cond, leb, ltb, Option, Some, None, MatchOption, refl, sym, ◌∙◌, ap, subst, arith, inl, inr, ◌⊎◌, lt-ltb, le-ltb, length, ◌-◌, get_or, take, take_all, drop, le-div_iff_mul-le, mul_comm, div-mul-le_self}
 use Rattle.std.proofs.lemmas.Bool.{cases_lt}
 use Rattle.std.proofs.lemmas.List.{get_or_past}
 use Rattle.std.proofs.Math.Nat.{mul-mod_right}
@@ -69,7 +69,8 @@ module _ (windows pages k : ℕ) (r : Recording) where
   -- the first step that reads a word, from one step on and below another
   abbrev word_read : ℕ → ℕ → ℕ → Option ℕ
   word_read word from to =
-      least_below (k * length r.intervals) (λ n. leb from n && ltb n to && has_word (get_or r.intervals (n / k) no_interval).notes.reads (4 * word) (n % k)
+      least_below (k * length r.intervals) (λ n. leb from n && ltb n to
+      && (has_word (get_or r.intervals (n / k) no_interval).notes.fetches (4 * word) (n % k) || has_word (get_or r.intervals (n / k) no_interval).notes.reads (4 * word) (n % k))
       && not (true && some_from from n (λ i. has_word (get_or r.intervals (i / k) no_interval).notes.writes (4 * word) (i % k))))
 
   -- patches that are read alike are read first by the same step

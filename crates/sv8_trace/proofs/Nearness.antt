@@ -40,6 +40,7 @@ module _ (m : Machine) (k : ℕ) where
     notes = λ n h. record {
       reads = λ a. (q.notes n (let e = p.count in rw e h)).reads a ∙ (p.notes n h).reads a;
       writes = λ a. (q.notes n (let e = p.count in rw e h)).writes a ∙ (p.notes n h).writes a;
+      uses = λ a. (q.notes n (let e = p.count in rw e h)).uses a ∙ (p.notes n h).uses a;
       takes = (q.notes n (let e = p.count in rw e h)).takes ∙ (p.notes n h).takes;
     };
     kept = λ n a. q.kept n a ∙ p.kept n a;

@@ -2,8 +2,8 @@
 use Rattle.std.proofs.Common.{add-one, ◌≡◌, ◌≢◌, ℕ, suc, ◌+◌, ◌≤◌, ◌<◌, List, [], ◌==◌, Bool, true, false, not, ◌&&◌, ◌||◌, leb, ltb, cond, Option, Some, None, is_some, refl, sym, ◌∙◌, ap, ap₂, arith, inl, inr, ◌⊎◌, eq-eqb, ne_eqb, lt-ltb, le-ltb, le-leb}
 use Rattle.std.proofs.lemmas.Bool.{cases_order, cases_lt}
 use Rattle.sv8_model.specs.declared.touch.Touch.{Touch}
-use Rattle.sv8_model.specs.Footprint.{reads_input}
-use Rattle.sv8_model.specs.Cells.{Cell, Value, ram_byte, waiting_bytes, pending_level, is_read, is_written}
+use Rattle.sv8_model.specs.Footprint.{reads_input, data_touches}
+use Rattle.sv8_model.specs.Cells.{Cell, Value, ram_byte, waiting_bytes, pending_level, is_read, is_written, is_data}
 use Rattle.sv8_history.specs.Machine.{Footprint, SameFootprint}
 use Rattle.sv8_history.specs.Trace.{some_from}
 use Rattle.sv8_history.proofs.Common.{none_from}
@@ -11,7 +11,7 @@ use Rattle.sv8_time.specs.Schedule.{Schedule}
 use Rattle.sv8_phys.specs.Notes.{told}
 use Rattle.sv8_notes.specs.Kept.{kept_in}
 use Rattle.sv8_notes.specs.Touched.{is_touched}
-use Rattle.sv8_notes.specs.Steps.{Gains, no_steps, footprint_in, reads_in, writes_in, is_among}
+use Rattle.sv8_notes.specs.Steps.{Gains, no_steps, footprint_in, reads_in, writes_in, data_in, are_of, is_among}
 use Rattle.sv8_notes.proofs.Common.{touched_told, told_read, told_written}
 use Rattle.sv8_cpu.specs.State.{State}
 use Rattle.sv8_cpu.specs.Run.{step, footprint}
@@ -26,6 +26,17 @@ none_read : (c : Cell) (j : ℕ) → reads_in no_steps c j ≡ false
 none_read (ram_byte i) j = refl
 none_read waiting_bytes j = refl
 none_read (pending_level l) j = refl
+
+none_data : (c : Cell) (j : ℕ) → data_in no_steps c j ≡ false
+none_data (ram_byte i) j = refl
+none_data waiting_bytes j = refl
+none_data (pending_level l) j = refl
+
+-- the data of a step, by what it touches as such
+data_is : (ts : List Touch) (c : Cell) → are_of (data_touches ts) c ≡ is_data ts c
+data_is ts (ram_byte i) = refl
+data_is ts waiting_bytes = refl
+data_is ts (pending_level l) = refl
 
 none_written : (c : Cell) (j : ℕ) → writes_in no_steps c j ≡ false
 none_written (ram_byte i) j = refl
@@ -46,7 +57,7 @@ module _ (windows pages : ℕ) (schedule : Schedule) (n : ℕ) (s : State) where
   pub recorded_none : IsRecorded windows pages schedule n s 0 (record { notes = no_steps; kept = []; signs = no_signs })
   recorded_none = record {
     footprints = λ j h. absurd (omega arith);
-    nothing_later = λ j h. record { reads = λ c. refl; writes = λ c. refl; takes = refl };
+    nothing_later = λ j h. record { reads = λ c. refl; writes = λ c. refl; uses = λ c. refl; takes = refl };
     kept = λ j c. sym (ap (λ b. cond (b && is_some (poke_of c (event_at schedule (n + j))) && not (some_from j 0 (touches_on windows pages schedule n s c))) (Some (get c (steps_on windows pages schedule n s j))) None) (le-ltb j 0 (omega arith)));
     signs = refl;
   }
@@ -61,13 +72,15 @@ module _ (windows pages : ℕ) (schedule : Schedule) (n : ℕ) (s : State) where
   here x o a e f = rw (e, f)
 
   module _ (count : ℕ) (old new : Interval) (h : IsRecorded windows pages schedule n s count old)
-      (gains : Gains count (told (footprint windows pages schedule (n + count) (steps_on windows pages schedule n s count))) old.notes new.notes) where
+      (gains : Gains count (told (footprint windows pages schedule (n + count) (steps_on windows pages schedule n s count)))
+      (data_touches (footprint windows pages schedule (n + count) (steps_on windows pages schedule n s count))) old.notes new.notes) where
     not_here : (j : ℕ) → j ≢ count → SameFootprint (footprint_in new.notes j) (footprint_in old.notes j)
     not_here j e =
         let no : (j == count) ≡ false = ne_eqb j count e in
         record {
           reads = λ c. gains.reads c j ∙ other (reads_in old.notes c j) (j == count) _ no;
           writes = λ c. gains.writes c j ∙ other (writes_in old.notes c j) (j == count) _ no;
+          uses = λ c. gains.uses c j ∙ other (data_in old.notes c j) (j == count) _ no;
           takes = gains.takes j ∙ other (is_among j old.notes.inputs) (j == count) _ no;
         }
 
@@ -79,11 +92,12 @@ module _ (windows pages : ℕ) (schedule : Schedule) (n : ℕ) (s : State) where
         record {
           reads = λ c. gains.reads c j ∙ here (reads_in old.notes c j) (j == count) _ (later.reads c ∙ none_read c j) yes ∙ told_read _ c ∙ ap (λ ts. is_read ts c) same;
           writes = λ c. gains.writes c j ∙ here (writes_in old.notes c j) (j == count) _ (later.writes c ∙ none_written c j) yes ∙ told_written _ c ∙ ap (λ ts. is_written ts c) same;
+          uses = λ c. gains.uses c j ∙ here (data_in old.notes c j) (j == count) _ (later.uses c ∙ none_data c j) yes ∙ data_is (footprint windows pages schedule (n + count) (steps_on windows pages schedule n s count)) c ∙ ap (λ ts. is_data ts c) same;
           takes = gains.takes j ∙ here (is_among j old.notes.inputs) (j == count) _ later.takes yes ∙ told_read _ waiting_bytes ∙ ap reads_input same;
         }
 
     then : (x y z : Footprint Cell) → SameFootprint x y → SameFootprint y z → SameFootprint x z
-    then x y z p q = record { reads = λ c. p.reads c ∙ q.reads c; writes = λ c. p.writes c ∙ q.writes c; takes = p.takes ∙ q.takes }
+    then x y z p q = record { reads = λ c. p.reads c ∙ q.reads c; writes = λ c. p.writes c ∙ q.writes c; uses = λ c. p.uses c ∙ q.uses c; takes = p.takes ∙ q.takes }
 
     -- ---- the kept values
 
@@ -161,7 +175,7 @@ up_to_one j most first old new h is (inr e) = (suc j, omega arith, e ∙ ap coun
 -- one step more
 pub one_more : (windows pages : ℕ) (schedule : Schedule) (n : ℕ) (first s next : State) (j : ℕ) (old new : Interval) → s ≡ steps_on windows pages schedule n first j
     → next ≡ step windows pages schedule (n + j) s → IsRecorded windows pages schedule n first j old
-    → Gains j (told (footprint windows pages schedule (n + j) s)) old.notes new.notes
+    → Gains j (told (footprint windows pages schedule (n + j) s)) (data_touches (footprint windows pages schedule (n + j) s)) old.notes new.notes
     → ((i : ℕ) (c : Cell) → kept_in i c new.kept ≡ cond (is_touched (told (footprint windows pages schedule (n + j) s)) c) None (cond (i == j && is_some (poke_of c (event_at schedule (n + j)))) (Some (get c s)) (kept_in i c old.kept)))
     → new.signs ≡ with_step old.signs j s next
     → (next ≡ steps_on windows pages schedule n first (j + 1)) × IsRecorded windows pages schedule n first (j + 1) new

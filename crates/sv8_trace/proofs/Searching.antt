@@ -5,7 +5,8 @@ use Rattle.sv8_trace.specs.declared.interval.Interval.{Interval}
 use Rattle.std.proofs.Math.Nat.{div-add-mod, mul_comm}
 use Rattle.std.proofs.lemmas.Nat.{div-mul-add, mod-mul-add}
 use Rattle.std.proofs.lemmas.Bool.{cases_lt, lt-leb, true≢false, true_from_ne_false}
-use Rattle.sv8_history.specs.Machine.{Machine, reads_of, writes_of}
+use Rattle.sv8_model.specs.Cells.{Cell}
+use Rattle.sv8_history.specs.Machine.{Machine, Footprint, reads_of, writes_of}
 use Rattle.sv8_history.specs.Trace.{Trace, some_from}
 use Rattle.sv8_history.specs.Changes.{Change}
 use Rattle.sv8_history.specs.Reads.{least_below, reads_change}
@@ -16,23 +17,23 @@ use Rattle.sv8_notes.specs.Steps.{Steps, IsFirstBelow, footprint_in}
 use Rattle.sv8_notes.specs.Sought.{is_met}
 use Rattle.sv8_trace.specs.Recording.{Recording, no_interval, trace_of}
 
-module _ (windows pages k : ℕ) (pos : 0 < k) (r : Recording) (sought : Sought) where
+module _ (windows pages k : ℕ) (pos : 0 < k) (r : Recording) (test : Footprint Cell → Bool) where
   abbrev met : ℕ → Bool
-  met n = is_met sought ((trace_of windows pages k r).notes n)
+  met n = test ((trace_of windows pages k r).notes n)
 
   -- step n by its interval
-  pub at : (i j : ℕ) (notes : Steps) → j < k → notes ≡ (get_or r.intervals i no_interval).notes → met (k * i + j) ≡ is_met sought (footprint_in notes j)
+  pub at : (i j : ℕ) (notes : Steps) → j < k → notes ≡ (get_or r.intervals i no_interval).notes → met (k * i + j) ≡ test (footprint_in notes j)
   at i j notes h is =
       let d : (k * i + j) / k ≡ i = ap (λ x. (x + j) / k) (mul_comm k i) ∙ div-mul-add i k j h in
       let m : (k * i + j) % k ≡ j = ap (λ x. (x + j) % k) (mul_comm k i) ∙ mod-mul-add i k j h in
-      ap₂ (λ x y. is_met sought (footprint_in (get_or r.intervals x no_interval).notes y)) d m ∙ ap (λ (s : Steps). is_met sought (footprint_in s j)) (sym is)
+      ap₂ (λ x y. test (footprint_in (get_or r.intervals x no_interval).notes y)) d m ∙ ap (λ (s : Steps). test (footprint_in s j)) (sym is)
 
   module _ (start stop : ℕ) (notes : Steps) (is : notes ≡ (get_or r.intervals (start / k) no_interval).notes) (few : stop ≤ k) where
     split : k * (start / k) + start % k ≡ start
     split = div-add-mod start k
 
     none_yet : (from last : ℕ) → ((n : ℕ) → from ≤ n → n < start → met n ≡ false) → last ≤ stop
-        → ((j : ℕ) → start % k ≤ j → j < last → is_met sought (footprint_in notes j) ≡ false) → (n : ℕ) → from ≤ n → n < k * (start / k) + last → met n ≡ false
+        → ((j : ℕ) → start % k ≤ j → j < last → test (footprint_in notes j) ≡ false) → (n : ℕ) → from ≤ n → n < k * (start / k) + last → met n ≡ false
     none_yet from last before le here n a b = go (cases_lt n start)
       where
         go : (n < start) ⊎ (start ≤ n) → met n ≡ false
@@ -44,12 +45,12 @@ module _ (windows pages k : ℕ) (pos : 0 < k) (r : Recording) (sought : Sought)
             subst (λ x. met x ≡ false) e
             (at (start / k) (n - k * (start / k)) notes (omega (arith, small, le, few)) is ∙ here (n - k * (start / k)) (omega (arith, split, l)) small)
 
-    pub none_here : (from : ℕ) → ((n : ℕ) → from ≤ n → n < start → met n ≡ false) → IsFirstBelow (λ j. is_met sought (footprint_in notes j)) (start % k) stop None
+    pub none_here : (from : ℕ) → ((n : ℕ) → from ≤ n → n < start → met n ≡ false) → IsFirstBelow (λ j. test (footprint_in notes j)) (start % k) stop None
         → (n : ℕ) → from ≤ n → n < k * (start / k) + stop → met n ≡ false
     none_here from before h = none_yet from stop before (omega arith) h
 
     pub found_here : (from end offset : ℕ) → from ≤ start → k * (start / k) + stop ≤ end → ((n : ℕ) → from ≤ n → n < start → met n ≡ false)
-        → IsFirstBelow (λ j. is_met sought (footprint_in notes j)) (start % k) stop (Some offset) → IsFirstBelow met from end (Some (k * (start / k) + offset))
+        → IsFirstBelow (λ j. test (footprint_in notes j)) (start % k) stop (Some offset) → IsFirstBelow met from end (Some (k * (start / k) + offset))
     found_here from end offset le fits before h =
         let low = h.0 in
         let high = h.1 in

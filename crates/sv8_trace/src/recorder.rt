@@ -2,6 +2,7 @@
 
 ghost use Rattle.std.specs.Prelude.{◌≡◌, ℕ, ◌+◌, ◌≤◌, ◌<◌, ◌&&◌, ◌==◌, ◌++◌, ◌⊎◌, cond, None, Some, is_some, slice_index_or, IfOk, OnOk, OnErr};
 ghost use Rattle.sv8_model.specs.Cells as model;
+ghost use Rattle.sv8_model.specs.Footprint.{data_touches};
 ghost use Rattle.sv8_time.specs.Schedule.{bytes_below};
 ghost use Rattle.sv8_phys.specs.Memory.{ram_size};
 ghost use Rattle.sv8_phys.specs.Notes.{told};
@@ -161,7 +162,7 @@ fn record_notes(
     offset: u32,
 ) -> Result<(), AllocError>
     requires { offset < 1000000 }
-    ensures gained { OnOk result (Gains offset (told touches.now) interval.old.notes interval.new.notes) }
+    ensures gained { OnOk result (Gains offset (told touches.now) (data_touches touches.now) interval.old.notes interval.new.notes) }
     ensures kept { OnOk result ((j : ℕ) (c : model.Cell) → kept_in j c interval.new.kept ≡ cond (is_touched (told touches.now) c) None (kept_in j c interval.old.kept)) }
     ensures signs { interval.new.signs ≡ interval.old.signs }
 {
@@ -194,7 +195,7 @@ fn record_step<const NW: usize, const PAGES: usize>(
     requires free { (c : model.Cell) → kept_in offset c interval.old.kept ≡ None }
     ensures state { OnOk result (machine.new ≡ step NW PAGES timeline.now n machine.old) }
     ensures delivered { OnOk result (machine.new.memory.taken ≤ bytes_below (n + 1) timeline.now.inputs) }
-    ensures gained { OnOk result (Gains offset (told (footprint NW PAGES timeline.now n machine.old)) interval.old.notes interval.new.notes) }
+    ensures gained { OnOk result (Gains offset (told (footprint NW PAGES timeline.now n machine.old)) (data_touches (footprint NW PAGES timeline.now n machine.old)) interval.old.notes interval.new.notes) }
     ensures kept { OnOk result ((j : ℕ) (c : model.Cell) → kept_in j c interval.new.kept
         ≡ cond (is_touched (told (footprint NW PAGES timeline.now n machine.old)) c) None
         (cond (j == offset && is_some (poke_of c (event_at timeline.now n))) (Some (get c machine.old)) (kept_in j c interval.old.kept))) }
@@ -232,7 +233,7 @@ pub(crate) fn record_watched<const NW: usize, const PAGES: usize>(
     ensures state { OnOk result (machine.new ≡ step NW PAGES timeline.now n machine.old) }
     ensures delivered { OnOk result (machine.new.memory.taken ≤ bytes_below (n + 1) timeline.now.inputs) }
     ensures watched { OnOk result (watch.new ≡ record { touches = footprint NW PAGES timeline.now n machine.old; observations = observed NW PAGES timeline.now n machine.old }) }
-    ensures gained { OnOk result (Gains offset (told (footprint NW PAGES timeline.now n machine.old)) interval.old.notes interval.new.notes) }
+    ensures gained { OnOk result (Gains offset (told (footprint NW PAGES timeline.now n machine.old)) (data_touches (footprint NW PAGES timeline.now n machine.old)) interval.old.notes interval.new.notes) }
     ensures kept { OnOk result ((j : ℕ) (c : model.Cell) → kept_in j c interval.new.kept
         ≡ cond (is_touched (told (footprint NW PAGES timeline.now n machine.old)) c) None
         (cond (j == offset && is_some (poke_of c (event_at timeline.now n))) (Some (get c machine.old)) (kept_in j c interval.old.kept))) }

@@ -33,7 +33,6 @@ pub const NO_END: u32 = u32::MAX;
 
 /// The recorded run of a machine with `NW` register windows (2 to 32) and `PAGES` pages of RAM (1 to 65,536): a checkpoint of every
 /// `K`th step (1 to 1,000,000) from step 0 on, and of the steps between what each touched.
-#[derive(Drop)]
 pub struct Trace<const NW: usize, const PAGES: usize, const K: u32> {
     points: Points<NW, PAGES>,
     intervals: Vec<Finished>,
@@ -41,6 +40,19 @@ pub struct Trace<const NW: usize, const PAGES: usize, const K: u32> {
     /// Places for the notes of the step and of the interval under way.
     notes: StepNotes,
     draft: Interval,
+}
+
+// Written out, so that crates above prove no drop of its parts.
+impl<const NW: usize, const PAGES: usize, const K: u32> Drop for Trace<NW, PAGES, K> {
+    fn drop(self) {
+        let Trace {
+            points: _,
+            intervals: _,
+            marks: _,
+            notes: _,
+            draft: _,
+        } = self;
+    }
 }
 
 impl<const NW: usize, const PAGES: usize, const K: u32> Model for Trace<NW, PAGES, K> {

@@ -4,20 +4,24 @@ use Rattle.std.specs.Prelude.{◌&&◌, ◌||◌}
 use Rattle.std.specs.List.{list_any}
 use Rattle.std.proofs.lemmas.Bool.{true≢false, or_parts}
 use Rattle.std.proofs.lemmas.Bool.Decides.{nat_tests}
+use Rattle.sv8_model.specs.declared.observation.AccessKind.{AccessKind}
+use Rattle.sv8_model.specs.declared.observation.Observation.{Observation}
 use Rattle.sv8_model.specs.declared.touch.Touch.{Touch}
 use Rattle.sv8_model.specs.declared.touch.Touch.TheVariants.{Read, Write, Input, Levels, Expiry}
+use Rattle.sv8_model.specs.declared.touch.TouchKind.TheVariants.{Any}
+use Rattle.sv8_model.specs.Footprint.{is_touch_of}
 use Rattle.sv8_model.specs.Outside.{word_address}
 use Rattle.sv8_time.specs.Schedule.{Schedule, pokes_of_step}
 use Rattle.sv8_phys.specs.Memory.{ram_size}
 use Rattle.sv8_cpu.specs.State.{State}
-use Rattle.sv8_cpu.specs.Run.{footprint}
+use Rattle.sv8_cpu.specs.Run.{footprint, observed}
 use Rattle.sv8_cpu.specs.Touching.{AreUntouched, pokes_any}
-use Rattle.sv8_cpu.proofs.Common.{touched_is}
-use Rattle.sv8_cpu.proofs.Touched.{is_touch_of}
+use Rattle.sv8_cpu.proofs.Common.{touched_is, untouched_as}
 use Rattle.sv8_watch.specs.declared.condition.Condition.{Condition}
 use Rattle.sv8_watch.specs.declared.span.Span.{Span}
-use Rattle.sv8_watch.specs.Conditions.{meets}
-use Rattle.sv8_watch.specs.Touching.{span_of, is_reached_from, reaches}
+use Rattle.sv8_watch.specs.Happening.{access_in, happening}
+use Rattle.sv8_watch.specs.Conditions.{accesses, meets}
+use Rattle.sv8_watch.specs.Touching.{span_of, kind_of, is_reached_from, reaches}
 use Rattle.sv8_watch.proofs.Sparing.{spared_steps_miss}
 
 module _ (span : Span) (i : ℕ) (low : span.address ≤ i) (below : i < span.address + span.count) where
@@ -47,7 +51,7 @@ module _ (span : Span) (i : ℕ) (low : span.address ≤ i) (below : i < span.ad
       let both = or_parts (reaches span t) (list_any (reaches span) ts) h in
       ap (λ b. b || list_any (is_touch_of (word_address i)) ts) (another_touch t both.0) ∙ no_touch ts both.1
 
-untouched : (span : Span) (ts : List Touch) → list_any (reaches span) ts ≡ false → AreUntouched span.address span.count ts
+untouched : (span : Span) (ts : List Touch) → list_any (reaches span) ts ≡ false → AreUntouched Any span.address span.count ts
 untouched span ts h i low below = touched_is ts i ∙ no_touch span i low below ts h
 
 -- it spares the bytes
@@ -57,6 +61,15 @@ pub unreached_misses : (windows pages : ℕ) (schedule : Schedule) (n : ℕ) (s 
 unreached_misses windows pages schedule n s c span ts few e inside is none unpoked =
     spared_steps_miss windows pages schedule n s c span few e inside
     (record {
-      touched = subst (AreUntouched span.address span.count) is (untouched span ts none);
+      touched = subst (AreUntouched (kind_of c) span.address span.count) is (untouched_as (kind_of c) span.address span.count ts (untouched span ts none));
       poked = ap (pokes_any span.address span.count) unpoked;
     })
+
+-- ---- accesses
+
+-- the access of a step is the one that was seen
+pub unaccessed : (kinds : AccessKind → Bool) (windows pages : ℕ) (schedule : Schedule) (n : ℕ) (s : State) (address count : ℕ) (os : List Observation)
+    → os ≡ observed windows pages schedule n s → accesses kinds address count (access_in os) ≡ false
+    → accesses kinds address count (happening windows pages schedule n s).access ≡ false
+unfolding happening
+unaccessed kinds windows pages schedule n s address count os is none = ap (λ xs. accesses kinds address count (access_in xs)) (sym is) ∙ none

@@ -7,6 +7,7 @@ use Rattle.std.proofs.Math.ListN.{drop_of_length-le}
 use Rattle.std.proofs.lemmas.Bool.{true≢false, false≢true, cases_lt}
 use Rattle.std.proofs.lemmas.Bool.Decides.{nat_tests}
 use Rattle.sv8_model.specs.declared.touch.Touch.{Touch}
+use Rattle.sv8_model.specs.declared.touch.TouchKind.TheVariants.{Any, Data}
 use Rattle.sv8_model.specs.declared.observation.AccessKind.{AccessKind}
 use Rattle.sv8_model.specs.declared.observation.Observation.{Observation}
 use Rattle.sv8_model.specs.declared.observation.Observation.TheVariants as seen
@@ -16,8 +17,8 @@ use Rattle.sv8_time.specs.Schedule.{Schedule}
 use Rattle.sv8_phys.specs.Memory.{ram_size}
 use Rattle.sv8_cpu.specs.State.{State}
 use Rattle.sv8_cpu.specs.Run.{step, footprint, observed}
-use Rattle.sv8_cpu.specs.Touching.{touches_byte, AreUntouched, SparesBytes, IsTouched, IsUntranslated, IsInterrupted}
-use Rattle.sv8_cpu.proofs.Common.{touched_is, spared_bytes_stay, steps_touch, fetches_touch, annulled_steps_pass}
+use Rattle.sv8_cpu.specs.Touching.{touches_byte, AreUntouched, SparesBytes, IsOfData, IsUntranslated, IsInterrupted}
+use Rattle.sv8_cpu.proofs.Common.{touched_is, spared_bytes_stay, accesses_are_data, fetches_touch, annulled_steps_pass}
 use Rattle.sv8_watch.specs.declared.condition.Condition.TheVariants as condition
 use Rattle.sv8_watch.specs.declared.span.Span.{Span}
 use Rattle.sv8_watch.specs.Happening.{access_in, trap_in, outcome_of, happening}
@@ -38,8 +39,8 @@ never : {b : Bool} → b ≡ true → b ≡ false → ⊥
 never h k = true≢false (sym h ∙ k)
 
 -- an access in RAM that has a byte in common with bytes that are not touched
-module _ (limit : ℕ) (ts : List Touch) (address count : ℕ) (some : 1 ≤ count) (inside : address + count ≤ limit) (untouched : AreUntouched address count ts) where
-  apart : (kind : AccessKind) (bytes va pa : ℕ) → IsTouched limit ts (seen.Access kind bytes va pa) → overlap pa bytes address count ≡ true → ⊥
+module _ (limit : ℕ) (ts : List Touch) (address count : ℕ) (some : 1 ≤ count) (inside : address + count ≤ limit) (untouched : AreUntouched Data address count ts) where
+  apart : (kind : AccessKind) (bytes va pa : ℕ) → IsOfData limit ts (seen.Access kind bytes va pa) → overlap pa bytes address count ≡ true → ⊥
   apart kind bytes va pa h e =
       let first : nat_lt pa (address + count) ≡ true = and_first (nat_lt pa (address + count)) (nat_lt address (pa + bytes)) e in
       let second : nat_lt address (pa + bytes) ≡ true = and_second (nat_lt pa (address + count)) (nat_lt address (pa + bytes)) e in
@@ -51,14 +52,14 @@ module _ (limit : ℕ) (ts : List Touch) (address count : ℕ) (some : 1 ≤ cou
         | inr higher ↦ never (h.1 in_ram pa (omega arith) (omega (arith, h.0))) (untouched pa higher below)
       ]
 
-  no_overlap : (kind : AccessKind) (bytes va pa : ℕ) → IsTouched limit ts (seen.Access kind bytes va pa) → overlap pa bytes address count ≡ false
+  no_overlap : (kind : AccessKind) (bytes va pa : ℕ) → IsOfData limit ts (seen.Access kind bytes va pa) → overlap pa bytes address count ≡ false
   no_overlap kind bytes va pa h = by_case (overlap pa bytes address count) refl
     where
       by_case : (b : Bool) → overlap pa bytes address count ≡ b → b ≡ false
       by_case true e = absurd (apart kind bytes va pa h e)
       by_case false e = refl
 
-  accesses_miss : (kinds : AccessKind → Bool) (os : List Observation) → Each (IsTouched limit ts) os → accesses kinds address count (access_in os) ≡ false
+  accesses_miss : (kinds : AccessKind → Bool) (os : List Observation) → Each (IsOfData limit ts) os → accesses kinds address count (access_in os) ≡ false
   accesses_miss kinds [] h = refl
   accesses_miss kinds (seen.Fetch from word ∷ os) h = accesses_miss kinds os h.1
   accesses_miss kinds (seen.Access kind bytes va pa ∷ os) h = ap (λ b. kinds kind && b) (no_overlap kind bytes va pa h.0) ∙ and-false (kinds kind)
@@ -128,17 +129,17 @@ is_word_span address span e = by_case (address % 4 == 0) refl e
 
 module _ (windows pages : ℕ) (schedule : Schedule) (n : ℕ) (s : State) (few : pages ≤ 65536) where
   access_misses : (kinds : AccessKind → Bool) (address count : ℕ) (span : Span) → AreBytes address count span → span.address + span.count ≤ ram_size pages
-      → SparesBytes windows pages schedule n s span.address span.count → accesses kinds address count (access_in (observed windows pages schedule n s)) ≡ false
+      → SparesBytes Data windows pages schedule n s span.address span.count → accesses kinds address count (access_in (observed windows pages schedule n s)) ≡ false
   access_misses kinds address count span bytes inside spared =
       let within : address + count ≤ ram_size pages = subst (λ x. x.address + x.count ≤ ram_size pages) bytes.is inside in
-      let spares : SparesBytes windows pages schedule n s address count = subst (λ x. SparesBytes windows pages schedule n s x.address x.count) bytes.is spared in
+      let spares : SparesBytes Data windows pages schedule n s address count = subst (λ x. SparesBytes Data windows pages schedule n s x.address x.count) bytes.is spared in
       accesses_miss (ram_size pages) (footprint windows pages schedule n s) address count bytes.some within spares.touched kinds (observed windows pages schedule n s)
-      (steps_touch windows pages schedule n s few)
+      (accesses_are_data windows pages schedule n s few)
 
-  change_misses : (address count : ℕ) → SparesBytes windows pages schedule n s address count
+  change_misses : (address count : ℕ) → SparesBytes Data windows pages schedule n s address count
       → is_changed address count s.memory.ram (step windows pages schedule n s).memory.ram ≡ false
   change_misses address count spared =
-      bytes_miss count address s.memory.ram (step windows pages schedule n s).memory.ram (spared_bytes_stay windows pages schedule n s address count spared)
+      bytes_miss count address s.memory.ram (step windows pages schedule n s).memory.ram (spared_bytes_stay Data windows pages schedule n s address count spared)
 
 pub spared_steps_miss : SparedStepsMiss
 unfolding happening
@@ -149,11 +150,11 @@ spared_steps_miss windows pages schedule n s (condition.Store address count) spa
     access_misses windows pages schedule n s few stores address count span (are_bytes address count span e) inside spared
 spared_steps_miss windows pages schedule n s (condition.Touch address) span few e inside spared =
     let word = is_word_span address span e in
-    let spares : SparesBytes windows pages schedule n s address 4 = subst (λ x. SparesBytes windows pages schedule n s x.address x.count) word.is spared in
+    let spares : SparesBytes Any windows pages schedule n s address 4 = subst (λ x. SparesBytes Any windows pages schedule n s x.address x.count) word.is spared in
     word_misses (footprint windows pages schedule n s) address word.aligned (spares.touched address (omega arith) (omega arith))
 spared_steps_miss windows pages schedule n s (condition.Change address count) span few e inside spared =
     let bytes = are_bytes address count span e in
-    change_misses windows pages schedule n s few address count (subst (λ x. SparesBytes windows pages schedule n s x.address x.count) bytes.is spared)
+    change_misses windows pages schedule n s few address count (subst (λ x. SparesBytes Data windows pages schedule n s x.address x.count) bytes.is spared)
 spared_steps_miss windows pages schedule n s condition.Trap span few e inside spared = no_span e
 spared_steps_miss windows pages schedule n s (condition.TrapType type) span few e inside spared = no_span e
 spared_steps_miss windows pages schedule n s condition.Error span few e inside spared = no_span e
@@ -179,7 +180,7 @@ interrupt_misses : (os : List Observation) (annul runs : Bool) → IsInterrupted
 interrupt_misses os annul runs it =
     ap (λ xs. is_reached (outcome_of true annul runs (trap_in xs))) it.seen ∙ type_misses (0x10 + it.level) annul runs (interrupt_type it.level it.some it.most)
 
-module _ (windows pages : ℕ) (schedule : Schedule) (n : ℕ) (s : State) (address : ℕ) (off : IsUntranslated s) (inside : address + 4 ≤ ram_size pages) (spared : SparesBytes windows pages schedule n s address 4)
+module _ (windows pages : ℕ) (schedule : Schedule) (n : ℕ) (s : State) (address : ℕ) (off : IsUntranslated s) (inside : address + 4 ≤ ram_size pages) (spared : SparesBytes Any windows pages schedule n s address 4)
     (here : s.processor.pc ≡ address) where
   abbrev os : List Observation
   os = observed windows pages schedule n s

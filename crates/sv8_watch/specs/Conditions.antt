@@ -2,7 +2,7 @@
 use Rattle.std.specs.Prelude.{◌≡◌, ◌≤◌, ℕ, ◌+◌, ◌%◌, ◌==◌, ◌&&◌, ◌||◌, Bool, true, false, not, nat_lt, List, [], ◌∷◌, length, take, drop, slice_index, Option, Some, None, is_some}
 use Rattle.std.specs.List.{list_any}
 use Rattle.sv8_model.specs.declared.touch.Touch.{Touch}
-use Rattle.sv8_model.specs.Footprint.{is_read_of, is_write_of}
+use Rattle.sv8_model.specs.Footprint.{is_touch_of}
 use Rattle.sv8_model.specs.declared.observation.AccessKind.{AccessKind}
 use Rattle.sv8_model.specs.declared.observation.AccessKind.TheVariants as kind
 use Rattle.sv8_time.specs.Schedule.{Schedule}
@@ -75,9 +75,6 @@ is_error outcome.Run = false
 -- ---- memory
 
 -- a word is read or written
-abbrev pub is_touch_of : ℕ → Touch → Bool
-is_touch_of address t = is_read_of address t || is_write_of address t
-
 abbrev pub is_touched : ℕ → List Touch → Bool
 is_touched address ts = list_any (is_touch_of address) ts
 

@@ -2,6 +2,8 @@
 use Rattle.std.specs.Prelude.{◌≡◌, ℕ, ◌+◌, ◌%◌, ◌≤◌, ◌==◌, ◌&&◌, Bool, false, nat_le, nat_lt, Option, Some, None, if◌then◌else◌}
 use Rattle.sv8_model.specs.declared.touch.Touch.{Touch}
 use Rattle.sv8_model.specs.declared.touch.Touch.TheVariants.{Read, Write, Input, Levels, Expiry}
+use Rattle.sv8_model.specs.declared.touch.TouchKind.{TouchKind}
+use Rattle.sv8_model.specs.declared.touch.TouchKind.TheVariants.{Any, Data}
 use Rattle.sv8_model.specs.Outside.{word_address}
 use Rattle.sv8_time.specs.Schedule.{Schedule}
 use Rattle.sv8_phys.specs.Memory.{ram_size}
@@ -37,6 +39,21 @@ span_of condition.Output = None
 span_of condition.Event = None
 span_of (condition.Every number) = None
 
+-- Which touches of these bytes count. A load or a store is an access to data, and a byte that changes is data; a word is touched by fetches, too.
+abbrev pub kind_of : Condition → TouchKind
+kind_of (condition.Pc address) = Any
+kind_of (condition.Load address count) = Data
+kind_of (condition.Store address count) = Data
+kind_of (condition.Touch address) = Any
+kind_of (condition.Change address count) = Data
+kind_of condition.Trap = Any
+kind_of (condition.TrapType tt) = Any
+kind_of condition.Error = Any
+kind_of condition.Input = Any
+kind_of condition.Output = Any
+kind_of condition.Event = Any
+kind_of (condition.Every number) = Any
+
 -- an address is from the first word of some bytes to the last of the bytes
 abbrev pub is_reached_from : Span → ℕ → Bool
 is_reached_from span word = nat_le (word_address span.address) word && nat_lt word (span.address + span.count)
@@ -51,13 +68,14 @@ reaches span Expiry = false
 
 -- ---- laws
 
--- A STEP THAT SPARES THE BYTES OF A CONDITION DOES NOT MEET IT: it touches none of their words and pokes none of them, and they lie in RAM.
+-- A STEP THAT SPARES THE BYTES OF A CONDITION DOES NOT MEET IT: it touches none of their words, by the touches that count, and pokes none
+-- of them, and they lie in RAM.
 abbrev pub SparedStepsMiss : Type 0
 SparedStepsMiss = (windows pages : ℕ) (schedule : Schedule) (n : ℕ) (s : State) (c : Condition) (span : Span) → pages ≤ 65536
-    → span_of c ≡ Some span → span.address + span.count ≤ ram_size pages → SparesBytes windows pages schedule n s span.address span.count
+    → span_of c ≡ Some span → span.address + span.count ≤ ram_size pages → SparesBytes (kind_of c) windows pages schedule n s span.address span.count
     → meets windows pages schedule n s c ≡ false
 
 -- The same of a PC, where no address is translated: the instruction there is reached in no step that spares its word.
 abbrev pub SparedPcsMiss : Type 0
 SparedPcsMiss = (windows pages : ℕ) (schedule : Schedule) (n : ℕ) (s : State) (address : ℕ) → IsUntranslated s → address + 4 ≤ ram_size pages
-    → SparesBytes windows pages schedule n s address 4 → meets windows pages schedule n s (condition.Pc address) ≡ false
+    → SparesBytes Any windows pages schedule n s address 4 → meets windows pages schedule n s (condition.Pc address) ≡ false

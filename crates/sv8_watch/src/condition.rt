@@ -3,15 +3,15 @@
 ghost use Rattle.std.specs.Prelude.{◌≡◌, ℕ, ◌≤◌, ◌+◌, false, List, length, IfSome};
 ghost use Rattle.sv8_phys.specs.Memory.{ram_size};
 ghost use Rattle.sv8_cpu.specs.State.{State};
-ghost use Rattle.sv8_cpu.specs.Run.{step, footprint};
-ghost use Rattle.sv8_watch.specs.Watched.{IsBefore, happening_of};
+ghost use Rattle.sv8_cpu.specs.Run.{footprint};
+ghost use Rattle.sv8_watch.specs.Watched.{IsBefore, IsStepFrom, happening_of};
 ghost use Rattle.sv8_watch.specs.Touching.{span_of};
 ghost use Rattle.sv8_watch.specs.Conditions.{overlap, loads, stores, accesses, is_interrupt, is_reached, is_trap, is_trap_of, is_error, is_touched, differ_from, is_met, meets, AreOld, IsWithin};
 
 use crate::happening::{Access, Outcome};
-use crate::watched::{Before, MadeStep};
+use crate::watched::{Before, MadeStep, access_in};
 use sv8_cpu::Machine;
-use sv8_phys::{AccessKind, OutputPlace, Touch};
+use sv8_phys::{AccessKind, OutputPlace, Touch, Watch};
 use sv8_time::Timeline;
 
 /// A condition on a step. Addresses of memory are physical; `count` bytes from `address` on are meant.
@@ -199,9 +199,9 @@ impl Condition {
         }
     }
 
-    /// Whether a step may meet the condition, by what was kept of the machine before it, by the machine after it, and by what
-    /// it touches: where the answer is false, the step does not. It asks for no observation, and takes less time than
-    /// `is_met`. That the answer is false wherever it could be is no part of the contract: true costs time alone.
+    /// Whether a step may meet the condition, by what was kept of the machine before it, by the machine after it, and by its
+    /// notes: where the answer is false, the step does not. It takes less time than `is_met`. That the answer is false
+    /// wherever it could be is no part of the contract: true costs time alone.
     #[inline(always)]
     pub fn may_be_met<const NW: usize, const PAGES: usize>(
         self,
@@ -209,26 +209,31 @@ impl Condition {
         timeline: &Timeline,
         before: &Before,
         after: &Machine<NW, PAGES>,
-        touches: &[Touch],
+        watch: &Watch,
     ) -> bool
         requires few_windows { NW ≤ 32 }
         requires few_pages { PAGES ≤ 65536 }
         requires inside { IfSome (span_of self) (λ span. span.address + span.count ≤ ram_size PAGES) }
-        ensures { (s : State) → IsBefore s before.now → after.now ≡ step NW PAGES timeline.now n s
-            → touches.now ≡ footprint NW PAGES timeline.now n s → result ≡ false → meets NW PAGES timeline.now n s self ≡ false }
+        ensures { (s : State) → IsStepFrom NW PAGES timeline.now n s before.now after.now watch.now → result ≡ false
+            → meets NW PAGES timeline.now n s self ≡ false }
     {
         match self {
             Condition::Pc(address) => before.pc == address,
+            Condition::Load { address, count } => {
+                loads_any(access_in(watch.observations()), address, count)
+            }
+            Condition::Store { address, count } => {
+                stores_any(access_in(watch.observations()), address, count)
+            }
             Condition::Trap | Condition::Error => before.running && after.is_at_trap(),
             Condition::TrapType(trap_type) => before.running && after.is_at_trap_of(trap_type),
             Condition::Input => before.taken != after.taken(),
             Condition::Output => is_other_end(before.put, after.output_end()),
             Condition::Event => timeline.may_have_events(n),
             Condition::Every(number) => number > 0 && n % number == 0,
-            Condition::Load { .. }
-            | Condition::Store { .. }
-            | Condition::Touch(_)
-            | Condition::Change { .. } => self.may_be_reached(n, timeline, touches),
+            Condition::Touch(_) | Condition::Change { .. } => {
+                self.may_be_reached(n, timeline, watch.touches())
+            }
         }
     }
 

@@ -5,7 +5,7 @@ ghost use Rattle.sv8_watch.specs.Running.{RunningStepsMiss};
 ghost use Rattle.sv8_watch.specs.Touching.{SparedStepsMiss, SparedPcsMiss};
 
 /// A step that touches no word of the bytes of a condition, and whose events poke none of them, does not meet it: an access in RAM
-/// touches its words, and a byte that is neither touched nor poked stays.
+/// touches its words, and a byte that is neither touched nor poked stays. For `Load`, `Store` and `Change` only touches of data count.
 ///
 /// So a search for `Load`, `Store`, `Touch` or `Change` may pass over each step whose notes and events name none of these bytes.
 pub fn spared_steps_miss()

@@ -2,10 +2,10 @@
 
 ghost use Rattle.std.specs.Prelude.{◌≡◌};
 ghost use Rattle.std.specs.List.{list_any};
-ghost use Rattle.sv8_watch.specs.Touching.{some_bytes, word_span, span_of, is_reached_from, reaches};
+ghost use Rattle.sv8_watch.specs.Touching.{some_bytes, word_span, span_of, kind_of, is_reached_from, reaches};
 
 use crate::condition::Condition;
-use sv8_phys::Touch;
+use sv8_phys::{Touch, TouchKind};
 
 /// So many bytes of RAM from a physical address on.
 #[derive(Clone, Copy, PartialEq, Eq, Debug)]
@@ -96,6 +96,28 @@ impl Condition {
             | Condition::Output
             | Condition::Event
             | Condition::Every(_) => None,
+        }
+    }
+
+    /// Which touches of these bytes count. A load or a store is an access to data, and a byte that changes is data, so what a
+    /// step fetches does not count.
+    #[inline(always)]
+    pub fn touch_kind(self) -> TouchKind
+        ensures { result ≡ kind_of self }
+    {
+        match self {
+            Condition::Load { .. } | Condition::Store { .. } | Condition::Change { .. } => {
+                TouchKind::Data
+            }
+            Condition::Pc(_)
+            | Condition::Touch(_)
+            | Condition::Trap
+            | Condition::TrapType(_)
+            | Condition::Error
+            | Condition::Input
+            | Condition::Output
+            | Condition::Event
+            | Condition::Every(_) => TouchKind::Any,
         }
     }
 }

@@ -52,26 +52,29 @@ fn fetch_in(observations: &[Observation]) -> Option<Fetch>
 }
 
 /// The access that was seen.
-fn access_in(observations: &[Observation]) -> Option<Access>
+#[inline(always)]
+pub(crate) fn access_in(observations: &[Observation]) -> Option<Access>
     ensures { result ≡ access_in observations.now }
 {
-    match observations {
-        [] => None,
-        [first, rest @ ..] => match *first {
-            Observation::Access {
+    let mut rest = observations;
+    while let [first, after @ ..] = rest {
+        if let Observation::Access {
+            kind,
+            bytes,
+            va,
+            pa,
+        } = *first
+        {
+            return Some(Access {
                 kind,
                 bytes,
                 va,
                 pa,
-            } => Some(Access {
-                kind,
-                bytes,
-                va,
-                pa,
-            }),
-            _ => access_in(rest),
-        },
+            });
+        }
+        rest = after;
     }
+    None
 }
 
 /// The type of the trap that was seen.

@@ -1,6 +1,7 @@
 //! What the recorded run shows of a range of its steps, without making one of them.
 
 ghost use Rattle.std.specs.Prelude.{◌≡◌, ℕ, ◌+◌, ◌%◌, ◌<◌, ◌≤◌, false, length, slice_index_or, MatchBool, MatchOption};
+ghost use Rattle.sv8_model.specs.declared.touch.TouchKind.TheVariants.{Any};
 ghost use Rattle.sv8_time.specs.Words.{poked_bytes, bytes_of_words};
 ghost use Rattle.sv8_cpu.specs.Touching.{is_within, pokes_any};
 ghost use Rattle.sv8_trace.specs.Checkpoints.{IsCheckpoint};
@@ -12,6 +13,7 @@ ghost use Rattle.sv8_bench.specs.Shown.{machine_state};
 ghost use Rattle.sv8_bench.specs.Touching.{NonePokes, pokes_at, IsUntouched, IsUnreached, ShowsNone};
 
 use crate::bench::Bench;
+use sv8_phys::TouchKind;
 use sv8_time::{Timeline, WordPoke};
 use sv8_trace::{Checkpoint, Sign};
 
@@ -81,31 +83,46 @@ fn flag_poking(timeline: &Timeline, address: u32, count: u32, from: u32, flags: 
 }
 
 impl<const NW: usize, const PAGES: usize, const K: u32> Bench<NW, PAGES, K> {
-    /// Whether the steps from `from` on and below `to` are recorded, none of them touches the word of one of so many bytes of RAM from
-    /// an address on, and none of their events pokes one of these bytes. It makes no step.
+    /// Whether the steps from `from` on and below `to` are recorded, none of them touches the word of one of so many bytes of
+    /// RAM from an address on, by the touches that count, and none of their events pokes one of these bytes. It makes no
+    /// step.
     ///
     /// A condition on these bytes is then met by none of these steps (`spared_steps_miss` of `sv8_watch`).
-    pub fn is_untouched(&self, address: u32, count: u32, from: u32, to: u32) -> bool
+    pub fn is_untouched(
+        &self,
+        kind: TouchKind,
+        address: u32,
+        count: u32,
+        from: u32,
+        to: u32,
+    ) -> bool
         requires within { address + count ≤ 0x1_0000_0000 }
-        ensures { MatchBool result (IsUntouched K self.now address count from to) (IsUntouched K self.now address count from to → ⊥) }
+        ensures { MatchBool result (IsUntouched kind K self.now address count from to) (IsUntouched kind K self.now address count from to → ⊥) }
     {
         if to > self.trace.recorded() {
             return false;
         }
-        self.trace.is_untouched(address, count, from, to)
+        self.trace.is_untouched(kind, address, count, from, to)
             && !pokes_between(&self.timeline, address, count, from, to)
     }
 
     /// Sets the flag of each step of one interval for which `is_untouched` does not hold. Flag number i is that of step
     /// `from + i`. These steps have to be recorded. It looks at each note of the interval once, and makes no step.
-    pub fn flag_touching(&self, address: u32, count: u32, from: u32, flags: &mut [bool])
+    pub fn flag_touching(
+        &self,
+        kind: TouchKind,
+        address: u32,
+        count: u32,
+        from: u32,
+        flags: &mut [bool],
+    )
         requires within { address + count ≤ 0x1_0000_0000 }
         requires recorded { from + length flags.old ≤ recorded K self.now.recording }
         requires interval { from % K + length flags.old ≤ K }
-        ensures { IsFlaggedUnless (λ i. IsUntouched K self.now address count (from + i) (from + i + 1)) flags.old flags.new }
+        ensures { IsFlaggedUnless (λ i. IsUntouched kind K self.now address count (from + i) (from + i + 1)) flags.old flags.new }
     {
         let _recorded = self.trace.recorded();
-        self.trace.flag_touching(address, count, from, flags);
+        self.trace.flag_touching(kind, address, count, from, flags);
         flag_poking(&self.timeline, address, count, from, flags);
     }
 
@@ -122,7 +139,7 @@ impl<const NW: usize, const PAGES: usize, const K: u32> Bench<NW, PAGES, K> {
         let _recorded = self.trace.recorded();
         let end = from + flags.len() as u32;
         if self.trace.shows_none(Sign::Translation, from, end) {
-            self.flag_touching(address, INSTRUCTION_SIZE, from, flags);
+            self.flag_touching(TouchKind::Any, address, INSTRUCTION_SIZE, from, flags);
         } else {
             flags.fill(true);
         }
@@ -136,9 +153,9 @@ impl<const NW: usize, const PAGES: usize, const K: u32> Bench<NW, PAGES, K> {
     pub fn is_unreached(&self, address: u32, from: u32, to: u32) -> bool
         requires within { address + 4 ≤ 0x1_0000_0000 }
         ensures { MatchBool result (IsUnreached K self.now address from to)
-            (IsUntouched K self.now address 4 from to → NoneShows Sign.Translation K self.now.recording from to → ⊥) }
+            (IsUntouched Any K self.now address 4 from to → NoneShows Sign.Translation K self.now.recording from to → ⊥) }
     {
-        self.is_untouched(address, INSTRUCTION_SIZE, from, to)
+        self.is_untouched(TouchKind::Any, address, INSTRUCTION_SIZE, from, to)
             && self.trace.shows_none(Sign::Translation, from, to)
     }
 

@@ -200,8 +200,42 @@ impl<const NW: usize, const PAGES: usize, const K: u32> Bench<NW, PAGES, K> {
         ensures raised { RaisedUpTo (step - walk.old.step) self.old.worked self.new.worked }
     {
         let _trace = &self.trace;
+        let recorded = self.trace.recorded();
+        let begun = walk.step;
+        if let Place::Restored(machine) = &mut walk.place {
+            if step <= recorded {
+                self.pass_recorded(machine, begun, step, watch)?;
+                walk.step = step;
+                return Ok(());
+            }
+        }
         while walk.step() < step {
             self.walk_past(walk, watch)?;
+        }
+        Ok(())
+    }
+
+    /// Makes recorded steps of a machine, with nothing seen of them. `watch` is left alone.
+    fn pass_recorded(
+        &mut self,
+        machine: &mut Machine<NW, PAGES>,
+        from: u32,
+        to: u32,
+        watch: &mut Watch,
+    ) -> Result<(), AllocError>
+        requires ordered { from ≤ to }
+        requires within { to ≤ 1000000 }
+        requires state { machine.old ≡ machine_state self.old.kept from }
+        requires recorded { to ≤ recorded K self.old.recording }
+        ensures state { OnOk result (machine.new ≡ machine_state self.new.kept to) }
+        ensures kept { self.new.kept ≡ self.old.kept }
+        ensures recorded { checkpoints self.new ≡ checkpoints self.old }
+        ensures counted { OnOk result (self.new.worked ≡ counted_by (to - from) self.old.worked) }
+        ensures raised { RaisedUpTo (to - from) self.old.worked self.new.worked }
+    {
+        let _trace = &self.trace;
+        for n in from..to {
+            self.step_restored::<false>(machine, n, watch)?;
         }
         Ok(())
     }

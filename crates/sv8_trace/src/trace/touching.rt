@@ -1,6 +1,7 @@
 //! Whether recorded steps leave bytes of RAM alone.
 
 ghost use Rattle.std.specs.Prelude.{◌≡◌, ℕ, ◌+◌, ◌/◌, ◌%◌, ◌<◌, ◌≤◌, false, length, MatchBool};
+ghost use Rattle.sv8_model.specs.declared.touch.TouchKind.{TouchKind};
 ghost use Rattle.sv8_notes.specs.Flags.{IsFlaggedUnless};
 ghost use Rattle.sv8_notes.specs.Sought.{is_met};
 ghost use Rattle.sv8_trace.specs.Recording.{recorded, trace_of};
@@ -8,6 +9,7 @@ ghost use Rattle.sv8_trace.specs.Touching.{NoneTouches};
 
 use crate::trace::Trace;
 use sv8_notes::{Cell, Sought};
+use sv8_phys::TouchKind;
 
 /// How many bytes a word has.
 const WORD_SIZE: u32 = 4;
@@ -18,7 +20,7 @@ impl<const NW: usize, const PAGES: usize, const K: u32> Trace<NW, PAGES, K> {
         requires some { 1 ≤ count }
         requires within { address + count ≤ 0x1_0000_0000 }
         ensures end { result ≤ recorded K self.now }
-        ensures none { NoneTouches NW PAGES K self.now address count result (recorded K self.now) }
+        ensures none { (kind : TouchKind) → NoneTouches kind NW PAGES K self.now address count result (recorded K self.now) }
     {
         let last = address + (count - 1);
         let mut end = 0;
@@ -29,12 +31,20 @@ impl<const NW: usize, const PAGES: usize, const K: u32> Trace<NW, PAGES, K> {
         end
     }
 
-    /// Whether a step from one on and below another touches the word of one of so many bytes. It looks at each note once.
-    fn touches_between(&self, address: u32, count: u32, from: u32, end: u32) -> bool
+    /// Whether a step from one on and below another touches the word of one of so many bytes, by the touches that count. It
+    /// looks at each note once.
+    fn touches_between(
+        &self,
+        kind: TouchKind,
+        address: u32,
+        count: u32,
+        from: u32,
+        end: u32,
+    ) -> bool
         requires some { 1 ≤ count }
         requires within { address + count ≤ 0x1_0000_0000 }
         requires recorded { end ≤ recorded K self.now }
-        ensures { MatchBool result (NoneTouches NW PAGES K self.now address count from end → ⊥) (NoneTouches NW PAGES K self.now address count from end) }
+        ensures { MatchBool result (NoneTouches kind NW PAGES K self.now address count from end → ⊥) (NoneTouches kind NW PAGES K self.now address count from end) }
     {
         let low = WORD_SIZE * (address / WORD_SIZE);
         let last = address + (count - 1);
@@ -44,7 +54,7 @@ impl<const NW: usize, const PAGES: usize, const K: u32> Trace<NW, PAGES, K> {
             let base = K * index as u32;
             let stop = K.min(end - base);
             let notes = self.intervals[index].notes();
-            if notes.touches_any(low, last, start % K, stop) {
+            if notes.touches_any(kind, low, last, start % K, stop) {
                 return true;
             }
             start = base + stop;
@@ -52,29 +62,44 @@ impl<const NW: usize, const PAGES: usize, const K: u32> Trace<NW, PAGES, K> {
         false
     }
 
-    /// Whether no step from `from` on and below `to` touches the word of one of so many bytes of RAM from an address on. These
-    /// steps have to be recorded.
+    /// Whether no step from `from` on and below `to` touches the word of one of so many bytes of RAM from an address on, by
+    /// the touches that count. These steps have to be recorded.
     ///
     /// Where the words were last touched in an interval below `from`, it looks at their marks alone.
-    pub fn is_untouched(&self, address: u32, count: u32, from: u32, to: u32) -> bool
+    pub fn is_untouched(
+        &self,
+        kind: TouchKind,
+        address: u32,
+        count: u32,
+        from: u32,
+        to: u32,
+    ) -> bool
         requires within { address + count ≤ 0x1_0000_0000 }
         requires recorded { to ≤ recorded K self.now }
-        ensures { MatchBool result (NoneTouches NW PAGES K self.now address count from to) (NoneTouches NW PAGES K self.now address count from to → ⊥) }
+        ensures { MatchBool result (NoneTouches kind NW PAGES K self.now address count from to) (NoneTouches kind NW PAGES K self.now address count from to → ⊥) }
     {
         if count == 0 {
             return true;
         }
         let end = to.min(self.end_of_bytes(address, count));
-        !self.touches_between(address, count, from, end)
+        !self.touches_between(kind, address, count, from, end)
     }
 
-    /// Sets the flag of each step of one interval that touches the word of one of so many bytes of RAM from an address on.
-    /// Flag number i is that of step `from + i`. These steps have to be recorded. It looks at each note once.
-    pub fn flag_touching(&self, address: u32, count: u32, from: u32, flags: &mut [bool])
+    /// Sets the flag of each step of one interval that touches the word of one of so many bytes of RAM from an address on,
+    /// by the touches that count. Flag number i is that of step `from + i`. These steps have to be recorded. It looks at
+    /// each note once.
+    pub fn flag_touching(
+        &self,
+        kind: TouchKind,
+        address: u32,
+        count: u32,
+        from: u32,
+        flags: &mut [bool],
+    )
         requires within { address + count ≤ 0x1_0000_0000 }
         requires recorded { from + length flags.old ≤ recorded K self.now }
         requires interval { from % K + length flags.old ≤ K }
-        ensures { IsFlaggedUnless (λ i. NoneTouches NW PAGES K self.now address count (from + i) (from + i + 1)) flags.old flags.new }
+        ensures { IsFlaggedUnless (λ i. NoneTouches kind NW PAGES K self.now address count (from + i) (from + i + 1)) flags.old flags.new }
     {
         if count == 0 || flags.is_empty() {
             return;
@@ -84,6 +109,6 @@ impl<const NW: usize, const PAGES: usize, const K: u32> Trace<NW, PAGES, K> {
         let index = (from / K) as usize;
         self.intervals[index]
             .notes()
-            .flag_touching(low, last, from % K, flags);
+            .flag_touching(kind, low, last, from % K, flags);
     }
 }

@@ -1,12 +1,14 @@
-use Rattle.std.proofs.Common.{rules, sym, length, false, ◌≡◌, ◌∙◌, ◌+◌, Option, refl, ap, subst}
+use Rattle.std.proofs.Common.{rules, sym, length, true, false, arith, ◌≡◌, ◌∙◌, ◌+◌, Option, refl, ap, subst}
 use Rattle.sv8_cpu.specs.State.{State}
 use Rattle.sv8_watch.specs.Watched.{IsBefore}
 use Rattle.sv8_bench.specs.Kept.{Kept}
 use Rattle.sv8_bench.specs.Shown.{machine_state}
 use Rattle.sv8_bench.specs.Walks.{state_in}
 use Rattle.sv8_monitor.specs.declared.found.Found.{Found}
-use Rattle.sv8_monitor.specs.Search.{IsAdded, olds_of}
-use Rattle.sv8_monitor.proofs.Searching.{looked_found, after_is, touched_by, not_added}
+use Rattle.sv8_phys.specs.Memory.{ram_size}
+use Rattle.sv8_monitor.specs.Search.{IsAdded, are_inside, found_at, is_wanted, olds_of}
+use Rattle.sv8_monitor.proofs.OldBytes.{olds_pass}
+use Rattle.sv8_monitor.proofs.Searching.{looked_found, step_from, not_added, unwanted}
 use Rattle.sv8_monitor.proofs.search.look.Goals as goal
 
 pub returns-then-not-may_be_wanted-clause-added : goal.returns-then-not-may_be_wanted-clause-added
@@ -22,12 +24,11 @@ returns-then-not-may_be_wanted-clause-added g c =
     let there : state_in c.walk_on.new.walk.place ≡ machine_state kept (n + 1) =
     walk.state ∙ ap (λ (k : Kept). machine_state k c.walk_on.new.walk.step) made.kept ∙ ap (machine_state kept) c.in_ok-walk_on.ensures.step in
     let timeline = c.timeline.ensures ∙ ap (λ (k : Kept). k.timeline) made.kept in
-    let after = after_is kept n c.step-n.result g.row.NW g.row.PAGES c.timeline.result.now c.machine-after.result.now (c.machine-after.ensures ∙ there) c.step-n.ensures timeline sizes.windows sizes.pages in
-    let touched = touched_by kept n c.step-n.result g.row.NW g.row.PAGES c.timeline.result.now c.touches-touches.result.now (c.touches-touches.ensures ∙ c.in_ok-walk_on.ensures.touches)
-    c.step-n.ensures timeline sizes.windows sizes.pages in
+    let made_from = step_from kept n c.step-n.result g.row.NW g.row.PAGES c.timeline.result.now c.of-before.result c.machine-after.result.now c.walk_on.new.watch before
+    (c.machine-after.ensures ∙ there) c.in_ok-walk_on.ensures.touches c.in_ok-walk_on.ensures.observations c.step-n.ensures timeline sizes.windows sizes.pages in
     let missed : c.may_be_wanted.result ≡ false = search rules in
     not_added kept n c.step-n.result g.row.NW g.row.PAGES c.timeline.result.now c.args.conditions.now c.args.left c.args.found.now.items c.step-n.ensures timeline
-    sizes.windows sizes.pages (c.may_be_wanted.ensures.wanted s before after touched missed)
+    sizes.windows sizes.pages (c.may_be_wanted.ensures.wanted s made_from missed)
 
 pub returns-then-not-may_be_wanted-clause-bytes : goal.returns-then-not-may_be_wanted-clause-bytes
 returns-then-not-may_be_wanted-clause-bytes g c =
@@ -42,12 +43,11 @@ returns-then-not-may_be_wanted-clause-bytes g c =
     let there : state_in c.walk_on.new.walk.place ≡ machine_state kept (n + 1) =
     walk.state ∙ ap (λ (k : Kept). machine_state k c.walk_on.new.walk.step) made.kept ∙ ap (machine_state kept) c.in_ok-walk_on.ensures.step in
     let timeline = c.timeline.ensures ∙ ap (λ (k : Kept). k.timeline) made.kept in
-    let after = after_is kept n c.step-n.result g.row.NW g.row.PAGES c.timeline.result.now c.machine-after.result.now (c.machine-after.ensures ∙ there) c.step-n.ensures timeline sizes.windows sizes.pages in
-    let touched = touched_by kept n c.step-n.result g.row.NW g.row.PAGES c.timeline.result.now c.touches-touches.result.now (c.touches-touches.ensures ∙ c.in_ok-walk_on.ensures.touches)
-    c.step-n.ensures timeline sizes.windows sizes.pages in
+    let made_from = step_from kept n c.step-n.result g.row.NW g.row.PAGES c.timeline.result.now c.of-before.result c.machine-after.result.now c.walk_on.new.watch before
+    (c.machine-after.ensures ∙ there) c.in_ok-walk_on.ensures.touches c.in_ok-walk_on.ensures.observations c.step-n.ensures timeline sizes.windows sizes.pages in
     let missed : c.may_be_wanted.result ≡ false = search rules in
     let size = ap (λ (x : State). length x.memory.ram) (sym (c.machine-2.ensures ∙ c.requires.walk.state)) ∙ c.ram_size-size.ensures.contents.size in
-    c.requires.bytes ∙ c.may_be_wanted.ensures.bytes s before after touched size missed
+    c.requires.bytes ∙ c.may_be_wanted.ensures.bytes s made_from size missed
     ∙ ap (λ (x : State). olds_of c.args.conditions.now x.memory.ram) (c.machine-after.ensures ∙ there)
 
 pub returns-clause-added : goal.returns-clause-added
@@ -66,3 +66,33 @@ returns-clause-added g c =
     (looked_found kept n c.step-n.result c.timeline-2.result.now c.machine-3.result.now c.walk_on.new.watch.observations c.walk_on.new.watch.touches
     c.args.conditions.now _ c.step-n.ensures (c.timeline-2.ensures ∙ ap (λ (k : Kept). k.timeline) made.kept)
     (c.machine-3.ensures ∙ there) c.in_ok-walk_on.ensures.observations c.in_ok-walk_on.ensures.touches refl) added
+
+pub returns-then-rest-left-clause-added : goal.returns-then-rest-left-clause-added
+returns-then-rest-left-clause-added g c =
+    let kept = c.args.bench.now.kept in
+    let n = c.args.walk.now.step in
+    let s = machine_state kept n in
+    let here : c.machine.result.now ≡ s = c.machine.ensures ∙ c.requires.walk.state in
+    let before : IsBefore s c.of-before.result = subst (λ (x : State). IsBefore x c.of-before.result) here c.of-before.ensures in
+    let made = c.in_ok-walk_on.ensures.made in
+    let walk = c.in_ok-walk_on.ensures.walk in
+    let there : state_in c.walk_on.new.walk.place ≡ machine_state kept (n + 1) =
+    walk.state ∙ ap (λ (k : Kept). machine_state k c.walk_on.new.walk.step) made.kept ∙ ap (machine_state kept) c.in_ok-walk_on.ensures.step in
+    let added = c.in_ok-rest.ensures s before (c.as_slice.ensures.value ∙ c.requires.bytes) in
+    subst (λ (o : Option Found). IsAdded o c.args.left c.args.found.now.items c.add_wanted.new.found.items c.in_ok-rest.rest)
+    (looked_found kept n c.step-n.result c.timeline-2.result.now c.machine-3.result.now c.walk_on.new.watch.observations c.walk_on.new.watch.touches
+    c.args.conditions.now _ c.step-n.ensures (c.timeline-2.ensures ∙ ap (λ (k : Kept). k.timeline) made.kept)
+    (c.machine-3.ensures ∙ there) c.in_ok-walk_on.ensures.observations c.in_ok-walk_on.ensures.touches refl) added
+
+pub returns-then-rest-left-clause-bytes : goal.returns-then-rest-left-clause-bytes
+returns-then-rest-left-clause-bytes g c =
+    let kept = c.args.bench.now.kept in
+    let cs = c.args.conditions.now in
+    let n = c.args.walk.now.step in
+    let sizes = c.sizes.ensures in
+    let added = returns-then-rest-left-clause-added g c in
+    let missed = unwanted (is_wanted kept cs n) (found_at kept n) c.args.left c.in_ok-rest.rest _ _ added (search rules) c.requires.some in
+    let inside = subst (λ p. are_inside (ram_size p) cs ≡ true) (sym sizes.pages) c.requires.inside in
+    let size = ap (λ (x : State). length x.memory.ram) (sym (c.machine-2.ensures ∙ c.requires.walk.state)) ∙ c.ram_size-size.ensures.contents.size ∙ ap ram_size (sym sizes.pages) in
+    c.requires.bytes
+    ∙ olds_pass kept cs inside 1 n size (λ i low high. let here : i ≡ n = omega (arith, low, high) in ap (is_wanted kept cs) here ∙ missed)

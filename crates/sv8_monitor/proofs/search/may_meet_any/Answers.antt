@@ -16,7 +16,7 @@ loop-rest-preserved g c =
     let missed : c.may_be_met.result ≡ false = search rules in
     record {
       inside = others_inside first others all whole (ram_size g.row.PAGES) inv.inside;
-      missed = λ s before after touched rest.
-          inv.missed s before after touched
-          (none_of_all (meets g.row.NW g.row.PAGES c.args.timeline.now c.args.n s) first others all whole (c.may_be_met.ensures s before after touched missed) rest);
+      missed = λ s made rest.
+          inv.missed s made
+          (none_of_all (meets g.row.NW g.row.PAGES c.args.timeline.now c.args.n s) first others all whole (c.may_be_met.ensures s made missed) rest);
     }

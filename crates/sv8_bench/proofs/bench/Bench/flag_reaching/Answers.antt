@@ -1,4 +1,5 @@
 use Rattle.std.proofs.Common.{◌≡◌, ℕ, ◌+◌, ◌≤◌, ◌<◌, false, length, slice_index_or, sym, subst}
+use Rattle.sv8_model.specs.declared.touch.TouchKind.TheVariants.{Any}
 use Rattle.sv8_notes.specs.Flags.{IsFlaggedUnless}
 use Rattle.sv8_trace.specs.Recording.{recorded}
 use Rattle.sv8_trace.specs.Showing.{NoneShows}
@@ -14,7 +15,7 @@ returns-then-shows_none-clause-spared g c =
     let k = g.row.K in
     let inv = c.self.invariant in
     let within = subst (λ (w : Workbench). a.from + length a.flags.now ≤ recorded k w.recording) (sym c.self.view_is) c.requires.recorded in
-    let flagged = subst (λ (w : Workbench). IsFlaggedUnless (λ i. IsUntouched k w a.address 4 (a.from + i) (a.from + i + 1)) a.flags.now c.flag_touching.new.flags) (sym c.self.view_is) c.flag_touching.ensures in
+    let flagged = subst (λ (w : Workbench). IsFlaggedUnless (λ i. IsUntouched Any k w a.address 4 (a.from + i) (a.from + i + 1)) a.flags.now c.flag_touching.new.flags) (sym c.self.view_is) c.flag_touching.ensures in
     subst
     (λ (w : Workbench).
     (i : ℕ) → i < length a.flags.now → slice_index_or c.flag_touching.new.flags i false ≡ false → (slice_index_or a.flags.now i false ≡ false) × IsUnreached k w a.address (a.from + i) (a.from + i + 1))

@@ -13,5 +13,5 @@ returns g c =
     let k = g.row.K in
     let inv = c.self.invariant in
     let within = subst (λ (w : Workbench). a.from + length a.flags.now ≤ recorded k w.recording) (sym c.self.view_is) c.requires.recorded in
-    subst (λ (w : Workbench). IsFlaggedUnless (λ i. IsUntouched k w a.address a.count (a.from + i) (a.from + i + 1)) a.flags.now c.flag_poking.new.flags) c.self.view_is
-    (flagged_unless k _ inv.8 a.address a.count a.from a.flags.now c.flag_touching.new.flags c.flag_poking.new.flags within c.flag_touching.ensures c.flag_poking.ensures)
+    subst (λ (w : Workbench). IsFlaggedUnless (λ i. IsUntouched a.kind k w a.address a.count (a.from + i) (a.from + i + 1)) a.flags.now c.flag_poking.new.flags) c.self.view_is
+    (flagged_unless a.kind k _ inv.8 a.address a.count a.from a.flags.now c.flag_touching.new.flags c.flag_poking.new.flags within c.flag_touching.ensures c.flag_poking.ensures)

@@ -25,16 +25,16 @@ returns g c =
     let some : 1 ≤ a.count = omega (arith, c.if-count-eq0.false) in
     let notes = c.notes.result.now in
     let spared : (i : ℕ) → i < length flags
-    → MatchBool (touches_any low last (from % k + i) (from % k + i + 1) notes) (NoneTouches g.row.NW g.row.PAGES k r a.address a.count (from + i) (from + i + 1) → ⊥)
-    (NoneTouches g.row.NW g.row.PAGES k r a.address a.count (from + i) (from + i + 1)) = λ i inside.
+    → MatchBool (touches_any a.kind low last (from % k + i) (from % k + i + 1) notes) (NoneTouches a.kind g.row.NW g.row.PAGES k r a.address a.count (from + i) (from + i + 1) → ⊥)
+    (NoneTouches a.kind g.row.NW g.row.PAGES k r a.address a.count (from + i) (from + i + 1)) = λ i inside.
     let split = div-add-mod from k in
     let there : (from + i) / k ≡ from / k = div-eq_of_lt-le k (omega (arith, split)) (omega (arith, split, c.requires.interval, inside)) in
     let turned = ap (λ q. k * q) there in
     let rest : (from + i) % k ≡ from % k + i = omega (arith, div-add-mod (from + i) k, split, turned) in
     let is = c.notes.ensures ∙ notes_of k from (from + length flags) xs r c.index.result.now _ pos same (omega (arith, inside)) (omega (arith, c.requires.recorded, all)) c.index.ensures
     ∙ ap (λ q. (get_or r.intervals q no_interval).notes) (sym there) in
-    subst (λ j. MatchBool (touches_any low last j (j + 1) notes) (NoneTouches g.row.NW g.row.PAGES k r a.address a.count (from + i) (from + i + 1) → ⊥)
-    (NoneTouches g.row.NW g.row.PAGES k r a.address a.count (from + i) (from + i + 1))) rest
-    (touched_step g.row.NW g.row.PAGES k pos r a.address a.count low last refl some (omega (arith, some)) (from + i) notes is) in
-    flag_unless flags c.flag_touching.new.flags (λ i. touches_any low last (from % k + i) (from % k + i + 1) notes)
-    (λ i. NoneTouches g.row.NW g.row.PAGES k r a.address a.count (from + i) (from + i + 1)) c.flag_touching.ensures spared
+    subst (λ j. MatchBool (touches_any a.kind low last j (j + 1) notes) (NoneTouches a.kind g.row.NW g.row.PAGES k r a.address a.count (from + i) (from + i + 1) → ⊥)
+    (NoneTouches a.kind g.row.NW g.row.PAGES k r a.address a.count (from + i) (from + i + 1))) rest
+    (touched_step a.kind g.row.NW g.row.PAGES k pos r a.address a.count low last refl some (omega (arith, some)) (from + i) notes is) in
+    flag_unless flags c.flag_touching.new.flags (λ i. touches_any a.kind low last (from % k + i) (from % k + i + 1) notes)
+    (λ i. NoneTouches a.kind g.row.NW g.row.PAGES k r a.address a.count (from + i) (from + i + 1)) c.flag_touching.ensures spared

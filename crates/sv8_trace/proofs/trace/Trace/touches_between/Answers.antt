@@ -18,7 +18,7 @@ returns-then-touches_any g c =
     let split = div-add-mod c.loop-start.start k in
     let few : c.min-stop.result ≤ k = omega (arith, c.min-stop.ensures) in
     let fits : k * (c.loop-start.start / k) + c.min-stop.result ≤ c.args.end = omega (arith, split, c.min-stop.ensures, c.loop-start-test.true) in
-    some_there g.row.NW g.row.PAGES k pos c.args.self.now c.args.address c.args.count (4 * (c.args.address / 4)) (c.args.address + (c.args.count - 1)) refl c.requires.some (omega (arith, c.requires.some))
+    some_there c.args.kind g.row.NW g.row.PAGES k pos c.args.self.now c.args.address c.args.count (4 * (c.args.address / 4)) (c.args.address + (c.args.count - 1)) refl c.requires.some (omega (arith, c.requires.some))
     c.loop-start.start c.min-stop.result c.notes-notes.result.now is few c.args.from c.args.end c.loop-start.invariant.behind fits (sym c.touches_any.ensures ∙ c.if-touches_any.true)
 
 pub loop-start-preserved : goal.loop-start-preserved
@@ -35,6 +35,6 @@ loop-start-preserved g c =
     let few : c.min-stop.result ≤ k = omega (arith, c.min-stop.ensures) in
     record {
       behind = omega (arith, split, mod-lt c.loop-start.start pos, c.min-stop.ensures, c.loop-start.invariant.behind, c.loop-start-test.true);
-      none = none_so_far g.row.NW g.row.PAGES k pos c.args.self.now c.args.address c.args.count (4 * (c.args.address / 4)) (c.args.address + (c.args.count - 1)) refl c.requires.some (omega (arith, c.requires.some))
+      none = none_so_far c.args.kind g.row.NW g.row.PAGES k pos c.args.self.now c.args.address c.args.count (4 * (c.args.address / 4)) (c.args.address + (c.args.count - 1)) refl c.requires.some (omega (arith, c.requires.some))
           c.loop-start.start c.min-stop.result c.notes-notes.result.now is few c.args.from c.loop-start.invariant.none (sym c.touches_any.ensures ∙ c.if-touches_any.false);
     }

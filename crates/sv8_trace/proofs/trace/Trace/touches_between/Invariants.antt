@@ -5,7 +5,7 @@ use Rattle.sv8_trace.proofs.trace.Trace.touches_between.Given as goal
 abbrev pub invariant-loop-start : goal.invariant-loop-start
 invariant-loop-start g l = record {
   behind : l.from ≤ l.start;
-  none : NoneTouches g.row.NW g.row.PAGES g.row.K l.self l.address l.count l.from l.start;
+  none : NoneTouches l.kind g.row.NW g.row.PAGES g.row.K l.self l.address l.count l.from l.start;
 }
 
 abbrev pub decreases-loop-start : goal.decreases-loop-start
