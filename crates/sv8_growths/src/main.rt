@@ -8,6 +8,7 @@ mod assembler;
 mod machine;
 mod memory;
 mod queries;
+mod recorded;
 mod timeline;
 mod trace;
 mod traps;

@@ -1,24 +1,17 @@
 //! Records a run, copies, patches and cuts it: each call that is refused memory leaves the recorded run as it was, and each other one does what it
 //! should.
 
-ghost use Rattle.std.specs.Prelude.{◌+◌, ◌≡◌, ◌<◌, ◌≤◌, IfOk, OnOk};
+ghost use Rattle.std.specs.Prelude.{◌≡◌, ◌<◌, ◌≤◌};
 ghost use Rattle.std.specs.List.{All};
 ghost use Rattle.sv8_time.specs.Schedule.{bytes_below};
 ghost use Rattle.sv8_trace.specs.Patch.{IsPatch};
-ghost use Rattle.sv8_trace.specs.Drafts.{IsDraft};
 ghost use Rattle.sv8_trace.specs.Recording.{last_point, recorded};
 
+use crate::recorded::{Point, Small, copied, fresh, lengthen, source_of, watch_four};
 use std::alloc::{AllocError, Global};
-use sv8_cpu::{Machine, Work};
-use sv8_phys::Watch;
 use sv8_source::Source;
 use sv8_time::{TimeFault, Timeline};
-use sv8_trace::{Cause, Cell, Content, Draft, NO_END, Patch, Trace};
-
-type Point = Machine<8, 2>;
-
-/// A checkpoint every four steps.
-pub(crate) type Small = Trace<8, 2, 4>;
+use sv8_trace::{Cause, Cell, Content, NO_END, Patch};
 
 /// A program that takes a byte at step 1, puts one out at step 3, stores it at step 4 and reads another word at step 5.
 const LINES: &[&[u8]] = &[
@@ -301,26 +294,6 @@ fn is_done(alloc: Global, trace: &mut Small, deed: Deed, before: Due, after: Due
     }
 }
 
-/// Records the next four steps, and counts them.
-pub(crate) fn lengthen(
-    alloc: Global,
-    trace: &mut Small,
-    timeline: &Timeline,
-) -> Result<u64, AllocError>
-    requires limit { timeline.now.limit ≡ 8192 }
-    requires delivered { (last_point trace.old).memory.taken ≤ bytes_below (recorded 4 trace.old) timeline.now.inputs }
-    ensures delivered { (last_point trace.new).memory.taken ≤ bytes_below (recorded 4 trace.new) timeline.now.inputs }
-{
-    if 1_000 < trace.recorded() {
-        return Err(AllocError);
-    }
-    let mut work = Work::new();
-    match trace.extend(alloc, timeline, &mut work) {
-        Ok(()) => Ok(work.done()),
-        Err(fault) => Err(fault),
-    }
-}
-
 /// Whether four steps more are recorded behind so many, at the second try where memory was refused at the first.
 fn is_longer(alloc: Global, trace: &mut Small, timeline: &Timeline, steps: u32) -> bool
     requires limit { timeline.now.limit ≡ 8192 }
@@ -359,19 +332,6 @@ fn are_done(alloc: Global, trace: &mut Small) -> bool {
     holds
 }
 
-/// The source of some lines, which are to be programs.
-pub(crate) fn source_of(alloc: Global, texts: &[&[u8]]) -> Result<Source, AllocError> {
-    let mut lines = Vec::new(alloc);
-    for text in texts {
-        lines.push(text.to_vec(alloc)?)?;
-    }
-    let mut source = Source::new(alloc, 8_192);
-    match source.replace(alloc, 1, 0, &lines) {
-        Ok(_) => Ok(source),
-        Err(_) => Err(AllocError),
-    }
-}
-
 /// Sets the run's events.
 fn schedule(alloc: Global, timeline: &mut Timeline) -> Result<(), TimeFault>
     ensures { timeline.new.limit ≡ timeline.old.limit }
@@ -380,39 +340,6 @@ fn schedule(alloc: Global, timeline: &mut Timeline) -> Result<(), TimeFault>
     timeline.set_poke(alloc, 2, 0x108, 7)?;
     timeline.set_request(alloc, 6, 3)?;
     Ok(())
-}
-
-/// A trace that has nothing recorded, at the second try where memory was refused at the first.
-pub(crate) fn fresh(
-    alloc: Global,
-    source: &Source,
-    timeline: &Timeline,
-) -> Result<Small, AllocError>
-    ensures { IfOk result (λ t. (last_point t).memory.taken ≤ bytes_below (recorded 4 t) timeline.now.inputs) }
-{
-    match begun(alloc, source, timeline) {
-        Ok(trace) => Ok(trace),
-        Err(_) => begun(alloc, source, timeline),
-    }
-}
-
-fn begun(alloc: Global, source: &Source, timeline: &Timeline) -> Result<Small, AllocError>
-    ensures { IfOk result (λ t. (last_point t).memory.taken ≤ bytes_below (recorded 4 t) timeline.now.inputs) }
-{
-    let machine = Point::reset(alloc, source)?;
-    if timeline.delivered(0) < machine.taken() {
-        return Err(AllocError);
-    }
-    let trace = Small::new(alloc, machine)?;
-    Ok(trace)
-}
-
-/// A copy of a recorded run, at the second try where memory was refused at the first.
-pub(crate) fn copied(alloc: Global, trace: &Small) -> Result<Small, AllocError> {
-    match trace.copy(alloc) {
-        Ok(copy) => Ok(copy),
-        Err(_) => trace.copy(alloc),
-    }
 }
 
 /// Whether each deed leads to what is due, and leaves a copy of the recorded run.
@@ -441,44 +368,6 @@ fn are_kept(alloc: Global, trace: &mut Small, timeline: &Timeline) -> bool
     let third = is_longer(alloc, trace, timeline, 8);
     let fourth = is_longer(alloc, trace, timeline, 12);
     fresh && first && second && third && fourth && leave_a_copy(alloc, trace)
-}
-
-/// Makes the next step of a draft, and watches it.
-fn watched(
-    alloc: Global,
-    trace: &mut Small,
-    draft: &mut Draft<8, 2>,
-    timeline: &Timeline,
-    work: &mut Work,
-) -> Result<(), AllocError>
-    requires limit { timeline.now.limit ≡ 8192 }
-    requires draft { IsDraft 8 2 4 timeline.now trace.old draft.old }
-    requires delivered { draft.old.state.memory.taken ≤ bytes_below (recorded 4 trace.old + draft.old.count) timeline.now.inputs }
-    ensures draft { OnOk result (IsDraft 8 2 4 timeline.now trace.new draft.new) }
-    ensures delivered { OnOk result (draft.new.state.memory.taken ≤ bytes_below (recorded 4 trace.new + draft.new.count) timeline.now.inputs) }
-{
-    if 1_000 < trace.recorded() {
-        return Err(AllocError);
-    }
-    trace.watch_step(alloc, draft, timeline, &mut Watch::new(alloc), work)
-}
-
-/// Records the next four steps one at a time, each watched, and counts them.
-pub(crate) fn watch_four(
-    alloc: Global,
-    trace: &mut Small,
-    timeline: &Timeline,
-) -> Result<u64, AllocError>
-    requires limit { timeline.now.limit ≡ 8192 }
-    requires delivered { (last_point trace.old).memory.taken ≤ bytes_below (recorded 4 trace.old) timeline.now.inputs }
-{
-    let mut work = Work::new();
-    let mut draft = trace.draft(alloc)?;
-    watched(alloc, trace, &mut draft, timeline, &mut work)?;
-    watched(alloc, trace, &mut draft, timeline, &mut work)?;
-    watched(alloc, trace, &mut draft, timeline, &mut work)?;
-    watched(alloc, trace, &mut draft, timeline, &mut work)?;
-    Ok(work.done())
 }
 
 /// Whether four watched steps are recorded, or none where memory was refused.

@@ -4,7 +4,7 @@ ghost use Rattle.std.specs.Prelude.{◌+◌, ◌≡◌, ◌≤◌};
 ghost use Rattle.sv8_time.specs.Schedule.{bytes_below};
 ghost use Rattle.sv8_trace.specs.Recording.{last_point, recorded};
 
-use crate::trace::{Small, copied, fresh, lengthen, source_of, watch_four};
+use crate::recorded::{Small, copied, fresh, lengthen, source_of, watch_four};
 use std::alloc::{AllocError, Global};
 use sv8_source::Source;
 use sv8_time::Timeline;
