@@ -1,24 +1,20 @@
 -- What a step touches as data: the accesses of its instruction, and each byte that it changes. The first word that it touches it loads, to fetch.
-use Rattle.std.proofs.Common.{◌≡◌, ◌⊎◌, inl, inr, ℕ, ◌+◌, ◌*◌, ◌/◌, ◌<◌, ◌≤◌, ◌==◌, Bool, true, false, cond, nat_lt, Option, Some, None, List, [], ◌∷◌, ◌++◌, length, slice_set, get_or, refl, sym, ◌∙◌, ap, subst, arith}
-use Rattle.std.specs.Prelude.{◌&&◌, ◌||◌, if◌then◌else◌}
-use Rattle.std.specs.List.{list_any}
-use Rattle.std.proofs.lemmas.Bool.{or_parts, true≢false, false≢true}
+use Rattle.std.proofs.Common.{◌≡◌, ℕ, ◌+◌, ◌<◌, ◌≤◌, ◌==◌, Bool, true, false, cond, nat_lt, Option, Some, None, List, [], ◌∷◌, ◌++◌, length, slice_set, get_or, refl, sym, ◌∙◌, ap, subst, arith}
+use Rattle.std.specs.Prelude.{◌||◌}
+use Rattle.std.proofs.lemmas.Bool.{false≢true}
 use Rattle.std.proofs.lemmas.List.Folds.{list_any-append}
 use Rattle.std.proofs.Math.Bool.{or-true}
 use Rattle.sv8_model.specs.declared.touch.Touch.{Touch}
-use Rattle.sv8_model.specs.declared.touch.Touch.TheVariants.{Read, Write, Input, Levels, Expiry}
-use Rattle.sv8_model.specs.declared.touch.TouchKind.{TouchKind}
 use Rattle.sv8_model.specs.declared.touch.TouchKind.TheVariants.{Any, Data}
 use Rattle.sv8_model.specs.declared.observation.Observation.{Observation}
 use Rattle.sv8_model.specs.declared.observation.Observation.TheVariants as seen
 use Rattle.sv8_model.specs.Words.{field}
-use Rattle.sv8_model.specs.Outside.{Outside, word_address, with_word, with_byte, oldest, without_oldest}
+use Rattle.sv8_model.specs.Outside.{Outside, word_address, oldest, without_oldest}
 use Rattle.sv8_model.specs.Levels.{asked, cleared, timer_level}
-use Rattle.sv8_model.specs.Footprint.{is_touch_of, behind_fetch, data_touches, touches_data}
+use Rattle.sv8_model.specs.Footprint.{is_touch_of}
 use Rattle.sv8_model.specs.Action.{Action, done, load_word, store_word, load_byte, store_byte, take_input, count_waiting, emit, ask_levels, clear_levels, expire, observe, ◌>>=◌, result_of, after, touches, observations}
 use Rattle.sv8_model.proofs.Actions.{result_of-then, touches-then, observations-then}
 use Rattle.sv8_time.specs.Order.{Each}
-use Rattle.sv8_time.specs.Schedule.{Schedule, pokes_of_step}
 use Rattle.sv8_time.proofs.Parts.{each_map, each_append}
 use Rattle.sv8_phys.specs.declared.timer.Timer.{Timer}
 use Rattle.sv8_phys.specs.Memory.{ram_size}
@@ -40,19 +36,18 @@ use Rattle.sv8_isa.specs.Table.{meaning}
 use Rattle.sv8_trap.specs.declared.table.Trap.{Trap}
 use Rattle.sv8_trap.specs.declared.table.Trap.TheVariants.{IllegalInstruction}
 use Rattle.sv8_trap.specs.Table.{taken}
-use Rattle.sv8_trap.specs.Processor.{Processor, slot_skipped}
+use Rattle.sv8_trap.specs.Processor.{Processor}
 use Rattle.sv8_trap.specs.Interrupt.{unmasked, highest}
 use Rattle.sv8_iu.specs.declared.request.AccessRequest.TheVariants.{Fetch}
 use Rattle.sv8_iu.specs.declared.request.Response.{Response}
 use Rattle.sv8_iu.specs.declared.request.Response.TheVariants.{Value, Refused}
-use Rattle.sv8_iu.specs.Memory.{low_word}
 use Rattle.sv8_iu.specs.Instruction.{raised}
 use Rattle.sv8_memory.specs.Units.{Units, Served, is_hidden, failed}
 use Rattle.sv8_memory.specs.Access.{located, at_virtual, fetched_from, access}
-use Rattle.sv8_cpu.specs.State.{State, inner_of}
-use Rattle.sv8_cpu.specs.Step.{Inner, executed, carried_out, fetched, instruction, continued, requested, interruptible, awake, with_timer, action}
+use Rattle.sv8_cpu.specs.State.{inner_of}
+use Rattle.sv8_cpu.specs.Step.{Inner, executed, fetched, instruction, continued, requested, interruptible, awake, with_timer, action}
 use Rattle.sv8_cpu.specs.Run as run
-use Rattle.sv8_cpu.specs.Touching.{AreUntouched, IsTouched, IsOfData, SparesBytes, SparedBytesStay, AccessesAreData}
+use Rattle.sv8_cpu.specs.Touching.{IsTouched, IsOfData, SparedBytesStay, AccessesAreData}
 use Rattle.sv8_cpu.proofs.Touched.{touched_is}
 use Rattle.sv8_cpu.proofs.FirstTouch.{rest, wordless, rest_past, rest_before, wordless_behind, of, no_data, is_data_behind}
 use Rattle.sv8_cpu.proofs.Spared.{stays, spared_by_any, unpoked_stays}

@@ -1,6 +1,6 @@
 -- Touches behind the first word that a step touches: they are data.
 use Rattle.std.proofs.Common.{◌≡◌, ℕ, ◌==◌, Bool, true, false, List, [], ◌∷◌, ◌++◌, refl, sym, ◌∙◌}
-use Rattle.std.specs.Prelude.{◌||◌, if◌then◌else◌}
+use Rattle.std.specs.Prelude.{if◌then◌else◌}
 use Rattle.std.specs.List.{list_any}
 use Rattle.std.proofs.lemmas.Bool.{or_parts, true≢false, false≢true}
 use Rattle.sv8_model.specs.declared.touch.Touch.{Touch}
@@ -8,7 +8,7 @@ use Rattle.sv8_model.specs.declared.touch.Touch.TheVariants.{Read, Write, Input,
 use Rattle.sv8_model.specs.declared.touch.TouchKind.{TouchKind}
 use Rattle.sv8_model.specs.declared.touch.TouchKind.TheVariants.{Any, Data}
 use Rattle.sv8_model.specs.Outside.{word_address}
-use Rattle.sv8_model.specs.Footprint.{is_touch_of, behind_fetch, data_touches, touches_data}
+use Rattle.sv8_model.specs.Footprint.{is_touch_of, behind_fetch, touches_data}
 use Rattle.sv8_cpu.specs.Touching.{AreUntouched}
 use Rattle.sv8_cpu.proofs.Touched.{touched_is}
 

@@ -50,8 +50,7 @@ pub record SparesBytes (kind : TouchKind) (windows pages : ℕ) (schedule : Sche
   pub touched : AreUntouched kind address count (footprint windows pages schedule n s)
   pub poked : pokes_any address count (pokes_of_step n schedule.pokes) ≡ false
 
--- Each of them then holds after the step what it held before. It does where no data is among them: of the words that a step fetches, and of the tables that
--- it walks through to fetch, it changes none but those that count as data.
+-- each of them then holds after the step what it held before, whichever touches count
 abbrev pub SparedBytesStay : Type 0
 SparedBytesStay = (kind : TouchKind) (windows pages : ℕ) (schedule : Schedule) (n : ℕ) (s : State) (address count : ℕ) → SparesBytes kind windows pages schedule n s address count
     → (i : ℕ) → address ≤ i → i < address + count → slice_index_or (step windows pages schedule n s).memory.ram i 0 ≡ slice_index_or s.memory.ram i 0

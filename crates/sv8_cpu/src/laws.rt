@@ -202,8 +202,8 @@ pub fn steps_touch()
     ensures { StepsTouch }
 {}
 
-/// What is seen of the access of a step in RAM is its data: each byte that it loads or stores lies in a word that the step touches
-/// otherwise than by its fetch.
+/// What is seen of the access of a step in RAM is its data: each byte that it loads or stores lies in a word that is (`data_touches` of
+/// `sv8_model`).
 pub fn accesses_are_data()
     ensures { AccessesAreData }
 {}

@@ -17,7 +17,7 @@ pub(crate) type Point = Machine<8, 2>;
 /// A checkpoint every four steps.
 pub(crate) type Small = Trace<8, 2, 4>;
 
-/// The source of some lines, which are to be programs.
+/// The source of some lines, which are assembled with no fault.
 pub(crate) fn source_of(alloc: Global, texts: &[&[u8]]) -> Result<Source, AllocError> {
     let mut lines = Vec::new(alloc);
     for text in texts {

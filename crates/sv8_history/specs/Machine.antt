@@ -7,8 +7,7 @@ pub record Footprint (Cell : Type 0) : Type 0 where
   pub reads : Cell → Bool
   -- A level is written where the timer expires.
   pub writes : Cell → Bool
-  -- The step loads or stores nothing but its data. It may read and write other cells, to find out what to do. The laws ask only that this, too, is the same
-  -- in runs that are alike.
+  -- The cells that are the step's data. What that means is the machine's; the laws ask only that it is the same in runs that are alike.
   pub uses : Cell → Bool
   -- the step takes or counts the bytes that wait at the console
   pub takes : Bool

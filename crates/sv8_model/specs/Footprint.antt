@@ -57,8 +57,8 @@ expires ts = list_any is_expiry ts
 abbrev pub is_touch_of : ℕ → Touch → Bool
 is_touch_of address t = is_read_of address t || is_write_of address t
 
--- A step that fetches a word, and reads one more or writes another one, touches that one as its data. Of any other step all that it touches counts as data,
--- with its fetch and the walks through tables.
+-- Of a step that reads one word and touches nothing else, no word is data; of one that reads a word, and then reads one more or writes another one, that second
+-- one is. The first one was read to fetch. Of any other step all that it touches counts as data.
 abbrev pub behind_fetch : List Touch → List Touch
 behind_fetch (Read fetched ∷ []) = []
 behind_fetch (Read fetched ∷ Read other ∷ []) = Read other ∷ []

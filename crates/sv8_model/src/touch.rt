@@ -20,7 +20,7 @@ pub enum Touch {
 pub enum TouchKind {
     /// All of a step: those of its fetch and of walks through tables, and those of its data.
     Any,
-    /// Those of its data: what a step touches behind its fetch, where it fetches a word and touches one word more at most.
+    /// Those of its data: of a step that reads one word, and then may read one more or write another one, that second one.
     /// Of any other step all count. The access of an instruction touches data (`accesses_are_data` of `sv8_cpu`).
     Data,
 }

@@ -4,11 +4,11 @@ use Rattle.std.specs.List.{list_any}
 use Rattle.sv8_model.specs.declared.touch.Touch.{Touch}
 use Rattle.sv8_model.specs.declared.touch.Touch.TheVariants.{Read, Write, Levels}
 use Rattle.sv8_model.specs.Outside.{word_address}
-use Rattle.sv8_model.specs.Footprint.{is_read_of, is_write_of, is_touch_of, reads_input, touches_data}
+use Rattle.sv8_model.specs.Footprint.{is_read_of, is_write_of, is_touch_of, reads_input}
 use Rattle.sv8_model.specs.Cells.{Cell, ram_byte, waiting_bytes, pending_level, is_read, is_written}
 use Rattle.sv8_phys.specs.Notes.{told}
 use Rattle.sv8_notes.specs.Touched.{is_touched, is_touched_by, is_told_written}
-use Rattle.sv8_notes.specs.Steps.{Steps, Gains, IsAllData, are_of}
+use Rattle.sv8_notes.specs.Steps.{Steps, Gains, are_of}
 use Rattle.sv8_notes.proofs.Gaining.{or_none, any_append, gains_like, gains_then, read_append, written_append}
 use Rattle.sv8_notes.proofs.Touching.{any_split, byte_split, told_read, told_written, touched_parts, touched_told}
 

@@ -27,8 +27,6 @@ Pages = List (Option (List (List ℕ)))
 abbrev Levels : Type 0
 Levels = List (Option (List Bool))
 
--- ---- the list of checkpoints
-
 pub length-overlaid : (ps : Pages) (ls : Levels) (s : ℕ) (ms : List State) → length (all_overlaid ps ls s ms) ≡ length ms
 length-overlaid ps ls s [] = refl
 length-overlaid ps ls s (m ∷ ms) = ap suc (length-overlaid ps ls (suc s) ms)

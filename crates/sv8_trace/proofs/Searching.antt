@@ -12,9 +12,7 @@ use Rattle.sv8_history.specs.Changes.{Change}
 use Rattle.sv8_history.specs.Reads.{least_below, reads_change}
 use Rattle.sv8_history.specs.Input.{takes_edit}
 use Rattle.sv8_history.proofs.Common.{none_at, none_from, Found, found, found_one}
-use Rattle.sv8_notes.specs.declared.notes.Sought.{Sought}
 use Rattle.sv8_notes.specs.Steps.{Steps, IsFirstBelow, footprint_in}
-use Rattle.sv8_notes.specs.Sought.{is_met}
 use Rattle.sv8_trace.specs.Recording.{Recording, no_interval, trace_of}
 
 module _ (windows pages k : ℕ) (pos : 0 < k) (r : Recording) (test : Footprint Cell → Bool) where

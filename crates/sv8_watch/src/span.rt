@@ -99,8 +99,8 @@ impl Condition {
         }
     }
 
-    /// Which touches of these bytes count. A load or a store is an access to data, and a byte that changes is data, so what a
-    /// step fetches does not count.
+    /// Which touches of these bytes count. A load or a store is an access to data, and a byte that changes is data; a word is
+    /// touched by fetches, too.
     #[inline(always)]
     pub fn touch_kind(self) -> TouchKind
         ensures { result ≡ kind_of self }

@@ -215,7 +215,8 @@ impl<const NW: usize, const PAGES: usize, const K: u32> Bench<NW, PAGES, K> {
         Ok(())
     }
 
-    /// Makes recorded steps of a machine, with nothing seen of them. `watch` is left alone.
+    /// Makes recorded steps of a machine, with nothing seen of them. `watch` is a place for notes, which mean nothing
+    /// afterwards.
     fn pass_recorded(
         &mut self,
         machine: &mut Machine<NW, PAGES>,

@@ -1,4 +1,4 @@
-use Rattle.std.proofs.Common.{ap, ap₂, sym, ◌∙◌, ◌||◌}
+use Rattle.std.proofs.Common.{ap, ap₂, ◌∙◌, ◌||◌}
 use Rattle.sv8_notes.specs.Steps.{Steps, has_word}
 use Rattle.sv8_notes.specs.WordRuns.{words_of}
 use Rattle.sv8_notes.proofs.Firsts.{first_like}

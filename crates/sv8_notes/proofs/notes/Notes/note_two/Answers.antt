@@ -1,4 +1,4 @@
-use Rattle.std.proofs.Common.{[], ◌∷◌, ◌==◌, ap, ap₂, sym, subst, ◌∙◌, ne_eqb}
+use Rattle.std.proofs.Common.{[], ◌∷◌, ap, ap₂, sym, subst, ◌∙◌, ne_eqb}
 use Rattle.std.specs.Prelude.{if◌then◌else◌}
 use Rattle.sv8_model.specs.declared.touch.Touch.TheVariants.{Read, Write}
 use Rattle.sv8_model.specs.Footprint.{behind_fetch}
