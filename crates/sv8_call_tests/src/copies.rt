@@ -1,8 +1,12 @@
-//! A workbench and its copy: each goes on as if the other were not there.
+//! A workbench or a machine and its copy: each goes on as if the other were not there.
 
-use std::alloc::Global;
+use std::alloc::{AllocError, Global};
 use std::test::Fail;
 use sv8_bench::{Bench, BenchFault};
+use sv8_cpu::Machine;
+use sv8_model::Level;
+use sv8_phys::Page;
+use sv8_source::Source;
 
 /// A machine with one page of RAM, and a checkpoint every 256 steps.
 type Small = Bench<8, 1, 256>;
@@ -108,5 +112,49 @@ fn is_kept(alloc: Global, bench: &mut Small) -> Result<bool, Fail> {
 fn a_copy_goes_its_own_way(rt: HostRuntime) -> Result<(), Fail> {
     let mut bench = counting(rt.alloc())?;
     assert!(rt; is_kept(rt.alloc(), &mut bench)?);
+    Ok(())
+}
+
+/// Whether a machine shows a word that is put there with its page, and its copy does not.
+fn is_apart(
+    machine: &mut Machine<8, 1>,
+    copy: &Machine<8, 1>,
+    mut page: Page,
+    alloc: Global,
+) -> Result<bool, AllocError> {
+    page.set_word(0x100, 7)?;
+    machine.put_page(0, page)?;
+    Ok(machine.word(0x100) == 7 && copy.word(0x100) == 0 && copy.output(alloc)?.is_empty())
+}
+
+/// Whether levels 3 and 15 become pending in a machine and not in its copy, and level 3 is then taken back.
+fn has_own_levels(machine: &mut Machine<8, 1>, copy: &Machine<8, 1>) -> Option<bool> {
+    let low = Level::new(3)?;
+    let high = Level::new(15)?;
+    machine.set_pending(low, true);
+    machine.set_pending(high, true);
+    let both = machine.pending();
+    machine.set_pending(low, false);
+    let stays = machine.is_pending(high) && !machine.is_pending(low) && !copy.is_pending(high);
+    Some(stays && (both, machine.pending(), copy.pending()) == (0x8008, 0x8000, 0))
+}
+
+/// Whether a machine and its copy are kept apart.
+fn is_copied(machine: &mut Machine<8, 1>, alloc: Global) -> Result<bool, AllocError> {
+    let page = machine.page(0x100)?;
+    let copy = machine.snapshot(alloc)?;
+    Ok(is_apart(machine, &copy, page, alloc)? && has_own_levels(machine, &copy).unwrap_or(false))
+}
+
+/// A machine just reset, whose RAM is zeros.
+fn blank(alloc: Global) -> Result<Machine<8, 1>, AllocError> {
+    let source = Source::new(alloc, 4_096);
+    Machine::reset(alloc, &source)
+}
+
+#[test]
+fn a_copy_keeps_its_page_and_levels(rt: HostRuntime) -> Result<(), Fail> {
+    let mut machine = blank(rt.alloc())?;
+    assert!(rt; is_copied(&mut machine, rt.alloc())?);
     Ok(())
 }

@@ -101,7 +101,7 @@ fn changed(alloc: Global, machine: &Small) -> Result<Small, Fail> {
     let mut other = machine.snapshot(alloc)?;
     let mut page = other.page(0x1000)?;
     page.set_word(0x1008, 0x9abc_def0)?;
-    other.put_page(0x1000, page);
+    other.put_page(0x1000, page)?;
     Ok(other)
 }
 

@@ -3,12 +3,8 @@ pub mod State
 pub mod Sameness
 pub mod Run
 pub mod Recorded
-pub mod RecordedLaws
-pub mod Frames
 pub mod Touching
 pub mod Trapping
-pub mod Console
 pub mod Loading
 pub mod Work
 pub mod Whole
-pub mod Examples

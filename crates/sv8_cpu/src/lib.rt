@@ -2,7 +2,6 @@
 #![tactic(auto)]
 
 mod frequent;
-pub mod laws;
 mod loading;
 mod machine;
 mod parts;

@@ -1,6 +1,6 @@
 //! What is read of a machine, and what its keeper does with its state.
 
-ghost use Rattle.std.specs.Prelude.{◌≡◌, ◌<◌, ◌≤◌, ◌%◌, ◌/◌, ◌^◌, length, drop, false, option_map, IfOk, IfSome, MatchBool, slice_index_or, slice_set};
+ghost use Rattle.std.specs.Prelude.{◌≡◌, ◌<◌, ◌≤◌, ◌%◌, ◌/◌, ◌^◌, length, drop, false, option_map, IfOk, IfSome, MatchBool, slice_index_or, slice_set, OnOk, OnErr};
 ghost use Rattle.sv8_model.specs.Levels.{levels_word};
 ghost use Rattle.sv8_model.specs.Outside.{word_of};
 ghost use Rattle.sv8_time.specs.Schedule.{bytes_below};
@@ -240,12 +240,18 @@ impl<const NW: usize, const PAGES: usize> Machine<NW, PAGES> {
         self.parts.memory.phys().page(pa)
     }
 
-    /// Puts a page in the place of the page of RAM with an address. It takes no memory, and nothing else changes.
-    pub fn put_page(&mut self, pa: u32, page: Page)
+    /// Puts a page in the place of the page of RAM with an address. Nothing else changes.
+    ///
+    /// # Errors
+    ///
+    /// `AllocError` where pages are shared and memory for their handles cannot be had.
+    pub fn put_page(&mut self, pa: u32, page: Page) -> Result<(), AllocError>
         requires { pa < ram_size PAGES }
-        ensures { self.new ≡ record self.old { memory = record self.old.memory { ram = with_page self.old.memory.ram (pa / 4096) page } } }
+        ensures ok { OnOk result (self.new ≡ record self.old { memory = record self.old.memory { ram = with_page self.old.memory.ram (pa / 4096) page } }) }
+        ensures err { OnErr result (self.new ≡ self.old) }
     {
-        self.parts.memory.put_page(pa, page);
+        self.parts.memory.put_page(pa, page)?;
+        Ok(())
     }
 
     /// The same machine once more. RAM and the bytes put out are shared until they are written.

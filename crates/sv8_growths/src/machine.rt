@@ -40,7 +40,7 @@ fn is_as(alloc: Global, machine: &Small, word: u32) -> bool {
 fn change(machine: &mut Small, word: u32) -> Result<(), AllocError> {
     let mut page = machine.page(0x104)?.share()?;
     page.set_word(0x104, word)?;
-    machine.put_page(0x104, page);
+    machine.put_page(0x104, page)?;
     Ok(())
 }
 

@@ -4,10 +4,10 @@
 use std::alloc::{AllocError, Global};
 use sv8_phys::{Observation, Phys, Size, StepTouches, Touch, Touches};
 
-/// Memory of 66 pages, in two groups.
+/// Memory of 66 pages.
 type Memory = Phys<66>;
 
-/// Words that are looked at: two of the first page, one of another in its group, one of the other group.
+/// Words that are looked at: two of the first page, one of another page, one of the last page.
 const PLACES: [u32; 4] = [0x300, 0x304, 0x5000, 0x4_1ffc];
 
 /// Those words, and what was put out, which is unknown where no memory is left for it.
@@ -128,13 +128,18 @@ fn puts_out(alloc: Global, memory: &mut Memory, value: u64) -> bool {
     }
 }
 
-/// Puts the first page in the place of another, and tells whether the memory is then as it should be.
+/// Puts the first page in the place of another, where the pages are shared, and tells whether the memory is then as it should be.
 fn moves_page(alloc: Global, memory: &mut Memory) -> bool {
-    let Ok(page) = memory.page(0) else {
+    let before = look_at(alloc, memory);
+    let (Ok(page), Ok(_shared)) = (memory.page(0), memory.snapshot()) else {
         return true;
     };
-    memory.put_page(0x4_1000, page);
-    look_at(alloc, memory).words[3] == 0
+    let answer = memory.put_page(0x4_1000, page);
+    let after = look_at(alloc, memory);
+    match answer {
+        Ok(()) => after.words[3] == 0,
+        Err(_) => is_same(&before, &after),
+    }
 }
 
 /// Takes a snapshot, changes the memory, and tells whether both are as they should be.

@@ -252,20 +252,26 @@ impl<const PAGES: usize> Memory<PAGES> {
         self.physical.phys.set_pending(level, pending);
     }
 
-    /// Puts a page in the place of the page of RAM with an address. It takes no memory.
-    pub fn put_page(&mut self, pa: u32, page: Page)
+    /// Puts a page in the place of the page of RAM with an address.
+    ///
+    /// # Errors
+    ///
+    /// `AllocError` where pages are shared and memory for their handles cannot be had.
+    pub fn put_page(&mut self, pa: u32, page: Page) -> Result<(), AllocError>
         requires { pa < ram_size PAGES }
-        ensures { self.new ≡ record self.old { phys = record self.old.phys { ram = with_page self.old.phys.ram (pa / 4096) page } } }
+        ensures ok { OnOk result (self.new ≡ record self.old { phys = record self.old.phys { ram = with_page self.old.phys.ram (pa / 4096) page } }) }
+        ensures err { OnErr result (self.new ≡ self.old) }
     {
         self.buffer.clear();
-        self.physical.phys.put_page(pa, page);
+        self.physical.phys.put_page(pa, page)?;
+        Ok(())
     }
 
     /// The same memory once more, with an empty lookaside buffer. RAM and the bytes put out are shared.
     ///
     /// # Errors
     ///
-    /// `AllocError` where memory for the handles of the pages cannot be had.
+    /// `AllocError` where RAM or the output is shared as often as can be counted.
     pub fn snapshot(&self, alloc: Global) -> Result<Self, AllocError>
         ensures { IfOk result (λ m. m ≡ self.now) }
     {

@@ -9,7 +9,7 @@ use Rattle.sv8_time.specs.Schedule.{Schedule}
 use Rattle.sv8_phys.specs.Memory.{ram_size}
 use Rattle.sv8_cpu.specs.State.{State}
 use Rattle.sv8_cpu.specs.Run.{step}
-use Rattle.sv8_cpu.proofs.Common.{ram_stays_long}
+use Rattle.sv8_step_laws.proofs.Common.{ram_stays_long}
 use Rattle.sv8_bench.specs.Kept.{Kept}
 use Rattle.sv8_bench.specs.Shown.{machine_state}
 use Rattle.sv8_watch.specs.declared.condition.Condition.{Condition}

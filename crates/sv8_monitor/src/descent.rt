@@ -6,6 +6,7 @@ ghost use Rattle.sv8_monitor.specs.Search.{are_inside, found_at, is_wanted, risi
 
 use crate::evidence::show_none;
 use crate::found::Found;
+use crate::room::Room;
 use crate::search::search_up;
 use std::alloc::AllocError;
 use sv8_bench::Bench;
@@ -27,7 +28,8 @@ fn add_falling(found: &mut Vec<Found>, seen: &[Found], most: u32) -> Result<u32,
 }
 
 /// Adds the steps of an interval, which ends below a step, that meet a condition, from the last one down, and at most so many
-/// of them; answers how many more may follow. It makes no step where the notes show that none of them meets one.
+/// of them; answers how many more may follow. It makes no step where the notes show that none of them meets one. `seen` and
+/// `room` are places, what stands there means nothing.
 ///
 /// # Errors
 ///
@@ -39,6 +41,8 @@ fn search_interval<const NW: usize, const PAGES: usize, const K: u32>(
     end: u32,
     most: u32,
     found: &mut Vec<Found>,
+    seen: &mut Vec<Found>,
+    room: &mut Room,
 ) -> Result<u32, AllocError>
     requires ordered { start ≤ end }
     requires within { end ≤ 1000000 }
@@ -52,8 +56,8 @@ fn search_interval<const NW: usize, const PAGES: usize, const K: u32>(
     if show_none(bench, conditions, start, end) {
         return Ok(most);
     }
-    let mut seen = Vec::new(bench.alloc());
-    search_up(bench, conditions, start, end, end - start, &mut seen)?;
+    seen.clear();
+    search_up(bench, conditions, start, end, end - start, seen, room)?;
     let left = add_falling(found, seen.as_slice(), most)?;
     Ok(left)
 }
@@ -90,11 +94,15 @@ pub(crate) fn search_down<const NW: usize, const PAGES: usize, const K: u32>(
     ensures given_up { IsSought K from to bench.old bench.new }
 {
     bench.sizes();
+    let mut seen = Vec::new(bench.alloc());
+    let mut room = Room::new(bench.alloc());
     let mut end = from;
     let mut left = most;
     while end > to && left > 0 {
         let start = interval_start::<K>(end, to);
-        left = search_interval(bench, conditions, start, end, left, found)?;
+        left = search_interval(
+            bench, conditions, start, end, left, found, &mut seen, &mut room,
+        )?;
         end = start;
     }
     Ok(())

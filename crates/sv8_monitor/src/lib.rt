@@ -18,6 +18,7 @@ mod piece;
 mod plan;
 mod program;
 mod question;
+mod room;
 mod search;
 mod step_lines;
 mod window_lines;

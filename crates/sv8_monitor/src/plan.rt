@@ -219,6 +219,15 @@ impl Plan {
         }
     }
 
+    /// Lets go what is planned. The memory of the flags stays.
+    pub(crate) fn forget(&mut self)
+        ensures start { self.new.start ≡ 0 }
+        ensures empty { length self.new.flags.items ≡ 0 }
+    {
+        self.start = 0;
+        self.flags.clear();
+    }
+
     /// The step behind those that are planned.
     #[inline(always)]
     fn end(&self) -> u64

@@ -21,6 +21,7 @@ use crate::descent::search_down;
 use crate::found::Found;
 use crate::old_bytes::{look_again, look_at_old, old_count};
 use crate::plan::Plan;
+use crate::room::Room;
 use std::alloc::AllocError;
 use sv8_bench::{Bench, BenchFault, LAST_STEP, Walk};
 use sv8_cpu::Machine;
@@ -130,7 +131,8 @@ fn add_wanted<const NW: usize, const PAGES: usize>(
     Ok(left - 1)
 }
 
-/// Whether a step may meet one of some conditions, by the machines before and after it and by its notes.
+/// Whether a step may meet one of some conditions, by the machines before and after it and by its notes. `old` are the bytes
+/// that they compare with those of the machine behind it.
 #[inline(always)]
 fn may_meet_any<const NW: usize, const PAGES: usize>(
     n: u32,
@@ -139,19 +141,24 @@ fn may_meet_any<const NW: usize, const PAGES: usize>(
     after: &Machine<NW, PAGES>,
     watch: &Watch,
     conditions: &[Condition],
+    old: &[u8],
 ) -> bool
     requires few_windows { NW ≤ 32 }
     requires few_pages { PAGES ≤ 65536 }
     requires inside { are_inside (ram_size PAGES) conditions.now ≡ true }
-    ensures { (s : State) → IsStepFrom NW PAGES timeline.now n s before.now after.now watch.now → result ≡ false
-        → list_any (meets NW PAGES timeline.now n s) conditions.now ≡ false }
+    requires count { length old.now ≡ olds_count conditions.now }
+    ensures { (s : State) → IsStepFrom NW PAGES timeline.now n s before.now after.now watch.now → old.now ≡ olds_of conditions.now s.memory.ram
+        → result ≡ false → list_any (meets NW PAGES timeline.now n s) conditions.now ≡ false }
 {
     let mut rest = conditions;
+    let mut bytes = old;
     while let [first, others @ ..] = rest {
-        if first.may_be_met(n, timeline, before, after, watch) {
+        let (own, next) = bytes.split_at(old_count(*first) as usize);
+        if first.may_be_met(n, timeline, before, after, watch, own) {
             return true;
         }
         rest = others;
+        bytes = next;
     }
     false
 }
@@ -165,19 +172,21 @@ fn may_be_wanted<const NW: usize, const PAGES: usize>(
     after: &Machine<NW, PAGES>,
     watch: &Watch,
     conditions: &[Condition],
+    old: &[u8],
 ) -> bool
     requires few_windows { NW ≤ 32 }
     requires few_pages { PAGES ≤ 65536 }
     requires inside { are_inside (ram_size PAGES) conditions.now ≡ true }
-    ensures wanted { (s : State) → IsStepFrom NW PAGES timeline.now n s before.now after.now watch.now → result ≡ false
-        → meets_any NW PAGES timeline.now n s conditions.now ≡ false }
-    ensures bytes { (s : State) → IsStepFrom NW PAGES timeline.now n s before.now after.now watch.now → length s.memory.ram ≡ ram_size PAGES
-        → result ≡ false → olds_of conditions.now s.memory.ram ≡ olds_of conditions.now after.now.memory.ram }
+    requires count { length old.now ≡ olds_count conditions.now }
+    ensures wanted { (s : State) → IsStepFrom NW PAGES timeline.now n s before.now after.now watch.now → old.now ≡ olds_of conditions.now s.memory.ram
+        → result ≡ false → meets_any NW PAGES timeline.now n s conditions.now ≡ false }
+    ensures bytes { (s : State) → IsStepFrom NW PAGES timeline.now n s before.now after.now watch.now → old.now ≡ olds_of conditions.now s.memory.ram
+        → length s.memory.ram ≡ ram_size PAGES → result ≡ false → olds_of conditions.now s.memory.ram ≡ olds_of conditions.now after.now.memory.ram }
 {
     let _size = after.ram_size();
     match conditions {
         [] => true,
-        [_, ..] => may_meet_any(n, timeline, before, after, watch, conditions),
+        [_, ..] => may_meet_any(n, timeline, before, after, watch, conditions, old),
     }
 }
 
@@ -215,7 +224,16 @@ fn look<const NW: usize, const PAGES: usize, const K: u32>(
     let _size = walk.machine().ram_size();
     bench.walk_on(walk, watch)?;
     let after = walk.machine();
-    if !may_be_wanted(n, bench.timeline(), &before, after, watch, conditions) {
+    let bytes = old.as_slice();
+    if !may_be_wanted(
+        n,
+        bench.timeline(),
+        &before,
+        after,
+        watch,
+        conditions,
+        bytes,
+    ) {
         return Ok(left);
     }
     let rest = add_wanted(
@@ -226,7 +244,7 @@ fn look<const NW: usize, const PAGES: usize, const K: u32>(
         walk.machine(),
         watch,
         conditions,
-        old.as_slice(),
+        bytes,
         left,
     )?;
     if rest == left {
@@ -237,7 +255,7 @@ fn look<const NW: usize, const PAGES: usize, const K: u32>(
 }
 
 /// Makes the steps of a walk up to another one, which is recorded up to its last checkpoint, with nothing seen of them.
-#[inline(never)]
+#[inline(always)]
 fn pass_over<const NW: usize, const PAGES: usize, const K: u32>(
     bench: &mut Bench<NW, PAGES, K>,
     walk: &mut Walk<NW, PAGES>,
@@ -328,6 +346,7 @@ pub(crate) fn search_up<const NW: usize, const PAGES: usize, const K: u32>(
     to: u32,
     most: u32,
     found: &mut Vec<Found>,
+    room: &mut Room,
 ) -> Result<(), AllocError>
     requires ordered { from ≤ to }
     requires within { to ≤ 1000000 }
@@ -338,16 +357,21 @@ pub(crate) fn search_up<const NW: usize, const PAGES: usize, const K: u32>(
     ensures given_up { IsAbandoned K from to bench.old bench.new }
 {
     bench.sizes();
-    let alloc = bench.alloc();
-    let mut watch = Watch::new(alloc);
-    let mut walk = bench.walk(from, &mut watch)?;
-    let mut old = Vec::new(alloc);
-    look_at_old(&mut old, conditions, walk.machine())?;
-    let mut plan = Plan::new(alloc);
+    let mut walk = bench.walk(from, &mut room.watch)?;
+    look_at_old(&mut room.old, conditions, walk.machine())?;
+    room.plan.forget();
     let mut left = most;
     while walk.step() < to && left > 0 {
         left = go_on(
-            bench, &mut walk, &mut watch, &mut plan, conditions, &mut old, found, to, left,
+            bench,
+            &mut walk,
+            &mut room.watch,
+            &mut room.plan,
+            conditions,
+            &mut room.old,
+            found,
+            to,
+            left,
         )?;
     }
     Ok(())
@@ -406,7 +430,8 @@ fn search<const NW: usize, const PAGES: usize, const K: u32>(
         return Ok(found);
     }
     if from < to {
-        search_up(bench, conditions, from, to, most, &mut found)?;
+        let mut room = Room::new(bench.alloc());
+        search_up(bench, conditions, from, to, most, &mut found, &mut room)?;
         return Ok(found);
     }
     search_down(bench, conditions, from, to, most, &mut found)?;

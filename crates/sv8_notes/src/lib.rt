@@ -15,6 +15,7 @@ mod offsets;
 mod runs;
 mod step_notes;
 mod word_run;
+mod word_runs;
 
 pub use cell::{Cell, Content, level_numbered};
 pub use column::{LevelColumn, PageColumn, empty_places};

@@ -21,6 +21,7 @@ use crate::marks::Marks;
 use crate::offsets::{first_among, lesser, within};
 use crate::step_notes::TIMER_LEVEL;
 use crate::word_run::WordRun;
+use crate::word_runs::{are_in_runs, extend_last, first_of_runs, flag_runs};
 use std::alloc::{AllocError, Global};
 use std::marker::Model;
 use sv8_phys::{Touch, TouchKind};
@@ -103,17 +104,6 @@ fn first_of_word(notes: &[WordNote], address: u32, from: u32, end: u32) -> Optio
     found
 }
 
-/// The first step from one offset on and below another that reads a word of some runs.
-fn first_of_runs(runs: &[WordRun], address: u32, from: u32, end: u32) -> Option<u32>
-    ensures { IsFirstBelow (has_word (words_of runs.now) address) from end result }
-{
-    let mut found = None;
-    for run in runs {
-        found = lesser(found, run.first_of(address, from, end));
-    }
-    found
-}
-
 /// Whether a number is one of those from one to another.
 fn is_from_to(low: u32, last: u32, number: u32) -> bool
     ensures { result ≡ is_from_to low last number }
@@ -155,17 +145,6 @@ fn flag_notes(notes: &[WordNote], low: u32, last: u32, from: u32, flags: &mut [b
     }
 }
 
-/// Sets the flags of the steps of some runs.
-fn flag_runs(runs: &[WordRun], low: u32, last: u32, from: u32, flags: &mut [bool])
-    ensures { IsFlagged (λ i. are_notes_in low last (from + i) (from + i + 1) (words_of runs.now)) flags.old flags.new }
-{
-    let mut rest = runs;
-    while let [run, after @ ..] = rest {
-        run.flag(low, last, from, flags);
-        rest = after;
-    }
-}
-
 /// Whether one of some notes is.
 fn are_in(notes: &[WordNote], low: u32, last: u32, from: u32, end: u32) -> bool
     ensures { result ≡ are_notes_in low last from end notes.now }
@@ -173,20 +152,6 @@ fn are_in(notes: &[WordNote], low: u32, last: u32, from: u32, end: u32) -> bool
     let mut rest = notes;
     while let [note, after @ ..] = rest {
         if note.is_in(low, last, from, end) {
-            return true;
-        }
-        rest = after;
-    }
-    false
-}
-
-/// Whether one of the notes of some runs is.
-fn are_in_runs(runs: &[WordRun], low: u32, last: u32, from: u32, end: u32) -> bool
-    ensures { result ≡ are_notes_in low last from end (words_of runs.now) }
-{
-    let mut rest = runs;
-    while let [run, after @ ..] = rest {
-        if run.is_any_in(low, last, from, end) {
             return true;
         }
         rest = after;
@@ -202,19 +167,6 @@ fn note_word(notes: &mut Vec<WordNote>, address: u32, offset: u32) -> Result<(),
     notes.reserve(1)?;
     notes.push_reserved(WordNote { address, offset });
     Ok(())
-}
-
-/// Takes a word more into the last run, if it is the next one. Tells whether it was taken.
-#[inline(always)]
-fn extend_last(runs: &mut Vec<WordRun>, address: u32, offset: u32) -> bool
-    requires { offset < 1000000 }
-    ensures { MatchBool result (words_of runs.new.items ≡ words_of runs.old.items ++ record { address = address; offset = offset } ∷ []) (runs.new.items ≡ runs.old.items) }
-{
-    let count = runs.len();
-    if count == 0 {
-        return false;
-    }
-    runs[count - 1].extend(address, offset)
 }
 
 impl Notes {

@@ -70,7 +70,7 @@ fn diverge(memory: &mut Phys<2>) -> Result<bool, Fail> {
 fn exchange(memory: &mut Phys<2>) -> Result<bool, Fail> {
     let mut page = memory.page(0)?.share()?;
     page.set_word(0x20, 5)?;
-    memory.put_page(0x1000, page);
+    memory.put_page(0x1000, page)?;
     Ok(memory.word(0x1020) == 5 && memory.word(0x20) == 0)
 }
 

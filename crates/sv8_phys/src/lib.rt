@@ -4,6 +4,7 @@
 mod block;
 mod blocks;
 mod chunk;
+mod directory;
 mod fault;
 pub mod laws;
 mod levels;

@@ -207,7 +207,7 @@ impl<const PAGES: usize> Phys<PAGES> {
     ///
     /// # Errors
     ///
-    /// `AllocError` where memory for the handles of the pages cannot be had.
+    /// `AllocError` where RAM or the output is shared as often as can be counted.
     pub fn snapshot(&self) -> Result<Self, AllocError>
         ensures { IfOk result (λ m. m ≡ self.now) }
     {
@@ -234,11 +234,17 @@ impl<const PAGES: usize> Phys<PAGES> {
         self.ram.page(pa as usize)
     }
 
-    /// Puts a page in the place of the page of RAM with an address. It takes no memory.
-    pub fn put_page(&mut self, pa: u32, page: Page)
+    /// Puts a page in the place of the page of RAM with an address.
+    ///
+    /// # Errors
+    ///
+    /// `AllocError` where pages are shared and memory for their handles cannot be had.
+    pub fn put_page(&mut self, pa: u32, page: Page) -> Result<(), AllocError>
         requires { pa < ram_size PAGES }
-        ensures { self.new ≡ record self.old { ram = with_page self.old.ram (pa / 4096) page } }
+        ensures ok { OnOk result (self.new ≡ record self.old { ram = with_page self.old.ram (pa / 4096) page }) }
+        ensures err { OnErr result (self.new ≡ self.old) }
     {
-        self.ram.put_page(pa as usize, page);
+        self.ram.put_page(pa as usize, page)?;
+        Ok(())
     }
 }

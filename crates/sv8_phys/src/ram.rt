@@ -1,57 +1,33 @@
 //! RAM in pages.
 
-ghost use Rattle.std.specs.Prelude.{◌≡◌, ℕ, ◌+◌, ◌≤◌, ◌<◌, ◌*◌, ◌/◌, ◌%◌, ◌^◌, Some, length, replicate, slice_index_or, slice_set, vec_len, IfOk, IfSome, MatchOption, OnOk, OnErr};
+ghost use Rattle.std.specs.Prelude.{◌≡◌, ℕ, ◌+◌, ◌*◌, ◌≤◌, ◌<◌, ◌/◌, ◌%◌, ◌^◌, Some, length, replicate, slice_index_or, IfOk, IfSome, MatchOption, OnOk, OnErr};
 ghost use Rattle.sv8_phys.specs.Differences.{next_difference};
 ghost use Rattle.sv8_phys.specs.Memory.{bytes_in, ram_size, value_at, with_value, page_of, with_page};
-ghost use Rattle.sv8_phys.specs.Parts.{pages_of, part_at, part_of};
+ghost use Rattle.sv8_phys.specs.Parts.{part_of};
 
 use crate::block::{BLOCK_SIZE, Block};
-use crate::blocks::Blocks;
-use crate::page::{PAGE_SIZE, Page, write_copying, write_unshared};
+use crate::directory::{Directory, put_page, write};
+use crate::page::{PAGE_SIZE, Page};
 use crate::size::Size;
 use std::alloc::{AllocError, Global};
 use std::marker::Model;
 use std::rc::Rc;
 
-/// `PAGES` pages of RAM from address 0 on, each of which may be shared with snapshots, and so may its blocks.
+/// `PAGES` pages of RAM from address 0 on. The directory may be shared with snapshots, and so may each page and each block.
 #[derive(Drop)]
 pub(crate) struct Ram<const PAGES: usize> {
-    pages: Vec<Rc<Blocks>>,
+    directory: Rc<Directory<PAGES>>,
 }
 
 impl<const PAGES: usize> Model for Ram<PAGES> {
-    ghost use Rattle.std.specs.Prelude.{◌≡◌, List, ℕ, ◌≤◌, vec_len};
+    ghost use Rattle.std.specs.Prelude.{List, ℕ, ◌≤◌};
     ghost use Rattle.sv8_phys.specs.Parts.{all_bytes, pages_of};
 
     ghost Value = { List ℕ };
 
-    ghost view = { λ m. all_bytes 4096 PAGES (pages_of m.pages.items) };
+    ghost view = { λ m. all_bytes 4096 PAGES (pages_of m.directory.value.pages.items) };
 
-    ghost invariant = { λ m. (PAGES ≤ 65536) × (vec_len m.pages ≡ PAGES) };
-}
-
-/// Writes the low bytes of a number at a place in a page, which is copied first where it is shared.
-#[inline(always)]
-fn write_in(
-    pages: &mut Vec<Rc<Blocks>>,
-    page: usize,
-    at: usize,
-    size: Size,
-    value: u64,
-) -> Result<(), AllocError>
-    requires page { page < vec_len pages.old }
-    requires within { at < 4096 }
-    requires aligned { at % bytes_in size ≡ 0 }
-    ensures ok { OnOk result (pages_of pages.new.items ≡ slice_set (pages_of pages.old.items) page (with_value size at value (part_at (pages_of pages.old.items) page))) }
-    ensures err { OnErr result (pages_of pages.new.items ≡ pages_of pages.old.items) }
-    ensures len { vec_len pages.new ≡ vec_len pages.old }
-{
-    let handle = &mut pages[page];
-    if write_unshared(handle, at, size, value) {
-        return Ok(());
-    }
-    write_copying(handle, at, size, value)?;
-    Ok(())
+    ghost invariant = { λ m. PAGES ≤ 65536 };
 }
 
 impl<const PAGES: usize> Ram<PAGES> {
@@ -60,12 +36,8 @@ impl<const PAGES: usize> Ram<PAGES> {
         requires { PAGES ≤ 65536 }
         ensures { IfOk result (λ m. m ≡ replicate (ram_size PAGES) 0) }
     {
-        let zero = Rc::new(alloc, Blocks::zero(alloc)?)?;
-        let mut pages = Vec::with_capacity(alloc, PAGES)?;
-        for _place in 0..PAGES {
-            pages.push(zero.clone()?)?;
-        }
-        Ok(Ram { pages })
+        let directory = Rc::new(alloc, Directory::zero(alloc)?)?;
+        Ok(Ram { directory })
     }
 
     /// How many bytes there are.
@@ -76,7 +48,7 @@ impl<const PAGES: usize> Ram<PAGES> {
         ensures whole { length self.now ≡ ram_size PAGES }
         ensures bytes { (i : ℕ) → slice_index_or self.now i 0 < 256 }
     {
-        let _pages = &self.pages;
+        let _directory = &self.directory;
         PAGES * PAGE_SIZE
     }
 
@@ -86,7 +58,7 @@ impl<const PAGES: usize> Ram<PAGES> {
         requires { at < ram_size PAGES }
         ensures { result.now.bytes ≡ part_of 256 self.now (at / 256) }
     {
-        self.pages[at / PAGE_SIZE].block(at % PAGE_SIZE)
+        self.directory.pages[at / PAGE_SIZE].block(at % PAGE_SIZE)
     }
 
     /// The number at an address.
@@ -100,7 +72,7 @@ impl<const PAGES: usize> Ram<PAGES> {
         self.block(at).read(at % BLOCK_SIZE, size)
     }
 
-    /// Writes the low bytes of a number; what is shared of a page and of its block is copied first.
+    /// Writes the low bytes of a number; what is shared is copied first.
     #[inline(always)]
     pub(crate) fn write(&mut self, at: usize, size: Size, value: u64) -> Result<(), AllocError>
         requires within { at < ram_size PAGES }
@@ -108,16 +80,22 @@ impl<const PAGES: usize> Ram<PAGES> {
         ensures ok { OnOk result (self.new ≡ with_value size at value self.old) }
         ensures err { OnErr result (self.new ≡ self.old) }
     {
-        write_in(&mut self.pages, at / PAGE_SIZE, at % PAGE_SIZE, size, value)?;
+        write(
+            &mut self.directory,
+            at / PAGE_SIZE,
+            at % PAGE_SIZE,
+            size,
+            value,
+        )?;
         Ok(())
     }
 
-    /// The same RAM, sharing its pages.
+    /// The same RAM, sharing its directory.
     pub(crate) fn snapshot(&self) -> Result<Self, AllocError>
         ensures { IfOk result (λ m. m ≡ self.now) }
     {
-        let pages = self.pages.clone()?;
-        Ok(Ram { pages })
+        let directory = self.directory.clone()?;
+        Ok(Ram { directory })
     }
 
     /// The page of an address, shared.
@@ -125,16 +103,18 @@ impl<const PAGES: usize> Ram<PAGES> {
         requires { at < ram_size PAGES }
         ensures { IfOk result (λ p. p ≡ page_of self.now (at / 4096)) }
     {
-        let blocks = self.pages[at / PAGE_SIZE].clone()?;
+        let blocks = self.directory.pages[at / PAGE_SIZE].clone()?;
         Ok(Page::from_blocks(blocks))
     }
 
-    /// Puts a page in the place of that of an address.
-    pub(crate) fn put_page(&mut self, at: usize, page: Page)
+    /// Puts a page in the place of that of an address; a directory that is shared is copied first.
+    pub(crate) fn put_page(&mut self, at: usize, page: Page) -> Result<(), AllocError>
         requires { at < ram_size PAGES }
-        ensures { self.new ≡ with_page self.old (at / 4096) page }
+        ensures ok { OnOk result (self.new ≡ with_page self.old (at / 4096) page) }
+        ensures err { OnErr result (self.new ≡ self.old) }
     {
-        self.pages[at / PAGE_SIZE] = page.into_blocks();
+        put_page(&mut self.directory, at / PAGE_SIZE, page.into_blocks())?;
+        Ok(())
     }
 
     /// The address of the first word, from that at an address up to the end of its block, that is another one in a second RAM.

@@ -1,22 +1,21 @@
 //! Instructions, each from its mnemonic's shape and its operands: a function for each form.
 
-ghost use Rattle.std.specs.Prelude.{◌≡◌, Some};
-ghost use Rattle.sv8_syntax.specs.declared.statement.Instruction.TheVariants as instruction;
-ghost use Rattle.sv8_syntax.specs.Operand.{source_view, operand_view, operand_views};
+ghost use Rattle.sv8_syntax.specs.Operand.{operand_view, operand_views};
 ghost use Rattle.sv8_syntax.specs.Outcome.{Gives};
 ghost use Rattle.sv8_syntax.specs.Taking.{upper_in};
-ghost use Rattle.sv8_syntax.specs.Forms.{of_registers, small, with_source, with_place, with_bracketed, none_of, called, call_of, cleared, clear_of, branch_of, trap_of, unimp_of, test_of, not_of, negate_of, step_by_one, one_of, access, alternate_access, from_state, to_state, moved, mov_of, compared, sethi_of, jmpl_of, call_with_number, step_of, update_of, two_of, three_fields, shift_of, write_of, three_of, instruction_of};
+ghost use Rattle.sv8_syntax.specs.Forms.{none_of, called, call_of, cleared, clear_of, branch_of, trap_of, unimp_of, test_of, not_of, negate_of, step_by_one, one_of, access, alternate_access, from_state, to_state, moved, mov_of, compared, sethi_of, jmpl_of, call_with_number, step_of, update_of, two_of, three_fields, shift_of, write_of, three_of, instruction_of};
 
 use crate::fault::LineFault::{self, Syntax};
+use crate::format3::{format3, of_number, of_registers, with_bracketed, with_place, with_source};
 use crate::mnemonic::Shape;
 use crate::operand::{Address, ImmRef, Operand, RegOrImmRef};
 use crate::register::Register;
 use crate::statement::{Instruction, Operation};
 use crate::take::{
-    alternate_in, bracketed_in, count_in, expr_in, imm_in, is_bracketed, is_state, number_in,
-    place_in, register_in, source_in, starts_with_register, state_in, trap_in,
+    alternate_in, count_in, expr_in, imm_in, is_bracketed, is_state, number_in, register_in,
+    starts_with_register, state_in, trap_in,
 };
-use crate::value::{Expr, Imm, RegOrImm, Upper};
+use crate::value::{Expr, Upper};
 use std::alloc::Global;
 use sv8_isa::{ArithOp, Cond, MemoryOp, ShiftOp};
 
@@ -24,91 +23,6 @@ const OR: Operation = Operation::Arith {
     op: ArithOp::Or,
     cc: false,
 };
-
-fn format3(
-    alloc: Global,
-    op: Operation,
-    rd: Register,
-    rs1: Register,
-    source: RegOrImmRef<'_>,
-) -> Result<Instruction, LineFault>
-    ensures { Gives (λ i. i) result (Some (instruction.Format3 op rd rs1 (source_view source.entry))) }
-{
-    let source = source.owned(alloc)?;
-    Ok(Instruction::Format3 {
-        op,
-        rd,
-        rs1,
-        source,
-    })
-}
-
-/// An instruction with the second source that an operand is.
-#[tactic(auto, unfolding(crate::specs::Forms::with_source))]
-fn with_source(
-    alloc: Global,
-    op: Operation,
-    rd: Register,
-    rs1: Register,
-    operand: Operand<'_>,
-) -> Result<Instruction, LineFault>
-    ensures { Gives (λ i. i) result (with_source op rd rs1 (operand_view operand.entry)) }
-{
-    let source = source_in(operand).ok_or(Syntax)?;
-    format3(alloc, op, rd, rs1, source)
-}
-
-/// An instruction with the address that an operand is, without brackets.
-#[tactic(auto, unfolding(crate::specs::Forms::with_place))]
-fn with_place(
-    alloc: Global,
-    op: Operation,
-    rd: Register,
-    place: Operand<'_>,
-) -> Result<Instruction, LineFault>
-    ensures { Gives (λ i. i) result (with_place op rd (operand_view place.entry)) }
-{
-    let (rs1, source) = place_in(place).ok_or(Syntax)?;
-    format3(alloc, op, rd, rs1, source)
-}
-
-/// The same with an address in brackets.
-#[tactic(auto, unfolding(crate::specs::Forms::with_bracketed))]
-fn with_bracketed(
-    alloc: Global,
-    op: Operation,
-    rd: Register,
-    place: Operand<'_>,
-) -> Result<Instruction, LineFault>
-    ensures { Gives (λ i. i) result (with_bracketed op rd (operand_view place.entry)) }
-{
-    let (base, source) = bracketed_in(place).ok_or(Syntax)?;
-    format3(alloc, op, rd, base, source)
-}
-
-/// An instruction of registers alone.
-fn of_registers(op: Operation, rd: Register, rs1: Register, rs2: Register) -> Instruction
-    ensures { result ≡ of_registers op rd rs1 rs2 }
-{
-    Instruction::Format3 {
-        op,
-        rd,
-        rs1,
-        source: RegOrImm::Register(rs2),
-    }
-}
-
-/// An instruction whose second source is a small number.
-fn of_number(op: Operation, rd: Register, rs1: Register, number: u32) -> Instruction
-    ensures { result ≡ instruction.Format3 op rd rs1 (small number) }
-{
-    Instruction::Format3 {
-        op,
-        rd,
-        rs1,
-        source: RegOrImm::Immediate(Imm::Value(Expr::Number(number))),
-    }
-}
 
 /// `%hi(..)`, or an expression.
 #[tactic(auto, unfolding(crate::specs::Taking::upper_in))]

@@ -8,6 +8,7 @@
 mod directive;
 mod fault;
 mod form;
+mod format3;
 mod instruction;
 pub mod laws;
 mod lexer;

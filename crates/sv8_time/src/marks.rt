@@ -1,6 +1,6 @@
 //! The steps that may have events.
 
-ghost use Rattle.std.specs.Prelude.{◌≡◌, ℕ, ◌≤◌, ◌<◌, [], length, IfOk, OnOk, OnErr, true};
+ghost use Rattle.std.specs.Prelude.{◌≡◌, ℕ, ◌≤◌, ◌<◌, [], length, IfOk, OnOk, OnErr, true, false};
 ghost use Rattle.sv8_time.specs.Marks.{is_marked, Covers};
 
 use std::alloc::{AllocError, Global};
@@ -46,6 +46,19 @@ impl Marks {
             Some(flag) => *flag,
             None => false,
         }
+    }
+
+    /// Whether a step from one on and below another is marked.
+    pub(crate) fn has_any(&self, from: u32, to: u32) -> bool
+        ensures { result ≡ false → (step : ℕ) → from ≤ step → step < to → is_marked self.now step ≡ false }
+    {
+        let end = self.flags.len().min(to as usize);
+        for step in from as usize..end {
+            if self.flags[step] {
+                return true;
+            }
+        }
+        false
     }
 
     /// Makes room for the mark of a step.

@@ -1,6 +1,6 @@
 //! The timeline.
 
-ghost use Rattle.std.specs.Prelude.{◌≡◌, ◌<◌, ◌≤◌, [], length, false, None, Some, OnOk, OnErr, IfOk, IfErr, IfSome, nat_le, slice_get};
+ghost use Rattle.std.specs.Prelude.{◌≡◌, ℕ, ◌<◌, ◌≤◌, [], length, false, None, Some, OnOk, OnErr, IfOk, IfErr, IfSome, nat_le, slice_get};
 ghost use Rattle.sv8_time.specs.Schedule.{Schedule, with_poke, without_poke, with_poke_byte, without_poke_byte, with_input, without_input, with_request, without_request, set_poke_fault, clear_poke_fault, set_poke_byte_fault, clear_poke_byte_fault, set_input_fault, clear_input_fault, set_request_fault, clear_request_fault, pokes_of_step, bytes_of_step, requests_of_step, poke_after, request_after, bytes_below, input_bytes, has_poke, poked_at, has_word, has_input, has_request, event_count, request_before, input_before, IsRefused, IsNextPoke, IsNextRequest, IsRequestPlace, IsTimeline};
 ghost use Rattle.sv8_time.specs.Words.{bytes_of_words, word_before, IsWordIn};
 ghost use Rattle.sv8_time.specs.Order.{Each, Rising};
@@ -310,6 +310,15 @@ impl Timeline {
         ensures requests { result ≡ false → requests_of_step step self.now.requests ≡ [] }
     {
         self.marks.has(step)
+    }
+
+    /// The same of the steps from one on and below another.
+    pub fn may_have_events_between(&self, from: u32, to: u32) -> bool
+        ensures pokes { result ≡ false → (step : ℕ) → from ≤ step → step < to → pokes_of_step step self.now.pokes ≡ [] }
+        ensures bytes { result ≡ false → (step : ℕ) → from ≤ step → step < to → bytes_of_step step self.now.inputs ≡ [] }
+        ensures requests { result ≡ false → (step : ℕ) → from ≤ step → step < to → requests_of_step step self.now.requests ≡ [] }
+    {
+        self.marks.has_any(from, to)
     }
 
     /// What is always known of a timeline. It does nothing.

@@ -1,6 +1,6 @@
 pub mod Places
 pub mod Standing
 pub mod Sparing
-pub mod Reaching
+pub mod Accesses
 pub mod Running
 pub mod Quiet

@@ -13,7 +13,7 @@ use Rattle.sv8_phys.specs.Ends.{IsEnd}
 use Rattle.sv8_cpu.specs.State.{State}
 use Rattle.sv8_cpu.specs.Run.{step, observed}
 use Rattle.sv8_cpu.specs.Trapping.{is_at_trap, is_at_trap_of, may_have_trapped, may_have_trapped_of, IsNoTrap, IsNoTrapOf}
-use Rattle.sv8_cpu.proofs.Common.{traps_lead_there, trap_types_lead_there}
+use Rattle.sv8_step_laws.proofs.Common.{traps_lead_there, trap_types_lead_there}
 use Rattle.sv8_watch.specs.Happening.{happening, outcome_of, trap_in, byte_taken}
 use Rattle.sv8_watch.specs.declared.condition.Condition.{Condition}
 use Rattle.sv8_watch.specs.declared.condition.Condition.TheVariants as condition

@@ -18,7 +18,7 @@ use Rattle.sv8_phys.specs.Memory.{ram_size}
 use Rattle.sv8_cpu.specs.State.{State}
 use Rattle.sv8_cpu.specs.Run.{step, footprint, observed}
 use Rattle.sv8_cpu.specs.Touching.{touches_byte, AreUntouched, SparesBytes, IsOfData, IsUntranslated, IsInterrupted}
-use Rattle.sv8_cpu.proofs.Common.{touched_is, spared_bytes_stay, accesses_are_data, fetches_touch, annulled_steps_pass}
+use Rattle.sv8_step_laws.proofs.Common.{touched_is, spared_bytes_stay, accesses_are_data, fetches_touch, annulled_steps_pass}
 use Rattle.sv8_watch.specs.declared.condition.Condition.TheVariants as condition
 use Rattle.sv8_watch.specs.declared.span.Span.{Span}
 use Rattle.sv8_watch.specs.Happening.{access_in, trap_in, outcome_of, happening}

@@ -1,10 +1,7 @@
 -- Conditions that a step does not meet where it leaves some bytes of RAM alone.
-use Rattle.std.specs.Prelude.{◌≡◌, ℕ, ◌+◌, ◌%◌, ◌≤◌, ◌==◌, ◌&&◌, Bool, false, nat_le, nat_lt, Option, Some, None, if◌then◌else◌}
-use Rattle.sv8_model.specs.declared.touch.Touch.{Touch}
-use Rattle.sv8_model.specs.declared.touch.Touch.TheVariants.{Read, Write, Input, Levels, Expiry}
+use Rattle.std.specs.Prelude.{◌≡◌, ℕ, ◌+◌, ◌%◌, ◌≤◌, ◌==◌, false, Option, Some, None, if◌then◌else◌}
 use Rattle.sv8_model.specs.declared.touch.TouchKind.{TouchKind}
 use Rattle.sv8_model.specs.declared.touch.TouchKind.TheVariants.{Any, Data}
-use Rattle.sv8_model.specs.Outside.{word_address}
 use Rattle.sv8_time.specs.Schedule.{Schedule}
 use Rattle.sv8_phys.specs.Memory.{ram_size}
 use Rattle.sv8_cpu.specs.State.{State}
@@ -53,18 +50,6 @@ kind_of condition.Input = Any
 kind_of condition.Output = Any
 kind_of condition.Event = Any
 kind_of (condition.Every number) = Any
-
--- an address is from the first word of some bytes to the last of the bytes
-abbrev pub is_reached_from : Span → ℕ → Bool
-is_reached_from span word = nat_le (word_address span.address) word && nat_lt word (span.address + span.count)
-
--- a touch is of such an address
-abbrev pub reaches : Span → Touch → Bool
-reaches span (Read word) = is_reached_from span word
-reaches span (Write word) = is_reached_from span word
-reaches span Input = false
-reaches span (Levels levels) = false
-reaches span Expiry = false
 
 -- ---- laws
 

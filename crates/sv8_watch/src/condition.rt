@@ -1,11 +1,9 @@
 //! Conditions on a step.
 
-ghost use Rattle.std.specs.Prelude.{◌≡◌, ℕ, ◌≤◌, ◌+◌, false, List, length, IfSome};
+ghost use Rattle.std.specs.Prelude.{◌≡◌, ◌≤◌, ◌+◌, false, length};
 ghost use Rattle.sv8_phys.specs.Memory.{ram_size};
 ghost use Rattle.sv8_cpu.specs.State.{State};
-ghost use Rattle.sv8_cpu.specs.Run.{footprint};
 ghost use Rattle.sv8_watch.specs.Watched.{IsBefore, IsStepFrom, happening_of};
-ghost use Rattle.sv8_watch.specs.Touching.{span_of};
 ghost use Rattle.sv8_watch.specs.Conditions.{overlap, loads, stores, accesses, is_interrupt, is_reached, is_trap, is_trap_of, is_error, is_touched, differ_from, is_met, meets, AreOld, IsWithin};
 
 use crate::happening::{Access, Outcome};
@@ -187,21 +185,9 @@ fn is_other_end(before: OutputPlace, after: OutputPlace) -> bool
 }
 
 impl Condition {
-    /// Whether a step may touch the word of one of the bytes that the condition is about, or its events poke one of them.
-    #[inline(always)]
-    fn may_be_reached(self, n: u32, timeline: &Timeline, touches: &[Touch]) -> bool
-        ensures { (windows pages : ℕ) (s : State) → pages ≤ 65536 → touches.now ≡ footprint windows pages timeline.now n s
-            → IfSome (span_of self) (λ span. span.address + span.count ≤ ram_size pages) → result ≡ false → meets windows pages timeline.now n s self ≡ false }
-    {
-        match self.span() {
-            Some(span) => span.is_reached(touches) || timeline.may_have_events(n),
-            None => true,
-        }
-    }
-
     /// Whether a step may meet the condition, by what was kept of the machine before it, by the machine after it, and by its
     /// notes: where the answer is false, the step does not. It takes less time than `is_met`. That the answer is false
-    /// wherever it could be is no part of the contract: true costs time alone.
+    /// wherever it could be is no part of the contract: true costs time alone. `old` are as for `is_met`.
     #[inline(always)]
     pub fn may_be_met<const NW: usize, const PAGES: usize>(
         self,
@@ -210,11 +196,12 @@ impl Condition {
         before: &Before,
         after: &Machine<NW, PAGES>,
         watch: &Watch,
+        old: &[u8],
     ) -> bool
         requires few_windows { NW ≤ 32 }
         requires few_pages { PAGES ≤ 65536 }
-        requires inside { IfSome (span_of self) (λ span. span.address + span.count ≤ ram_size PAGES) }
-        ensures { (s : State) → IsStepFrom NW PAGES timeline.now n s before.now after.now watch.now → result ≡ false
+        requires within { IsWithin (ram_size PAGES) self old.now }
+        ensures { (s : State) → IsStepFrom NW PAGES timeline.now n s before.now after.now watch.now → AreOld self old.now s → result ≡ false
             → meets NW PAGES timeline.now n s self ≡ false }
     {
         match self {
@@ -231,9 +218,8 @@ impl Condition {
             Condition::Output => is_other_end(before.put, after.output_end()),
             Condition::Event => timeline.may_have_events(n),
             Condition::Every(number) => number > 0 && n % number == 0,
-            Condition::Touch(_) | Condition::Change { .. } => {
-                self.may_be_reached(n, timeline, watch.touches())
-            }
+            Condition::Touch(address) => is_touched(address, watch.touches()),
+            Condition::Change { address, .. } => differ(old, address, after),
         }
     }
 

@@ -1,54 +1,16 @@
 //! The bytes of RAM that a condition is about.
 
 ghost use Rattle.std.specs.Prelude.{◌≡◌};
-ghost use Rattle.std.specs.List.{list_any};
-ghost use Rattle.sv8_watch.specs.Touching.{some_bytes, word_span, span_of, kind_of, is_reached_from, reaches};
+ghost use Rattle.sv8_watch.specs.Touching.{some_bytes, word_span, span_of, kind_of};
 
 use crate::condition::Condition;
-use sv8_phys::{Touch, TouchKind};
+use sv8_phys::TouchKind;
 
 /// So many bytes of RAM from a physical address on.
 #[derive(Clone, Copy, PartialEq, Eq, Debug)]
 pub struct Span {
     pub address: u32,
     pub count: u32,
-}
-
-impl Span {
-    /// Whether an address is from the first word of the bytes to the last of them.
-    #[inline(always)]
-    fn has_word(self, word: u32) -> bool
-        ensures { result ≡ is_reached_from self word }
-    {
-        self.address / 4 * 4 <= word
-            && u64::from(word) < u64::from(self.address) + u64::from(self.count)
-    }
-
-    /// Whether a touch is of such an address.
-    #[inline(always)]
-    fn is_reached_by(self, touch: Touch) -> bool
-        ensures { result ≡ reaches self touch }
-    {
-        match touch {
-            Touch::Read(word) | Touch::Write(word) => self.has_word(word),
-            Touch::Input | Touch::Levels(_) | Touch::Expiry => false,
-        }
-    }
-
-    /// Whether one of some touches is. Where none is, none of them is of a word of these bytes.
-    #[inline(always)]
-    pub(crate) fn is_reached(self, touches: &[Touch]) -> bool
-        ensures { result ≡ list_any (reaches self) touches.now }
-    {
-        let mut rest = touches;
-        while let [first, others @ ..] = rest {
-            if self.is_reached_by(*first) {
-                return true;
-            }
-            rest = others;
-        }
-        false
-    }
 }
 
 /// So many bytes from an address on, if any.

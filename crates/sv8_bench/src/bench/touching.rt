@@ -56,10 +56,14 @@ fn words_poke(words: &[WordPoke], address: u32, count: u32) -> bool
     false
 }
 
-/// Whether the events of a step from one on and below another poke one of so many bytes. A step without events is one look at a flag.
+/// Whether the events of a step from one on and below another poke one of so many bytes. Steps without events are one look at a
+/// flag each.
 fn pokes_between(timeline: &Timeline, address: u32, count: u32, from: u32, to: u32) -> bool
     ensures { MatchBool result (NonePokes timeline.now address count from to → ⊥) (NonePokes timeline.now address count from to) }
 {
+    if !timeline.may_have_events_between(from, to) {
+        return false;
+    }
     for n in from..to {
         let events = timeline.events(n);
         if words_poke(events.pokes, address, count) {
@@ -74,6 +78,10 @@ fn flag_poking(timeline: &Timeline, address: u32, count: u32, from: u32, flags: 
     requires within { from + length flags.old ≤ 1000000 }
     ensures { IsFlagged (λ i. pokes_at timeline.now address count (from + i)) flags.old flags.new }
 {
+    let end = from + flags.len() as u32;
+    if !timeline.may_have_events_between(from, end) {
+        return;
+    }
     for place in 0..flags.len() {
         let events = timeline.events(from + place as u32);
         if words_poke(events.pokes, address, count) {

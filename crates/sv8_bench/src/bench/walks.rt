@@ -217,6 +217,7 @@ impl<const NW: usize, const PAGES: usize, const K: u32> Bench<NW, PAGES, K> {
 
     /// Makes recorded steps of a machine, with nothing seen of them. `watch` is a place for notes, which mean nothing
     /// afterwards.
+    #[inline(always)]
     fn pass_recorded(
         &mut self,
         machine: &mut Machine<NW, PAGES>,

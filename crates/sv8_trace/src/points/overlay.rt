@@ -126,7 +126,7 @@ fn put_page_of<const NW: usize, const PAGES: usize>(
     ensures { OnOk result (machine.new ≡ pages_from page (Some column.now ∷ []) index machine.old) }
 {
     if index < column.len() {
-        machine.put_page(4096 * page as u32, column.share(index)?);
+        machine.put_page(4096 * page as u32, column.share(index)?)?;
     }
     Ok(())
 }

@@ -1,9 +1,10 @@
-use Rattle.std.proofs.Common.{◌≡◌, ◌∙◌, ◌-◌, ◌++◌, inl, inr, length, map, take, reverse, refl, ap, arith}
+use Rattle.std.proofs.Common.{◌≡◌, ◌∙◌, ◌⊎◌, ◌≤◌, ◌-◌, ◌++◌, inl, inr, length, map, take, reverse, refl, ap, arith}
 use Rattle.sv8_bench.specs.Kept.{Kept}
 use Rattle.sv8_monitor.specs.Search.{found_at, is_wanted, rising, falling, sought_to}
 use Rattle.sv8_monitor.proofs.Falling.{falling_next, sought_next, all_fallen, lowest_sought}
 use Rattle.sv8_monitor.proofs.Sought.{divided, within_interval, interval_sought, sought_down, sought_abandoned}
 use Rattle.sv8_monitor.proofs.descent.search_down.Goals as goal
+use Rattle.sv8_monitor.proofs.descent.search_down.Goals.{then-loop-end-test+else-left-gt0, else-loop-end-test}
 
 pub loop-end-init : goal.loop-end-init
 loop-end-init g c = record {
@@ -59,17 +60,21 @@ returns-in_err-left-clause-given_up g c =
     sought_abandoned g.row.K c.args.from c.args.to c.sizes.ensures.some_steps c.loop-end.end c.interval_start-start.result c.args.bench.now c.loop-end.bench c.search_interval.new.bench
     c.loop-end-test.true inv.high c.interval_start-start.ensures inv.kept inv.fewest inv.most inv.down c.in_err-left.ensures.given_up
 
-pub returns-else-left-gt0-clause-found : goal.returns-else-left-gt0-clause-found
-returns-else-left-gt0-clause-found g c =
+pub returns-clause-found : goal.returns-clause-found
+returns-clause-found g c =
     let inv = c.loop-end.invariant in
     let kept = c.args.bench.now.kept in
-    all_fallen (is_wanted kept c.args.conditions.now) c.args.to c.loop-end.end c.loop-end.left inv.low (inr (omega arith)) (found_at kept) c.loop-end.found.items _ inv.found
+    let done : (c.loop-end.end ≤ c.args.to) ⊎ (c.loop-end.left ≡ 0) =
+    elim c.loop-end-test.branch [ then-loop-end-test+else-left-gt0 w ↦ inr (omega arith) | else-loop-end-test w ↦ inl (omega arith) ] in
+    all_fallen (is_wanted kept c.args.conditions.now) c.args.to c.loop-end.end c.loop-end.left inv.low done (found_at kept) c.loop-end.found.items _ inv.found
 
-pub returns-else-left-gt0-clause-sought : goal.returns-else-left-gt0-clause-sought
-returns-else-left-gt0-clause-sought g c =
+pub returns-clause-sought : goal.returns-clause-sought
+returns-clause-sought g c =
     let inv = c.loop-end.invariant in
     let wanted = is_wanted c.args.bench.now.kept c.args.conditions.now in
     let to = c.args.to in
     let lowest = sought_to wanted to (c.args.from - to) c.args.most in
+    let done : (c.loop-end.end ≤ to) ⊎ (c.loop-end.left ≡ 0) =
+    elim c.loop-end-test.branch [ then-loop-end-test+else-left-gt0 w ↦ inr (omega arith) | else-loop-end-test w ↦ inl (omega arith) ] in
     sought_down g.row.K c.args.from to c.sizes.ensures.some_steps c.loop-end.end lowest c.args.bench.now c.loop-end.bench inv.kept inv.fewest inv.most
-    (lowest_sought wanted to c.loop-end.end c.loop-end.left inv.low (inr (omega arith)) g.row.K lowest inv.sought) inv.down
+    (lowest_sought wanted to c.loop-end.end c.loop-end.left inv.low done g.row.K lowest inv.sought) inv.down

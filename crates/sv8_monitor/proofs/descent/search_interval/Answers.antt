@@ -13,7 +13,7 @@ returns-clause-found g c =
     let size = c.args.end - c.args.start in
     let steps = rising (is_wanted kept c.args.conditions.now) c.args.start size size in
     let seen : c.as_slice.result.now ≡ [] ++ map (found_at kept) steps =
-    c.as_slice.ensures.value ∙ c.in_ok-search_up.ensures.found ∙ ap (λ (xs : List Found). xs ++ map (found_at kept) steps) c.new-seen.ensures.items in
+    c.as_slice.ensures.value ∙ c.in_ok-search_up.ensures.found ∙ ap (λ (xs : List Found). xs ++ map (found_at kept) steps) c.clear.ensures.items in
     c.in_ok-left.ensures.found ∙ ap (λ (xs : List Found). c.args.found.now.items ++ xs) (turned_found (found_at kept) steps c.as_slice.result.now c.args.most seen)
 
 pub returns-clause-sought : goal.returns-clause-sought

@@ -28,7 +28,7 @@ returns-then-not-may_be_wanted-clause-added g c =
     (c.machine-after.ensures ∙ there) c.in_ok-walk_on.ensures.touches c.in_ok-walk_on.ensures.observations c.step-n.ensures timeline sizes.windows sizes.pages in
     let missed : c.may_be_wanted.result ≡ false = search rules in
     not_added kept n c.step-n.result g.row.NW g.row.PAGES c.timeline.result.now c.args.conditions.now c.args.left c.args.found.now.items c.step-n.ensures timeline
-    sizes.windows sizes.pages (c.may_be_wanted.ensures.wanted s made_from missed)
+    sizes.windows sizes.pages (c.may_be_wanted.ensures.wanted s made_from (c.as_slice-bytes.ensures.value ∙ c.requires.bytes) missed)
 
 pub returns-then-not-may_be_wanted-clause-bytes : goal.returns-then-not-may_be_wanted-clause-bytes
 returns-then-not-may_be_wanted-clause-bytes g c =
@@ -47,7 +47,7 @@ returns-then-not-may_be_wanted-clause-bytes g c =
     (c.machine-after.ensures ∙ there) c.in_ok-walk_on.ensures.touches c.in_ok-walk_on.ensures.observations c.step-n.ensures timeline sizes.windows sizes.pages in
     let missed : c.may_be_wanted.result ≡ false = search rules in
     let size = ap (λ (x : State). length x.memory.ram) (sym (c.machine-2.ensures ∙ c.requires.walk.state)) ∙ c.ram_size-size.ensures.contents.size in
-    c.requires.bytes ∙ c.may_be_wanted.ensures.bytes s made_from size missed
+    c.requires.bytes ∙ c.may_be_wanted.ensures.bytes s made_from (c.as_slice-bytes.ensures.value ∙ c.requires.bytes) size missed
     ∙ ap (λ (x : State). olds_of c.args.conditions.now x.memory.ram) (c.machine-after.ensures ∙ there)
 
 pub returns-clause-added : goal.returns-clause-added
@@ -61,7 +61,7 @@ returns-clause-added g c =
     let walk = c.in_ok-walk_on.ensures.walk in
     let there : state_in c.walk_on.new.walk.place ≡ machine_state kept (n + 1) =
     walk.state ∙ ap (λ (k : Kept). machine_state k c.walk_on.new.walk.step) made.kept ∙ ap (machine_state kept) c.in_ok-walk_on.ensures.step in
-    let added = c.in_ok-rest.ensures s before (c.as_slice.ensures.value ∙ c.requires.bytes) in
+    let added = c.in_ok-rest.ensures s before (c.as_slice-bytes.ensures.value ∙ c.requires.bytes) in
     subst (λ (o : Option Found). IsAdded o c.args.left c.args.found.now.items c.add_wanted.new.found.items c.in_ok-rest.rest)
     (looked_found kept n c.step-n.result c.timeline-2.result.now c.machine-3.result.now c.walk_on.new.watch.observations c.walk_on.new.watch.touches
     c.args.conditions.now _ c.step-n.ensures (c.timeline-2.ensures ∙ ap (λ (k : Kept). k.timeline) made.kept)
@@ -78,7 +78,7 @@ returns-then-rest-left-clause-added g c =
     let walk = c.in_ok-walk_on.ensures.walk in
     let there : state_in c.walk_on.new.walk.place ≡ machine_state kept (n + 1) =
     walk.state ∙ ap (λ (k : Kept). machine_state k c.walk_on.new.walk.step) made.kept ∙ ap (machine_state kept) c.in_ok-walk_on.ensures.step in
-    let added = c.in_ok-rest.ensures s before (c.as_slice.ensures.value ∙ c.requires.bytes) in
+    let added = c.in_ok-rest.ensures s before (c.as_slice-bytes.ensures.value ∙ c.requires.bytes) in
     subst (λ (o : Option Found). IsAdded o c.args.left c.args.found.now.items c.add_wanted.new.found.items c.in_ok-rest.rest)
     (looked_found kept n c.step-n.result c.timeline-2.result.now c.machine-3.result.now c.walk_on.new.watch.observations c.walk_on.new.watch.touches
     c.args.conditions.now _ c.step-n.ensures (c.timeline-2.ensures ∙ ap (λ (k : Kept). k.timeline) made.kept)

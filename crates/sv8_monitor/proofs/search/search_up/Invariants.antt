@@ -11,11 +11,11 @@ invariant-loop-bench g l = record {
   begun : l.from ≤ l.walk.step;
   below : l.walk.step ≤ l.to;
   searched : IsSearched g.row.K l.from l.walk.step l.fn.bench l.bench;
-  bytes : l.old.items ≡ olds_of l.conditions (machine_state l.fn.bench.kept l.walk.step).memory.ram;
-  count : length l.old.items ≡ olds_count l.conditions;
-  plan : IsPlan g.row.K l.bench l.conditions l.plan.start l.plan.flags.items;
-  planned : l.plan.start ≤ l.walk.step;
-  low : l.plan.start + length l.plan.flags.items ≤ 1000000;
+  bytes : l.room.old.items ≡ olds_of l.conditions (machine_state l.fn.bench.kept l.walk.step).memory.ram;
+  count : length l.room.old.items ≡ olds_count l.conditions;
+  plan : IsPlan g.row.K l.bench l.conditions l.room.plan.start l.room.plan.flags.items;
+  planned : l.room.plan.start ≤ l.walk.step;
+  low : l.room.plan.start + length l.room.plan.flags.items ≤ 1000000;
   found : l.found.items ++ map (found_at l.fn.bench.kept) (rising (is_wanted l.fn.bench.kept l.conditions) l.walk.step (l.to - l.walk.step) l.left)
       ≡ l.fn.found.items ++ map (found_at l.fn.bench.kept) (rising (is_wanted l.fn.bench.kept l.conditions) l.from (l.to - l.from) l.most);
   looked : looked_to (is_wanted l.fn.bench.kept l.conditions) l.walk.step (l.to - l.walk.step) l.left ≡ looked_to (is_wanted l.fn.bench.kept l.conditions) l.from (l.to - l.from) l.most;

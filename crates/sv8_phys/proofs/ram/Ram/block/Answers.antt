@@ -1,4 +1,5 @@
 use Rattle.std.proofs.Common.{◌<◌, ◌/◌, ◌%◌, sym, ap, ◌∙◌, length, arith}
+use Rattle.sv8_phys.specs.declared.directory.Directory.{Directory}
 use Rattle.sv8_phys.specs.Parts.{pages_of, page_bytes, part_of, all_bytes}
 use Rattle.sv8_phys.proofs.AllBytes.{part_of-all}
 use Rattle.sv8_phys.proofs.BlockLemmas.{page_long, page_behind, block_of_page}
@@ -10,10 +11,12 @@ returns g c =
     let n = g.row.PAGES in
     let at = c.args.at in
     let p = at / 4096 in
-    let handles = c.self.inside.pages.items in
-    let in_handles : p < length handles = omega (arith, c.self.invariant) in
+    let directory = c.deref.result.now in
+    let handles = directory.pages.items in
+    let in_handles : p < length handles = omega (arith, directory.all) in
     c.block.ensures
-    ∙ ap (λ page. part_of 256 page (at % 4096 / 256)) (ap page_bytes c.deref.ensures ∙ page_behind handles p c.index.result.now in_handles c.index.ensures
+    ∙ ap (λ page. part_of 256 page (at % 4096 / 256)) (ap page_bytes c.deref-2.ensures ∙ page_behind handles p c.index.result.now in_handles c.index.ensures
     ∙ sym (part_of-all 4096 of_page n (pages_of handles) p (omega arith) (page_long handles p in_handles)))
     ∙ block_of_page (all_bytes 4096 n (pages_of handles)) at
+    ∙ ap (λ (d : Directory n). part_of 256 (all_bytes 4096 n (pages_of d.pages.items)) (at / 256)) c.deref.ensures
     ∙ ap (λ ram. part_of 256 ram (at / 256)) c.self.view_is

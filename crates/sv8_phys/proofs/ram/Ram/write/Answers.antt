@@ -11,8 +11,9 @@ pub returns-clause-ok : goal.returns-clause-ok
 returns-clause-ok g c =
     let n = g.row.PAGES in
     let at = c.args.at in
-    let handles = c.self.inside.pages.items in
-    let in_handles : at / 4096 < length handles = omega (arith, c.self.invariant) in
-    ap (all_bytes 4096 n) c.in_ok-write_in.ensures.ok
-    ∙ written 4096 of_page n (pages_of handles) c.args.size at c.args.value c.requires.within (simp length-map (omega (arith, c.self.invariant))) c.requires.aligned (page_long handles (at / 4096) in_handles)
+    let directory = c.self.inside.directory.value in
+    let handles = directory.pages.items in
+    let in_handles : at / 4096 < length handles = omega (arith, directory.all) in
+    ap (all_bytes 4096 n) c.in_ok-write.ensures.ok
+    ∙ written 4096 of_page n (pages_of handles) c.args.size at c.args.value c.requires.within (simp length-map (omega (arith, directory.all))) c.requires.aligned (page_long handles (at / 4096) in_handles)
     ∙ ap (with_value c.args.size at c.args.value) c.self.view_is

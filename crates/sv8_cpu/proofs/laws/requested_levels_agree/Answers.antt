@@ -1,5 +1,0 @@
-use Rattle.sv8_cpu.proofs.Frames.{requested_levels_agree}
-use Rattle.sv8_cpu.proofs.laws.requested_levels_agree.Goals as goal
-
-pub returns : goal.returns
-returns c = requested_levels_agree

@@ -1,5 +1,0 @@
-use Rattle.sv8_cpu.proofs.Frames.{sets_frame}
-use Rattle.sv8_cpu.proofs.laws.sets_frame.Goals as goal
-
-pub returns : goal.returns
-returns c = sets_frame

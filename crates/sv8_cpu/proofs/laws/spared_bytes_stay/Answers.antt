@@ -1,5 +1,0 @@
-use Rattle.sv8_cpu.proofs.Data.{spared_bytes_stay}
-use Rattle.sv8_cpu.proofs.laws.spared_bytes_stay.Goals as goal
-
-pub returns : goal.returns
-returns c = spared_bytes_stay

@@ -1,0 +1,11 @@
+pub mod Frames
+pub mod WholeSteps
+pub mod Touched
+pub mod Seen
+pub mod Fetched
+pub mod Trapping
+pub mod Console
+pub mod Spared
+pub mod FirstTouch
+pub mod Data
+pub mod Common

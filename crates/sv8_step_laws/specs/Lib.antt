@@ -1,0 +1,4 @@
+pub mod RecordedLaws
+pub mod Frames
+pub mod Console
+pub mod Examples
