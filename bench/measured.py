@@ -74,6 +74,10 @@ class Pair:
         words = self.interpreted + [str(step) for step in steps]
         return processor_time(self.words, self.script(steps)), processor_time(words, b"")
 
+    def plain_seconds(self, last, runs):
+        """The processor seconds that the steps up to the last one take in plain Rust, the least of several."""
+        return min(self.times([last])[1] for _ in range(runs)) - min(self.times([0])[1] for _ in range(runs))
+
 
 def processor_time(words, text):
     with open("/dev/null", "w") as nowhere:

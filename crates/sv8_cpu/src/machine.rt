@@ -197,7 +197,7 @@ impl<const NW: usize, const PAGES: usize> Model for Machine<NW, PAGES> {
 
 impl<const NW: usize, const PAGES: usize> Machine<NW, PAGES> {
     /// The machine after reset (chapter 7), with the image of a source in its RAM over zeros: PC 0, nPC 4, S = 1
-    /// and ET = 0, and every other register 0. RAM shares one page of zeros where no line places a byte.
+    /// and ET = 0, and every other register 0. RAM shares pages of zeros where no line places a byte.
     ///
     /// # Errors
     ///

@@ -53,7 +53,7 @@ impl<const PAGES: usize> Model for Phys<PAGES> {
 }
 
 impl<const PAGES: usize> Phys<PAGES> {
-    /// Memory of zeros, all of whose pages are one, with devices at rest.
+    /// Memory of zeros, whose pages share what they can, with devices at rest.
     ///
     /// # Errors
     ///

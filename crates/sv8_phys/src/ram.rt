@@ -31,7 +31,7 @@ impl<const PAGES: usize> Model for Ram<PAGES> {
 }
 
 impl<const PAGES: usize> Ram<PAGES> {
-    /// RAM of zeros, all of whose pages are one.
+    /// RAM of zeros, whose pages share what they can.
     pub(crate) fn new(alloc: Global) -> Result<Self, AllocError>
         requires { PAGES ≤ 65536 }
         ensures { IfOk result (λ m. m ≡ replicate (ram_size PAGES) 0) }
