@@ -1,7 +1,7 @@
 -- A trap leads into error mode, or to the address in TBR, whose tt is its type; nothing else is seen as one.
-use Rattle.std.proofs.Common.{◌≡◌, ◌≢◌, ◌⊎◌, inl, inr, ℕ, ◌+◌, ◌*◌, ◌/◌, ◌%◌, ◌^◌, ◌==◌, Bool, true, false, cond, nat_lt, List, [], ◌∷◌, Result, Ok, Err, Option, Some, None, refl, sym, ◌∙◌, ap, subst, arith}
+use Rattle.std.proofs.Common.{◌≡◌, ◌≢◌, ◌⊎◌, inl, inr, ℕ, ◌+◌, ◌%◌, ◌^◌, ◌==◌, Bool, true, false, cond, nat_lt, List, [], ◌∷◌, Result, Ok, Err, Option, Some, None, refl, sym, ◌∙◌, ap, subst, arith}
 use Rattle.std.specs.Prelude.{not, ◌&&◌, ◌||◌}
-use Rattle.std.proofs.Math.Bool.{or-true, and-false}
+use Rattle.std.proofs.Math.Bool.{or-true}
 use Rattle.std.proofs.lemmas.Bool.{false≢true, cases_eq}
 use Rattle.std.proofs.lemmas.Bool.Decides.{nat_tests}
 use Rattle.sv8_isa.specs.declared.instr.Instr.{Instr}
@@ -46,7 +46,7 @@ use Rattle.sv8_memory.specs.Access.{access_seen, observed, takes_byte, counts_by
 use Rattle.sv8_cpu.specs.State.{inner_of}
 use Rattle.sv8_cpu.specs.Step.{Inner, observed_trap, executed, fetched, finished_access, instruction, continued, requested, interruptible, awake, action}
 use Rattle.sv8_cpu.specs.Run as run
-use Rattle.sv8_cpu.specs.Trapping.{is_at_trap, is_at_trap_of, trap_type_of, may_have_trapped_of, IsNoTrap, IsNoTrapOf, TrapsLeadThere, TrapTypesLeadThere}
+use Rattle.sv8_cpu.specs.Trapping.{is_at_trap, is_at_trap_of, trap_type_of, IsNoTrap, IsNoTrapOf, TrapsLeadThere, TrapTypesLeadThere}
 use Rattle.sv8_step_laws.proofs.Seen.{Silent, silent_done, silent_if, silent_then, silent_outside_load, silent_outside_store, silent_probe, silent_tick, silent_translate}
 
 -- ---- actions of which no trap is seen

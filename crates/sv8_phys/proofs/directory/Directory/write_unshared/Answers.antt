@@ -1,4 +1,4 @@
-use Rattle.std.proofs.Common.{ℕ, List, [], ap, ◌∙◌, length, arith}
+use Rattle.std.proofs.Common.{ℕ, List, [], ap, ◌∙◌, arith}
 use Rattle.std.specs.declared.rc.Rc.{Rc}
 use Rattle.std.specs.declared.alloc.Global.{Global}
 use Rattle.sv8_phys.specs.declared.blocks.Blocks.{Blocks}
