@@ -1,10 +1,12 @@
 -- RAM in pages and pages in blocks: lists of bytes in parts of equal size, behind their handles.
-use Rattle.std.specs.Prelude.{ℕ, ◌+◌, ◌*◌, ◌/◌, ◌%◌, List, [], ◌++◌, map, take, drop, slice_index, slice_index_or}
+use Rattle.std.specs.Prelude.{ℕ, ◌+◌, ◌*◌, ◌/◌, ◌%◌, List, [], ◌++◌, map, take, drop, slice_index, slice_index_or, slice_set}
 use Rattle.std.specs.List.{range_with_len}
 use Rattle.std.specs.declared.rc.Rc.{Rc}
 use Rattle.std.specs.declared.alloc.Global.{Global}
 use Rattle.sv8_phys.specs.declared.block.Block.{Block}
 use Rattle.sv8_phys.specs.declared.blocks.Blocks.{Blocks}
+use Rattle.sv8_phys.specs.declared.size.Size.{Size}
+use Rattle.sv8_phys.specs.Memory.{with_value}
 
 -- part number p
 abbrev pub part_at : List (List ℕ) → ℕ → List ℕ
@@ -33,3 +35,7 @@ page_bytes page = all_bytes 256 16 (blocks_of page.blocks)
 -- the bytes of each page
 abbrev pub pages_of : List (Rc Blocks Global) → List (List ℕ)
 pages_of handles = map (λ h. page_bytes h.value) handles
+
+-- pages with the low bytes of a number at a place of one of them
+abbrev pub with_value_in : List (List ℕ) → ℕ → Size → ℕ → ℕ → List (List ℕ)
+with_value_in pages page size at value = slice_set pages page (with_value size at value (part_at pages page))

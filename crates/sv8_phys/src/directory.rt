@@ -1,8 +1,8 @@
 //! The directory of RAM: the handles of its pages, which a snapshot shares as one.
 
 ghost use Rattle.std.specs.Prelude.{◌≡◌, ◌<◌, ◌%◌, replicate, slice_set, vec_len, IfOk, OnOk, OnErr, MatchBool};
-ghost use Rattle.sv8_phys.specs.Memory.{bytes_in, with_value};
-ghost use Rattle.sv8_phys.specs.Parts.{page_bytes, pages_of, part_at};
+ghost use Rattle.sv8_phys.specs.Memory.{bytes_in};
+ghost use Rattle.sv8_phys.specs.Parts.{page_bytes, pages_of, with_value_in};
 
 use crate::blocks::Blocks;
 use crate::page;
@@ -50,8 +50,8 @@ impl<const PAGES: usize> Clone for Directory<PAGES> {
 
 impl<const PAGES: usize> Directory<PAGES> {
     ghost use Rattle.std.specs.Prelude.{◌≡◌, ◌<◌, ◌%◌, slice_set, replicate, IfOk, OnOk, OnErr, MatchBool};
-    ghost use Rattle.sv8_phys.specs.Memory.{bytes_in, with_value};
-    ghost use Rattle.sv8_phys.specs.Parts.{page_bytes, pages_of, part_at};
+    ghost use Rattle.sv8_phys.specs.Memory.{bytes_in};
+    ghost use Rattle.sv8_phys.specs.Parts.{page_bytes, pages_of, with_value_in};
 
     /// Pages of zeros.
     pub(crate) fn zero(alloc: Global) -> Result<Directory<PAGES>, AllocError>
@@ -72,7 +72,7 @@ impl<const PAGES: usize> Directory<PAGES> {
         requires within { at < 4096 }
         requires aligned { at % bytes_in size ≡ 0 }
         ensures { MatchBool result
-            (pages_of self.new.pages.items ≡ slice_set (pages_of self.old.pages.items) page (with_value size at value (part_at (pages_of self.old.pages.items) page)))
+            (pages_of self.new.pages.items ≡ with_value_in (pages_of self.old.pages.items) page size at value)
             (pages_of self.new.pages.items ≡ pages_of self.old.pages.items) }
     {
         let handle = &mut self.pages[page];
@@ -90,7 +90,7 @@ impl<const PAGES: usize> Directory<PAGES> {
         requires page { page < PAGES }
         requires within { at < 4096 }
         requires aligned { at % bytes_in size ≡ 0 }
-        ensures ok { OnOk result (pages_of self.new.pages.items ≡ slice_set (pages_of self.old.pages.items) page (with_value size at value (part_at (pages_of self.old.pages.items) page))) }
+        ensures ok { OnOk result (pages_of self.new.pages.items ≡ with_value_in (pages_of self.old.pages.items) page size at value) }
         ensures err { OnErr result (pages_of self.new.pages.items ≡ pages_of self.old.pages.items) }
     {
         let handle = &mut self.pages[page];
@@ -120,7 +120,7 @@ fn write_unshared<const PAGES: usize>(
     requires within { at < 4096 }
     requires aligned { at % bytes_in size ≡ 0 }
     ensures { MatchBool result
-        (pages_of directory.new.value.pages.items ≡ slice_set (pages_of directory.old.value.pages.items) page (with_value size at value (part_at (pages_of directory.old.value.pages.items) page)))
+        (pages_of directory.new.value.pages.items ≡ with_value_in (pages_of directory.old.value.pages.items) page size at value)
         (pages_of directory.new.value.pages.items ≡ pages_of directory.old.value.pages.items) }
 {
     match Rc::get_mut(directory) {
@@ -140,7 +140,7 @@ fn write_copying<const PAGES: usize>(
     requires page { page < PAGES }
     requires within { at < 4096 }
     requires aligned { at % bytes_in size ≡ 0 }
-    ensures ok { OnOk result (pages_of directory.new.value.pages.items ≡ slice_set (pages_of directory.old.value.pages.items) page (with_value size at value (part_at (pages_of directory.old.value.pages.items) page))) }
+    ensures ok { OnOk result (pages_of directory.new.value.pages.items ≡ with_value_in (pages_of directory.old.value.pages.items) page size at value) }
     ensures err { OnErr result (pages_of directory.new.value.pages.items ≡ pages_of directory.old.value.pages.items) }
 {
     let owned = Rc::make_mut(directory)?;
@@ -161,7 +161,7 @@ pub(crate) fn write<const PAGES: usize>(
     requires page { page < PAGES }
     requires within { at < 4096 }
     requires aligned { at % bytes_in size ≡ 0 }
-    ensures ok { OnOk result (pages_of directory.new.value.pages.items ≡ slice_set (pages_of directory.old.value.pages.items) page (with_value size at value (part_at (pages_of directory.old.value.pages.items) page))) }
+    ensures ok { OnOk result (pages_of directory.new.value.pages.items ≡ with_value_in (pages_of directory.old.value.pages.items) page size at value) }
     ensures err { OnErr result (pages_of directory.new.value.pages.items ≡ pages_of directory.old.value.pages.items) }
 {
     if write_unshared(directory, page, at, size, value) {
