@@ -1,5 +1,5 @@
 -- The bytes of all parts, in order.
-use Rattle.std.proofs.Common.{◌≡◌, ◌≢◌, refl, inl, inr, ℕ, ◌+◌, ◌-◌, ◌*◌, ◌/◌, ◌%◌, ◌<◌, ◌≤◌, List, [], ◌++◌, length, get_or, set, take, drop, replicate, sym, ap, subst, ◌∙◌, arith, get_or-set_same, get_or-set_other, length-append}
+use Rattle.std.proofs.Common.{◌≡◌, ◌≢◌, refl, inl, inr, ℕ, zero, suc, ◌+◌, ◌-◌, ◌*◌, ◌/◌, ◌%◌, ◌<◌, ◌≤◌, List, [], ◌∷◌, ◌++◌, length, get_or, set, take, drop, replicate, sym, ap, subst, ◌∙◌, arith, get_or-set_same, get_or-set_other, length-append}
 use Rattle.std.proofs.lemmas.Bool.{cases_eq, cases_lt}
 use Rattle.std.proofs.lemmas.Grind.{same_number_lists}
 use Rattle.std.proofs.lemmas.List.{length-replicate, get_or-replicate, get_or-take, get_or-drop, get_or_append_left, get_or-append_right, get_or_past, length-take-le, length-drop}
@@ -148,24 +148,72 @@ each-all size s n parts fit a = elim (cases_lt a (size * n)) [
   | inr above ↦ subst IsByte (sym (get_or_past (all_bytes size n parts) a 0 (omega (arith, length-all size s n parts)))) (omega arith)
 ]
 
--- parts that are the same make the same bytes
-pub same-all : (size : ℕ) (s : IsSize size) (n : ℕ) (parts others : List (List ℕ)) → ((p : ℕ) → p < n → part_at parts p ≡ part_at others p) → all_bytes size n parts ≡ all_bytes size n others
-same-all size s n parts others same =
+-- ---- parts with the same bytes
+
+-- parts that read alike make the same bytes
+pub alike-all : (size : ℕ) (s : IsSize size) (n : ℕ) (parts others : List (List ℕ)) → ((p i : ℕ) → p < n → get_or (part_at parts p) i 0 ≡ get_or (part_at others p) i 0)
+    → all_bytes size n parts ≡ all_bytes size n others
+alike-all size s n parts others alike =
     same_number_lists _ _ (length-all size s n parts ∙ sym (length-all size s n others)) (λ a below.
     let a_in : a < size * n = omega (arith, length-all size s n parts) in
     get_or-all size s n parts a a_in
-    ∙ ap (λ bs. get_or bs (a % size) 0) (same (a / size) (s.below n a a_in))
+    ∙ alike (a / size) (a % size) (s.below n a a_in)
     ∙ sym (get_or-all size s n others a a_in))
 
+pub same-all : (size : ℕ) (s : IsSize size) (n : ℕ) (parts others : List (List ℕ)) → ((p : ℕ) → p < n → part_at parts p ≡ part_at others p) → all_bytes size n parts ≡ all_bytes size n others
+same-all size s n parts others same = alike-all size s n parts others (λ p i below. ap (λ bs. get_or bs i 0) (same p below))
+
+abbrev zeros : ℕ → List ℕ
+zeros n = replicate n 0
+
+-- a byte of zeros is 0, and so is one behind them
+zero_byte : (n i : ℕ) → get_or (zeros n) i 0 ≡ 0
+zero_byte n i = elim (cases_lt i n) [
+  | inl below ↦ get_or-replicate n i 0 0 below
+  | inr past ↦ get_or_past (zeros n) i 0 (subst (λ k. k ≤ i) (sym (length-replicate n 0)) past)
+]
+
+-- a part of zeros reads as one that is not there
+one_more : (parts : List (List ℕ)) (n p i : ℕ) → get_or (part_at (parts ++ zeros n ∷ []) p) i 0 ≡ get_or (part_at parts p) i 0
+one_more [] n zero i = zero_byte n i
+one_more [] n (suc p) i = refl
+one_more (part ∷ parts) n zero i = refl
+one_more (part ∷ parts) n (suc p) i = one_more parts n p i
+
+-- a part of zeros more
+pub more-all : (size : ℕ) (s : IsSize size) (n : ℕ) (parts : List (List ℕ)) → all_bytes size n (parts ++ zeros size ∷ []) ≡ all_bytes size n parts
+more-all size s n parts = alike-all size s n (parts ++ zeros size ∷ []) parts (λ p i below. one_more parts size p i)
+
+-- no parts
+pub none-all : (size : ℕ) (s : IsSize size) (n : ℕ) → all_bytes size n [] ≡ replicate (size * n) 0
+none-all size s n =
+    same_number_lists _ _ (length-all size s n [] ∙ sym (length-replicate (size * n) 0)) (λ a below.
+    get_or-all size s n [] a (omega (arith, length-all size s n [])) ∙ sym (zero_byte (size * n) a))
+
+-- a part that is not there
+pub missing-all : (size : ℕ) (s : IsSize size) (n : ℕ) (parts : List (List ℕ)) (p : ℕ) → p < n → length parts ≤ p → part_of size (all_bytes size n parts) p ≡ replicate size 0
+missing-all size s n parts p p_in past =
+    let all = all_bytes size n parts in
+    let next = s.next p n p_in in
+    let rest : length (drop (size * p) all) ≡ size * n - size * p = length-drop (size * p) all ∙ ap (λ k. k - size * p) (length-all size s n parts) in
+    let long : length (part_of size all p) ≡ size = length-take-le size (drop (size * p) all) (omega arith) in
+    same_number_lists _ _ (long ∙ sym (length-replicate size 0)) (λ i below.
+    let i_in : i < size = omega arith in
+    get_or-take size (drop (size * p) all) i 0 i_in
+    ∙ get_or-drop (size * p) all i 0
+    ∙ get_or-all_at size s n parts p i (size * p + i) p_in i_in refl
+    ∙ ap (λ bs. get_or bs i 0) (get_or_past parts p [] past)
+    ∙ sym (zero_byte size i))
+
 -- a number put at an address, written in the part that it falls in
-pub written : (size : ℕ) (s : IsSize size) (n : ℕ) (parts : List (List ℕ)) (width : Size) (a v : ℕ) → a < size * n → n ≤ length parts → a % bytes_in width ≡ 0
+pub written : (size : ℕ) (s : IsSize size) (n : ℕ) (parts : List (List ℕ)) (width : Size) (a v : ℕ) → a < size * n → a / size < length parts → a % bytes_in width ≡ 0
     → length (part_at parts (a / size)) ≡ size
     → all_bytes size n (set parts (a / size) (with_value width (a % size) v (part_at parts (a / size)))) ≡ with_value width a v (all_bytes size n parts)
-written size s n parts width a v below enough aligned long =
+written size s n parts width a v below there aligned long =
     let p = a / size in
     let all = all_bytes size n parts in
     let p_in : p < n = s.below n a below in
     let bytes = with_value width (a % size) v (part_at parts p) in
-    with_part-all size s parts p bytes (omega arith) n p_in (length-with_value width (a % size) v (part_at parts p) ∙ long)
+    with_part-all size s parts p bytes there n p_in (length-with_value width (a % size) v (part_at parts p) ∙ long)
     ∙ ap (λ part. with_part size all p (with_value width (a % size) v part)) (sym (part_of-all size s n parts p p_in long))
     ∙ put_in_part size s a v all width aligned

@@ -100,9 +100,9 @@ block_written page width at value d new below aligned e =
     let handles = page.blocks in
     let p = at / 256 in
     let in_handles : p < length handles = omega (arith, page.all) in
-    let long : 16 ≤ length (blocks_of handles) = simp length-map (omega (arith, page.all)) in
+    let there : p < length (blocks_of handles) = simp length-map in_handles in
     ap (all_bytes 256 16) (changed (λ (h : Rc Block Global). h.value.bytes) handles p d new [] (with_value width (at % 256) value) in_handles e)
-    ∙ written 256 of_block 16 (blocks_of handles) width at value below long aligned (block_long handles p in_handles)
+    ∙ written 256 of_block 16 (blocks_of handles) width at value below there aligned (block_long handles p in_handles)
 
 -- a block that holds what it held leaves its page
 pub block_kept : (page : Blocks) (p : ℕ) (d new : Rc Block Global) → new.value.bytes ≡ (get_or page.blocks p d).value.bytes

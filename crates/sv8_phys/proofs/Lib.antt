@@ -5,6 +5,7 @@ pub mod Sizes
 pub mod OnePart
 pub mod AllBytes
 pub mod BlockLemmas
+pub mod PageLemmas
 pub mod Difference
 pub mod Bits
 pub mod Telling

@@ -1,12 +1,12 @@
 -- RAM in pages and pages in blocks: lists of bytes in parts of equal size, behind their handles.
-use Rattle.std.specs.Prelude.{ℕ, ◌+◌, ◌*◌, ◌/◌, ◌%◌, List, [], ◌++◌, map, take, drop, slice_index, slice_index_or, slice_set}
+use Rattle.std.specs.Prelude.{◌≡◌, ℕ, ◌+◌, ◌*◌, ◌/◌, ◌%◌, ◌<◌, List, [], ◌++◌, map, take, drop, slice_index, slice_index_or}
 use Rattle.std.specs.List.{range_with_len}
 use Rattle.std.specs.declared.rc.Rc.{Rc}
 use Rattle.std.specs.declared.alloc.Global.{Global}
 use Rattle.sv8_phys.specs.declared.block.Block.{Block}
 use Rattle.sv8_phys.specs.declared.blocks.Blocks.{Blocks}
 use Rattle.sv8_phys.specs.declared.size.Size.{Size}
-use Rattle.sv8_phys.specs.Memory.{with_value}
+use Rattle.sv8_phys.specs.Memory.{ram_size, with_value, with_page}
 
 -- part number p
 abbrev pub part_at : List (List ℕ) → ℕ → List ℕ
@@ -36,6 +36,20 @@ page_bytes page = all_bytes 256 16 (blocks_of page.blocks)
 abbrev pub pages_of : List (Rc Blocks Global) → List (List ℕ)
 pages_of handles = map (λ h. page_bytes h.value) handles
 
--- pages with the low bytes of a number at a place of one of them
-abbrev pub with_value_in : List (List ℕ) → ℕ → Size → ℕ → ℕ → List (List ℕ)
-with_value_in pages page size at value = slice_set pages page (with_value size at value (part_at pages page))
+-- the bytes of so many pages of RAM, of which those behind the last handle are of zeros
+abbrev pub ram_bytes : ℕ → List (Rc Blocks Global) → List ℕ
+ram_bytes pages handles = all_bytes 4096 pages (pages_of handles)
+
+-- ---- what becomes of the handles of pages, for however many pages there are
+
+-- RAM has the bytes that it had
+abbrev pub IsSame : List (Rc Blocks Global) → List (Rc Blocks Global) → Type 0
+IsSame old new = (pages : ℕ) → ram_bytes pages new ≡ ram_bytes pages old
+
+-- the low bytes of a number are written at an address
+abbrev pub IsWritten : Size → ℕ → ℕ → List (Rc Blocks Global) → List (Rc Blocks Global) → Type 0
+IsWritten size at value old new = (pages : ℕ) → at < ram_size pages → ram_bytes pages new ≡ with_value size at value (ram_bytes pages old)
+
+-- a page is put in the place of another one
+abbrev pub IsPut : ℕ → Blocks → List (Rc Blocks Global) → List (Rc Blocks Global) → Type 0
+IsPut page blocks old new = (pages : ℕ) → page < pages → ram_bytes pages new ≡ with_page (ram_bytes pages old) page (page_bytes blocks)

@@ -1,187 +1,173 @@
 //! The directory of RAM: the handles of its pages, which a snapshot shares as one.
 
-ghost use Rattle.std.specs.Prelude.{◌≡◌, ◌<◌, ◌%◌, replicate, slice_set, vec_len, IfOk, OnOk, OnErr, MatchBool};
+ghost use Rattle.std.specs.Prelude.{◌≡◌, ◌%◌, OnOk, OnErr, MatchBool};
 ghost use Rattle.sv8_phys.specs.Memory.{bytes_in};
-ghost use Rattle.sv8_phys.specs.Parts.{page_bytes, pages_of, with_value_in};
+ghost use Rattle.sv8_phys.specs.Parts.{IsPut, IsSame, IsWritten};
 
 use crate::blocks::Blocks;
-use crate::page;
+use crate::page::{self, PAGE_SIZE};
 use crate::size::Size;
+use crate::zeros::Zeros;
 use std::alloc::{AllocError, Global};
 use std::rc::Rc;
 
-/// How many pages of zeros a directory of zeros has, one in every sixteenth place each.
+/// The pages of RAM from address 0 on, up to the last one that was written. Each may be shared with other directories until
+/// it is written. All pages behind them are of zeros.
 ///
-/// A copy of the directory counts up for each handle. Where all handles were of one page, each would wait for the count
-/// of the one before it.
-const ZEROS: usize = 16;
-
-/// The pages of RAM, from address 0 on, each of which may be shared with other directories until it is written.
+/// So a copy of the directory costs no more than the part of RAM that a program needs.
 #[derive(Drop)]
-pub(crate) struct Directory<const PAGES: usize> {
+pub(crate) struct Directory {
     pub(crate) pages: Vec<Rc<Blocks>>,
-    ghost all: { vec_len pages ≡ PAGES },
 }
 
-/// Pages of zeros, which share their blocks.
-fn zeros(alloc: Global) -> Result<Vec<Rc<Blocks>>, AllocError>
-    ensures len { IfOk result (λ zeros. vec_len zeros ≡ 16) }
-    ensures pages { IfOk result (λ zeros. pages_of zeros.items ≡ replicate 16 (replicate 4096 0)) }
-{
-    let page = Blocks::zero(alloc)?;
-    let mut zeros = Vec::with_capacity(alloc, ZEROS)?;
-    for _place in 0..ZEROS {
-        zeros.push(Rc::new(alloc, page.clone()?)?)?;
-    }
-    Ok(zeros)
-}
-
-impl<const PAGES: usize> Clone for Directory<PAGES> {
+impl Clone for Directory {
     ghost use Rattle.std.specs.Prelude.{◌≡◌};
     ghost use Rattle.sv8_phys.specs.Parts.{pages_of};
 
     ghost is_clone = { λ directory copy. pages_of copy.pages.items ≡ pages_of directory.pages.items };
 
-    fn clone(&self) -> Result<Directory<PAGES>, AllocError> {
+    fn clone(&self) -> Result<Directory, AllocError> {
         let pages = self.pages.clone()?;
         Ok(Directory { pages })
     }
 }
 
-impl<const PAGES: usize> Directory<PAGES> {
-    ghost use Rattle.std.specs.Prelude.{◌≡◌, ◌<◌, ◌%◌, slice_set, replicate, IfOk, OnOk, OnErr, MatchBool};
+impl Directory {
+    ghost use Rattle.std.specs.Prelude.{◌≡◌, ◌<◌, ◌%◌, [], length, OnOk, OnErr, MatchBool};
     ghost use Rattle.sv8_phys.specs.Memory.{bytes_in};
-    ghost use Rattle.sv8_phys.specs.Parts.{page_bytes, pages_of, with_value_in};
+    ghost use Rattle.sv8_phys.specs.Parts.{IsPut, IsSame, IsWritten};
 
-    /// Pages of zeros.
-    pub(crate) fn zero(alloc: Global) -> Result<Directory<PAGES>, AllocError>
-        ensures { IfOk result (λ directory. pages_of directory.pages.items ≡ replicate PAGES (replicate 4096 0)) }
+    /// Of RAM that is all zeros. It takes no memory.
+    pub(crate) fn new(alloc: Global) -> Directory
+        ensures { result.pages.items ≡ [] }
     {
-        let zeros = zeros(alloc)?;
-        let mut pages = Vec::with_capacity(alloc, PAGES)?;
-        for place in 0..PAGES {
-            pages.push(zeros[place % ZEROS].clone()?)?;
+        Directory {
+            pages: Vec::new(alloc),
         }
-        Ok(Directory { pages })
     }
 
-    /// Writes the low bytes of a number at a place in a page, unless the page or its block is shared.
-    #[inline(always)]
-    fn write_unshared(&mut self, page: usize, at: usize, size: Size, value: u64) -> bool
-        requires page { page < PAGES }
-        requires within { at < 4096 }
-        requires aligned { at % bytes_in size ≡ 0 }
-        ensures { MatchBool result
-            (pages_of self.new.pages.items ≡ with_value_in (pages_of self.old.pages.items) page size at value)
-            (pages_of self.new.pages.items ≡ pages_of self.old.pages.items) }
+    /// Makes places for the pages up to one.
+    fn reach(&mut self, zeros: &Zeros, page: usize) -> Result<(), AllocError>
+        ensures same { IsSame self.old.pages.items self.new.pages.items }
+        ensures reached { OnOk result (page < length self.new.pages.items) }
     {
-        let handle = &mut self.pages[page];
-        page::write_unshared(handle, at, size, value)
+        while self.pages.len() <= page {
+            let zero = zeros.page(self.pages.len()).clone()?;
+            self.pages.push(zero)?;
+        }
+        Ok(())
     }
 
-    /// Writes the low bytes of a number at a place in a page; what is shared of the page and of its block is copied first.
+    /// Writes the low bytes of a number at an address, unless its page is one of those behind, or it or its block is shared.
+    #[inline(always)]
+    fn write_unshared(&mut self, at: usize, size: Size, value: u64) -> bool
+        requires { at % bytes_in size ≡ 0 }
+        ensures { MatchBool result (IsWritten size at value self.old.pages.items self.new.pages.items) (IsSame self.old.pages.items self.new.pages.items) }
+    {
+        let page = at / PAGE_SIZE;
+        if page >= self.pages.len() {
+            return false;
+        }
+        let handle = &mut self.pages[page];
+        page::write_unshared(handle, at % PAGE_SIZE, size, value)
+    }
+
+    /// Writes the low bytes of a number at an address; what is shared of its page and its block is copied first.
     fn write_copying(
         &mut self,
-        page: usize,
+        zeros: &Zeros,
         at: usize,
         size: Size,
         value: u64,
     ) -> Result<(), AllocError>
-        requires page { page < PAGES }
-        requires within { at < 4096 }
-        requires aligned { at % bytes_in size ≡ 0 }
-        ensures ok { OnOk result (pages_of self.new.pages.items ≡ with_value_in (pages_of self.old.pages.items) page size at value) }
-        ensures err { OnErr result (pages_of self.new.pages.items ≡ pages_of self.old.pages.items) }
+        requires { at % bytes_in size ≡ 0 }
+        ensures ok { OnOk result (IsWritten size at value self.old.pages.items self.new.pages.items) }
+        ensures err { OnErr result (IsSame self.old.pages.items self.new.pages.items) }
     {
+        let page = at / PAGE_SIZE;
+        self.reach(zeros, page)?;
         let handle = &mut self.pages[page];
-        page::write_copying(handle, at, size, value)?;
+        page::write_copying(handle, at % PAGE_SIZE, size, value)?;
         Ok(())
     }
 
     /// Puts a page in the place of another one.
-    fn put(&mut self, page: usize, blocks: Rc<Blocks>)
-        requires { page < PAGES }
-        ensures { pages_of self.new.pages.items ≡ slice_set (pages_of self.old.pages.items) page (page_bytes blocks.value) }
+    fn put(&mut self, zeros: &Zeros, page: usize, blocks: Rc<Blocks>) -> Result<(), AllocError>
+        ensures ok { OnOk result (IsPut page blocks.value self.old.pages.items self.new.pages.items) }
+        ensures err { OnErr result (IsSame self.old.pages.items self.new.pages.items) }
     {
+        self.reach(zeros, page)?;
         self.pages[page] = blocks;
+        Ok(())
     }
 }
 
-/// Writes the low bytes of a number at a place in a page, unless the directory, the page or its block is shared.
+/// Writes the low bytes of a number at an address, unless its page is one of those behind, or the directory, the page or its
+/// block is shared.
 #[inline(always)]
-fn write_unshared<const PAGES: usize>(
-    directory: &mut Rc<Directory<PAGES>>,
-    page: usize,
-    at: usize,
-    size: Size,
-    value: u64,
-) -> bool
-    requires page { page < PAGES }
-    requires within { at < 4096 }
-    requires aligned { at % bytes_in size ≡ 0 }
-    ensures { MatchBool result
-        (pages_of directory.new.value.pages.items ≡ with_value_in (pages_of directory.old.value.pages.items) page size at value)
-        (pages_of directory.new.value.pages.items ≡ pages_of directory.old.value.pages.items) }
+fn write_unshared(directory: &mut Rc<Directory>, at: usize, size: Size, value: u64) -> bool
+    requires { at % bytes_in size ≡ 0 }
+    ensures { MatchBool result (IsWritten size at value directory.old.value.pages.items directory.new.value.pages.items)
+        (IsSame directory.old.value.pages.items directory.new.value.pages.items) }
 {
     match Rc::get_mut(directory) {
-        Some(owned) => owned.write_unshared(page, at, size, value),
+        Some(owned) => owned.write_unshared(at, size, value),
         None => false,
     }
 }
 
-/// Writes the low bytes of a number at a place in a page; what is shared of directory, page and block is copied first.
-fn write_copying<const PAGES: usize>(
-    directory: &mut Rc<Directory<PAGES>>,
-    page: usize,
+/// Writes the low bytes of a number at an address; what is shared of directory, page and block is copied first. What it needs
+/// of the stack stays out of the way of a write that copies nothing.
+#[cold]
+#[inline(never)]
+fn write_copying(
+    directory: &mut Rc<Directory>,
+    zeros: &Zeros,
     at: usize,
     size: Size,
     value: u64,
 ) -> Result<(), AllocError>
-    requires page { page < PAGES }
-    requires within { at < 4096 }
-    requires aligned { at % bytes_in size ≡ 0 }
-    ensures ok { OnOk result (pages_of directory.new.value.pages.items ≡ with_value_in (pages_of directory.old.value.pages.items) page size at value) }
-    ensures err { OnErr result (pages_of directory.new.value.pages.items ≡ pages_of directory.old.value.pages.items) }
+    requires { at % bytes_in size ≡ 0 }
+    ensures ok { OnOk result (IsWritten size at value directory.old.value.pages.items directory.new.value.pages.items) }
+    ensures err { OnErr result (IsSame directory.old.value.pages.items directory.new.value.pages.items) }
 {
     let owned = Rc::make_mut(directory)?;
-    owned.write_copying(page, at, size, value)?;
+    owned.write_copying(zeros, at, size, value)?;
     Ok(())
 }
 
 /// The same, with nothing copied where nothing is shared. It is a call of its own, so that what makes a step has room for
 /// its values in registers.
 #[inline(never)]
-pub(crate) fn write<const PAGES: usize>(
-    directory: &mut Rc<Directory<PAGES>>,
-    page: usize,
+pub(crate) fn write(
+    directory: &mut Rc<Directory>,
+    zeros: &Zeros,
     at: usize,
     size: Size,
     value: u64,
 ) -> Result<(), AllocError>
-    requires page { page < PAGES }
-    requires within { at < 4096 }
-    requires aligned { at % bytes_in size ≡ 0 }
-    ensures ok { OnOk result (pages_of directory.new.value.pages.items ≡ with_value_in (pages_of directory.old.value.pages.items) page size at value) }
-    ensures err { OnErr result (pages_of directory.new.value.pages.items ≡ pages_of directory.old.value.pages.items) }
+    requires { at % bytes_in size ≡ 0 }
+    ensures ok { OnOk result (IsWritten size at value directory.old.value.pages.items directory.new.value.pages.items) }
+    ensures err { OnErr result (IsSame directory.old.value.pages.items directory.new.value.pages.items) }
 {
-    if write_unshared(directory, page, at, size, value) {
+    if write_unshared(directory, at, size, value) {
         return Ok(());
     }
-    write_copying(directory, page, at, size, value)?;
+    write_copying(directory, zeros, at, size, value)?;
     Ok(())
 }
 
 /// Puts a page in the place of another one; a directory that is shared is copied first.
-pub(crate) fn put_page<const PAGES: usize>(
-    directory: &mut Rc<Directory<PAGES>>,
+pub(crate) fn put_page(
+    directory: &mut Rc<Directory>,
+    zeros: &Zeros,
     page: usize,
     blocks: Rc<Blocks>,
 ) -> Result<(), AllocError>
-    requires { page < PAGES }
-    ensures ok { OnOk result (pages_of directory.new.value.pages.items ≡ slice_set (pages_of directory.old.value.pages.items) page (page_bytes blocks.value)) }
-    ensures err { OnErr result (pages_of directory.new.value.pages.items ≡ pages_of directory.old.value.pages.items) }
+    ensures ok { OnOk result (IsPut page blocks.value directory.old.value.pages.items directory.new.value.pages.items) }
+    ensures err { OnErr result (IsSame directory.old.value.pages.items directory.new.value.pages.items) }
 {
     let owned = Rc::make_mut(directory)?;
-    owned.put(page, blocks);
+    owned.put(zeros, page, blocks)?;
     Ok(())
 }

@@ -17,6 +17,7 @@ mod step_touches;
 mod timer;
 mod touch;
 mod watch;
+mod zeros;
 
 pub use fault::BusError;
 pub use output::OutputPlace;

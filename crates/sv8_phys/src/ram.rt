@@ -3,12 +3,14 @@
 ghost use Rattle.std.specs.Prelude.{◌≡◌, ℕ, ◌+◌, ◌*◌, ◌≤◌, ◌<◌, ◌/◌, ◌%◌, ◌^◌, Some, length, replicate, slice_index_or, IfOk, IfSome, MatchOption, OnOk, OnErr};
 ghost use Rattle.sv8_phys.specs.Differences.{next_difference};
 ghost use Rattle.sv8_phys.specs.Memory.{bytes_in, ram_size, value_at, with_value, page_of, with_page};
-ghost use Rattle.sv8_phys.specs.Parts.{part_of};
+ghost use Rattle.sv8_phys.specs.Parts.{page_bytes, part_of};
 
 use crate::block::{BLOCK_SIZE, Block};
+use crate::blocks::Blocks;
 use crate::directory::{Directory, put_page, write};
 use crate::page::{PAGE_SIZE, Page};
 use crate::size::Size;
+use crate::zeros::Zeros;
 use std::alloc::{AllocError, Global};
 use std::marker::Model;
 use std::rc::Rc;
@@ -16,28 +18,30 @@ use std::rc::Rc;
 /// `PAGES` pages of RAM from address 0 on. The directory may be shared with snapshots, and so may each page and each block.
 #[derive(Drop)]
 pub(crate) struct Ram<const PAGES: usize> {
-    directory: Rc<Directory<PAGES>>,
+    directory: Rc<Directory>,
+    zeros: Rc<Zeros>,
 }
 
 impl<const PAGES: usize> Model for Ram<PAGES> {
     ghost use Rattle.std.specs.Prelude.{List, ℕ, ◌≤◌};
-    ghost use Rattle.sv8_phys.specs.Parts.{all_bytes, pages_of};
+    ghost use Rattle.sv8_phys.specs.Parts.{ram_bytes};
 
     ghost Value = { List ℕ };
 
-    ghost view = { λ m. all_bytes 4096 PAGES (pages_of m.directory.value.pages.items) };
+    ghost view = { λ m. ram_bytes PAGES m.directory.value.pages.items };
 
     ghost invariant = { λ m. PAGES ≤ 65536 };
 }
 
 impl<const PAGES: usize> Ram<PAGES> {
-    /// RAM of zeros, whose pages share what they can.
+    /// RAM of zeros. It takes no more memory than the pages that stand for those that were never written.
     pub(crate) fn new(alloc: Global) -> Result<Self, AllocError>
         requires { PAGES ≤ 65536 }
         ensures { IfOk result (λ m. m ≡ replicate (ram_size PAGES) 0) }
     {
-        let directory = Rc::new(alloc, Directory::zero(alloc)?)?;
-        Ok(Ram { directory })
+        let directory = Rc::new(alloc, Directory::new(alloc))?;
+        let zeros = Rc::new(alloc, Zeros::new(alloc)?)?;
+        Ok(Ram { directory, zeros })
     }
 
     /// How many bytes there are.
@@ -52,13 +56,26 @@ impl<const PAGES: usize> Ram<PAGES> {
         PAGES * PAGE_SIZE
     }
 
+    /// The handle of a page, or of one of the pages of zeros where it was never written.
+    #[inline(always)]
+    fn handle(&self, page: usize) -> &Rc<Blocks>
+        requires { page < PAGES }
+        ensures { page_bytes result.now.value ≡ page_of self.now page }
+    {
+        if page < self.directory.pages.len() {
+            &self.directory.pages[page]
+        } else {
+            self.zeros.page(page)
+        }
+    }
+
     /// The block that an address is in.
     #[inline(always)]
     fn block(&self, at: usize) -> &Block
         requires { at < ram_size PAGES }
         ensures { result.now.bytes ≡ part_of 256 self.now (at / 256) }
     {
-        self.directory.pages[at / PAGE_SIZE].block(at % PAGE_SIZE)
+        self.handle(at / PAGE_SIZE).block(at % PAGE_SIZE)
     }
 
     /// The number at an address.
@@ -80,13 +97,7 @@ impl<const PAGES: usize> Ram<PAGES> {
         ensures ok { OnOk result (self.new ≡ with_value size at value self.old) }
         ensures err { OnErr result (self.new ≡ self.old) }
     {
-        write(
-            &mut self.directory,
-            at / PAGE_SIZE,
-            at % PAGE_SIZE,
-            size,
-            value,
-        )?;
+        write(&mut self.directory, &self.zeros, at, size, value)?;
         Ok(())
     }
 
@@ -95,7 +106,8 @@ impl<const PAGES: usize> Ram<PAGES> {
         ensures { IfOk result (λ m. m ≡ self.now) }
     {
         let directory = self.directory.clone()?;
-        Ok(Ram { directory })
+        let zeros = self.zeros.clone()?;
+        Ok(Ram { directory, zeros })
     }
 
     /// The page of an address, shared.
@@ -103,7 +115,7 @@ impl<const PAGES: usize> Ram<PAGES> {
         requires { at < ram_size PAGES }
         ensures { IfOk result (λ p. p ≡ page_of self.now (at / 4096)) }
     {
-        let blocks = self.directory.pages[at / PAGE_SIZE].clone()?;
+        let blocks = self.handle(at / PAGE_SIZE).clone()?;
         Ok(Page::from_blocks(blocks))
     }
 
@@ -113,7 +125,12 @@ impl<const PAGES: usize> Ram<PAGES> {
         ensures ok { OnOk result (self.new ≡ with_page self.old (at / 4096) page) }
         ensures err { OnErr result (self.new ≡ self.old) }
     {
-        put_page(&mut self.directory, at / PAGE_SIZE, page.into_blocks())?;
+        put_page(
+            &mut self.directory,
+            &self.zeros,
+            at / PAGE_SIZE,
+            page.into_blocks(),
+        )?;
         Ok(())
     }
 

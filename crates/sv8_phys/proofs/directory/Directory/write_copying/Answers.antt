@@ -1,24 +1,20 @@
-use Rattle.std.proofs.Common.{ℕ, List, [], ap, ◌∙◌, arith}
+use Rattle.std.proofs.Common.{◌/◌, ◌%◌, ap, ◌∙◌}
 use Rattle.std.proofs.lemmas.Result.{err_from_is_err_and}
-use Rattle.std.specs.declared.rc.Rc.{Rc}
-use Rattle.std.specs.declared.alloc.Global.{Global}
-use Rattle.sv8_phys.specs.declared.blocks.Blocks.{Blocks}
 use Rattle.sv8_phys.specs.Memory.{with_value}
-use Rattle.sv8_phys.specs.Parts.{page_bytes}
-use Rattle.sv8_phys.proofs.Handles.{changed, kept}
+use Rattle.sv8_phys.proofs.PageLemmas.{held, page_written, page_kept}
 use Rattle.sv8_phys.proofs.directory.Directory.write_copying.Goals as goal
 
--- the bytes behind a handle
-abbrev held : Rc Blocks Global → List ℕ
-held h = page_bytes h.value
-
 pub returns-clause-ok : goal.returns-clause-ok
-returns-clause-ok g c =
-    let write = with_value c.args.size c.args.at c.args.value in
-    changed held c.args.self.now.pages.items c.args.page c.index_mut-handle.result.now _ [] write (omega (arith, c.args.self.now.all, c.requires.page))
-    (c.in_ok-write_copying.ensures.ok ∙ ap (λ h. write (held h)) c.index_mut-handle.ensures.value)
+returns-clause-ok c = λ n below.
+    let at = c.args.at in
+    let write = with_value c.args.size (at % 4096) c.args.value in
+    page_written _ c.args.size at c.args.value c.index_mut-handle.result.now _ c.requires c.in_ok-reach.ensures.reached
+    (c.in_ok-write_copying.ensures.ok ∙ ap (λ h. write (held h)) c.index_mut-handle.ensures.value) n below
+    ∙ ap (with_value c.args.size at c.args.value) (c.in_ok-reach.ensures.same n)
 
 pub returns-in_err-write_copying-clause-err : goal.returns-in_err-write_copying-clause-err
-returns-in_err-write_copying-clause-err g c =
-    let p = err_from_is_err_and c.from_residual.result c.from_residual.ensures.1 in
-    rw p.1 (kept held c.args.self.now.pages.items c.args.page c.index_mut-handle.result.now _ (c.in_err-write_copying.ensures.err ∙ ap held c.index_mut-handle.ensures.value))
+returns-in_err-write_copying-clause-err c =
+    let p = err_from_is_err_and c.from_residual-in_err-write_copying.result c.from_residual-in_err-write_copying.ensures.1 in
+    rw p.1 (λ n.
+    page_kept _ (c.args.at / 4096) c.index_mut-handle.result.now _ (c.in_err-write_copying.ensures.err ∙ ap held c.index_mut-handle.ensures.value) n
+    ∙ c.in_ok-reach.ensures.same n)
