@@ -221,13 +221,14 @@ table =
 abbrev pub is_queue_store : ℕ → Bool
 is_queue_store w = fits w store_fp_queue || fits w store_cp_queue
 
--- where a word stands in the table: by op, and for op 2 by the halves of op3
+-- where a word stands in the table: by op, and for op 2 by the first bits of op3
 unfoldable pub group_of : ℕ → Group
 group_of w =
     if field w 31 30 == 0 then group.Format2 else
     (if field w 31 30 == 1 then group.Call else
     (if field w 31 30 == 3 then group.Memory else
-    (if field w 24 24 == 0 then group.Arithmetic else group.Control)))
+    (if field w 24 24 == 0 then group.Arithmetic else
+    (if field w 24 22 == 4 then group.Shift else group.Control))))
 
 -- the first row that a word fits, and no word fits two
 abbrev pub row_of : ℕ → Option Row

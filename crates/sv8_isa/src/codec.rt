@@ -209,6 +209,7 @@ pub fn group(word: u32) -> Group
         1 => Group::Call,
         3 => Group::Memory,
         _ if bits(word, 24, 24) == 0 => Group::Arithmetic,
+        _ if bits(word, 24, 22) == 4 => Group::Shift,
         _ => Group::Control,
     }
 }
@@ -248,6 +249,22 @@ macro_rules! three_fields_rows {
     };
 }
 
+/// A `match` on op3, from the group of shifts.
+macro_rules! shift_rows {
+    ([$word:ident] shift { $($shift:ident $shift_code:literal),* } $($later:tt)*) => {{
+        let rd = register($word, 25);
+        let rs1 = register($word, 14);
+        let count = count($word);
+        match bits($word, 24, 19) {
+            $($shift_code => Some(Instr::Shift { op: ShiftOp::$shift, rd, rs1, count }),)*
+            _ => None,
+        }
+    }};
+    ([$word:ident] $group:ident $rows:tt $($later:tt)*) => {
+        shift_rows!([$word] $($later)*)
+    };
+}
+
 /// A `match` on op3, from the group of loads and stores.
 macro_rules! memory_rows {
     ([$word:ident] memory { $($memory:ident $normal:literal $alternate:literal),* } $($later:tt)*) => {{
@@ -277,6 +294,21 @@ pub fn decode_arithmetic(word: u32) -> Option<Instr>
         return None;
     }
     opcodes!(arithmetic_rows!(word))
+}
+
+/// The instruction of a word, if it is a shift.
+///
+/// It is `decode` for shifts alone, for a caller that has a way of its own for them. `None` says nothing of the word.
+#[tactic(auto, unfolding(crate::specs::Table::meaning))]
+#[inline(always)]
+pub fn decode_shift(word: u32) -> Option<Instr>
+    ensures value { IfSome result (λ i. i ≡ meaning word) }
+    ensures registers { IfSome result (λ i. HasRegisters i) }
+{
+    if bits(word, 31, 30) != 2 {
+        return None;
+    }
+    opcodes!(shift_rows!(word))
 }
 
 /// The instruction of a word, if it is a load or a store of an integer register with no address space of its own.

@@ -21,7 +21,7 @@ pub enum Cond {
     OverflowClear,
 }
 
-/// Where a word stands in the opcode table: by op, and for op 2 by the halves of op3 (Appendix F).
+/// Where a word stands in the opcode table: by op, and for op 2 by the first bits of op3 (Appendix F).
 #[derive(Clone, Copy, PartialEq, Eq, Debug)]
 pub enum Group {
     /// Op 0: branches and SETHI.
@@ -30,7 +30,9 @@ pub enum Group {
     Call,
     /// Op 2, lower half: arithmetic and logic.
     Arithmetic,
-    /// Op 2, higher half: all other operations on registers, and control transfer.
+    /// Op 2, op3 20 to 27 (hexadecimal): tagged arithmetic, MULScc and shifts.
+    Shift,
+    /// Op 2, the rest of the higher half: state registers and control transfer.
     Control,
     /// Op 3: loads and stores.
     Memory,

@@ -71,7 +71,7 @@ fn finish_quotient<const NW: usize>(
 }
 
 /// An operation on the values of both sources.
-#[inline(never)]
+#[inline(always)]
 #[tactic(auto, unfolding(crate::specs::Arithmetic::operated))]
 fn operate<const NW: usize>(p: &mut Processor<NW>, op: ArithOp, cc: bool, rd: u8, x: u32, y: u32)
     requires { rd < 32 }
@@ -103,7 +103,7 @@ fn operate<const NW: usize>(p: &mut Processor<NW>, op: ArithOp, cc: bool, rd: u8
 
 /// An operation that has a form which sets the condition codes.
 #[inline(always)]
-pub fn arithmetic<const NW: usize>(
+fn arithmetic_in_place<const NW: usize>(
     p: &mut Processor<NW>,
     op: ArithOp,
     cc: bool,
@@ -119,6 +119,56 @@ pub fn arithmetic<const NW: usize>(
     let x = p.registers().get(u32::from(rs1));
     let y = operand_value(p, operand);
     operate(p, op, cc, rd, x, y);
+}
+
+/// The same, as a call.
+#[inline(never)]
+pub fn arithmetic<const NW: usize>(
+    p: &mut Processor<NW>,
+    op: ArithOp,
+    cc: bool,
+    rd: u8,
+    rs1: u8,
+    operand: Operand,
+)
+    requires rd { rd < 32 }
+    requires rs1 { rs1 < 32 }
+    requires operand { OperandHasRegister operand }
+    ensures { p.new ≡ arithmetic NW p.old op cc rd rs1 operand }
+{
+    arithmetic_in_place(p, op, cc, rd, rs1, operand);
+}
+
+/// The same, with an arm for each operation: so the built program asks once which one it is, and has code for each.
+#[inline(always)]
+pub fn arithmetic_by_operation<const NW: usize>(
+    p: &mut Processor<NW>,
+    op: ArithOp,
+    cc: bool,
+    rd: u8,
+    rs1: u8,
+    operand: Operand,
+)
+    requires rd { rd < 32 }
+    requires rs1 { rs1 < 32 }
+    requires operand { OperandHasRegister operand }
+    ensures { p.new ≡ arithmetic NW p.old op cc rd rs1 operand }
+{
+    match op {
+        ArithOp::Add => arithmetic_in_place(p, ArithOp::Add, cc, rd, rs1, operand),
+        ArithOp::Addx => arithmetic_in_place(p, ArithOp::Addx, cc, rd, rs1, operand),
+        ArithOp::Sub => arithmetic_in_place(p, ArithOp::Sub, cc, rd, rs1, operand),
+        ArithOp::Subx => arithmetic_in_place(p, ArithOp::Subx, cc, rd, rs1, operand),
+        ArithOp::And => arithmetic_in_place(p, ArithOp::And, cc, rd, rs1, operand),
+        ArithOp::Andn => arithmetic_in_place(p, ArithOp::Andn, cc, rd, rs1, operand),
+        ArithOp::Or => arithmetic_in_place(p, ArithOp::Or, cc, rd, rs1, operand),
+        ArithOp::Orn => arithmetic_in_place(p, ArithOp::Orn, cc, rd, rs1, operand),
+        ArithOp::Xor => arithmetic_in_place(p, ArithOp::Xor, cc, rd, rs1, operand),
+        ArithOp::Xnor => arithmetic_in_place(p, ArithOp::Xnor, cc, rd, rs1, operand),
+        ArithOp::Umul | ArithOp::Smul | ArithOp::Udiv | ArithOp::Sdiv => {
+            arithmetic(p, op, cc, rd, rs1, operand)
+        }
+    }
 }
 
 #[inline(always)]
@@ -255,6 +305,27 @@ pub fn shift<const NW: usize>(p: &mut Processor<NW>, op: ShiftOp, rd: u8, rs1: u
     let x = p.registers().get(u32::from(rs1));
     let count = operand_value(p, count);
     p.finish_with(rd, sv8_alu::shift(shift_form(op), x, count));
+}
+
+/// The same, with an arm for each operation, as `arithmetic_by_operation` has.
+#[inline(always)]
+pub fn shift_by_operation<const NW: usize>(
+    p: &mut Processor<NW>,
+    op: ShiftOp,
+    rd: u8,
+    rs1: u8,
+    count: Operand,
+)
+    requires rd { rd < 32 }
+    requires rs1 { rs1 < 32 }
+    requires count { OperandHasRegister count }
+    ensures { p.new ≡ shifted NW p.old op rd rs1 count }
+{
+    match op {
+        ShiftOp::Sll => shift(p, ShiftOp::Sll, rd, rs1, count),
+        ShiftOp::Srl => shift(p, ShiftOp::Srl, rd, rs1, count),
+        ShiftOp::Sra => shift(p, ShiftOp::Sra, rd, rs1, count),
+    }
 }
 
 /// SETHI.

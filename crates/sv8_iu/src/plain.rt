@@ -8,11 +8,12 @@ ghost use Rattle.std.specs.Prelude.{◌≡◌, MatchBool};
 ghost use Rattle.sv8_isa.specs.Table.{meaning};
 ghost use Rattle.sv8_iu.specs.Instruction.{IsPlain};
 
-use crate::arithmetic::{arithmetic, divides, set_upper};
+use crate::arithmetic::{arithmetic_by_operation, divides, set_upper, shift_by_operation};
 use crate::control::{branch, call, jump, jump_trap};
 use crate::windows::{restore, restore_trap, save, save_trap};
 use sv8_isa::{
-    Group, Instr, decode_arithmetic, decode_call, decode_format_2, decode_three_fields, group,
+    Group, Instr, decode_arithmetic, decode_call, decode_format_2, decode_shift,
+    decode_three_fields, group,
 };
 use sv8_trap::Processor;
 
@@ -69,7 +70,21 @@ fn carry_out_arithmetic<const NW: usize>(p: &mut Processor<NW>, word: u32) -> bo
                 operand,
             },
         ) if !divides(op) => {
-            arithmetic(p, op, cc, rd, rs1, operand);
+            arithmetic_by_operation(p, op, cc, rd, rs1, operand);
+            true
+        }
+        _ => false,
+    }
+}
+
+/// Carries out shifts (Appendix B.12).
+#[inline(never)]
+fn carry_out_shift<const NW: usize>(p: &mut Processor<NW>, word: u32) -> bool
+    ensures { MatchBool result (IsPlain NW p.old (meaning word) p.new) (p.new ≡ p.old) }
+{
+    match decode_shift(word) {
+        Some(Instr::Shift { op, rd, rs1, count }) => {
+            shift_by_operation(p, op, rd, rs1, count);
             true
         }
         _ => false,
@@ -108,6 +123,7 @@ pub fn carry_out_plainly<const NW: usize>(p: &mut Processor<NW>, word: u32) -> b
         Group::Format2 => carry_out_format_2(p, word),
         Group::Call => carry_out_call(p, word),
         Group::Arithmetic => carry_out_arithmetic(p, word),
+        Group::Shift => carry_out_shift(p, word),
         Group::Control => carry_out_linkage(p, word),
         Group::Memory => false,
     }

@@ -16,7 +16,7 @@ use sv8_isa::ShiftOp::{Sll, Sra, Srl};
 use sv8_isa::StateRegister::{Psr, Tbr, Wim, Y};
 use sv8_isa::TaggedOp::{TaddCc, TaddCcTv, TsubCc, TsubCcTv};
 use sv8_isa::{
-    Instr, decode, decode_arithmetic, decode_call, decode_format_2, decode_memory,
+    Instr, decode, decode_arithmetic, decode_call, decode_format_2, decode_memory, decode_shift,
     decode_three_fields, encode,
 };
 
@@ -330,6 +330,7 @@ const OUT_OF_RANGE: [Instr; 88] = instructions! {
 fn decode_of_its_group(word: u32, instr: Instr) -> Option<Instr> {
     match instr {
         Instr::Arith { .. } => decode_arithmetic(word),
+        Instr::Shift { .. } => decode_shift(word),
         Instr::Memory { .. } => decode_memory(word),
         Instr::Call { .. } => decode_call(word),
         Instr::Mulscc { .. } | Instr::Jmpl { .. } | Instr::Save { .. } | Instr::Restore { .. } => {
