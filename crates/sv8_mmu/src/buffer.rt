@@ -258,8 +258,9 @@ impl Buffer {
         }
     }
 
-    /// The walk that is kept for a context and a page.
-    pub(crate) fn find(&mut self, purpose: Purpose, key: Key) -> Option<Walk>
+    /// The walk that is kept for a context and a page. That one is there wherever it could be is no part of the contract: none
+    /// costs time alone.
+    pub fn find(&mut self, purpose: Purpose, key: Key) -> Option<Walk>
         ensures found { IfSome result (λ w. Contains self.old (key, w)) }
         ensures among { AreAmong self.new self.old }
     {

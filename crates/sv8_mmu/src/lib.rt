@@ -10,13 +10,11 @@ mod place;
 mod probing;
 mod registers;
 mod table_level;
-#[cfg(test)]
-mod tests;
 mod translation;
 mod walk;
 
 pub use access_type::AccessType;
-pub use buffer::Buffer;
+pub use buffer::{Buffer, Key, Purpose};
 pub use fault_type::FaultType;
 pub use faulting::translate;
 pub use place::{AccessPermissions, PagePlace, Place, place_of};

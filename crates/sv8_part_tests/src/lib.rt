@@ -1,5 +1,5 @@
-//! Tests of the parts of a machine: instruction words, registers, arithmetic, the choice among traps, timelines and
-//! physical memory. They stand here, and not in the crates that they test, as each crate with tests is proved twice.
+//! Tests of the parts of a machine: instruction words, registers, arithmetic, the choice among traps, timelines,
+//! physical memory and translation. They stand here, and not in the crates that they test, as each crate with tests is proved twice.
 #![tactic(auto)]
 
 #[cfg(test)]
@@ -14,5 +14,9 @@ mod registers;
 mod table;
 #[cfg(test)]
 mod timeline;
+#[cfg(test)]
+mod told;
+#[cfg(test)]
+mod translation;
 #[cfg(test)]
 mod traps;

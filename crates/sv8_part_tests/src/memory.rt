@@ -3,38 +3,11 @@
 ghost use Rattle.std.specs.Prelude.{◌≡◌, ◌%◌};
 ghost use Rattle.sv8_phys.specs.Memory.{bytes_in};
 
+use crate::told::Told;
 use std::alloc::{AllocError, Global};
 use std::test::Fail;
 use sv8_phys::*;
 use sv8_time::Timeline;
-
-/// Keeps what a step tells.
-#[derive(Drop)]
-struct Told {
-    notes: Vec<Touch>,
-}
-
-impl Touches for Told {
-    ghost use Rattle.std.specs.Prelude.{Bool, true, false};
-    ghost use Rattle.sv8_model.specs.Does.{touching};
-
-    const KEEPS: bool = true;
-
-    ghost KEEPS = { true };
-
-    ghost OBSERVES = { false };
-
-    ghost noted = { λ t. touching t.notes.items };
-
-    fn note(&mut self, touch: Touch) -> Result<(), AllocError> {
-        self.notes.push(touch)?;
-        Ok(())
-    }
-
-    fn observe(&mut self, _observation: Observation) -> Result<(), AllocError> {
-        Ok(())
-    }
-}
 
 /// A memory of two pages.
 fn blank(alloc: Global) -> Result<Phys<2>, Fail> {

@@ -3,7 +3,7 @@ use Rattle.sv8_phys.specs.Memory.{ram_size}
 use Rattle.sv8_mmu.specs.Kept.{AllStand, DiffersInPage}
 use Rattle.sv8_mmu.proofs.Storing.{ram_stored}
 use Rattle.sv8_mmu.proofs.Walks.{stored_in_page}
-use Rattle.sv8_mmu.proofs.tests.remap.Goals as goal
+use Rattle.sv8_part_tests.proofs.translation.remap.Goals as goal
 
 pub returns-in_err-write_ram : goal.returns-in_err-write_ram
 returns-in_err-write_ram c = subst (λ m. AllStand (ram_size 2) m.ram 0x10 c.args.buffer.now) (sym c.in_err-write_ram.ensures.err) c.requires

@@ -4,39 +4,11 @@
 ghost use Rattle.sv8_phys.specs.Memory.{ram_size};
 ghost use Rattle.sv8_mmu.specs.Kept.{AllStand};
 
-use crate::buffer::{Key, Purpose};
-use crate::*;
+use crate::told::Told;
 use std::alloc::{AllocError, Global};
 use std::test::Fail;
+use sv8_mmu::*;
 use sv8_phys::{NoTouches, Observation, Phys, Size, Touch, Touches};
-
-/// Keeps every note.
-#[derive(Drop)]
-struct Told {
-    notes: Vec<Touch>,
-}
-
-impl Touches for Told {
-    ghost use Rattle.std.specs.Prelude.{Bool, true, false};
-    ghost use Rattle.sv8_model.specs.Does.{touching};
-
-    const KEEPS: bool = true;
-
-    ghost KEEPS = { true };
-
-    ghost OBSERVES = { false };
-
-    ghost noted = { λ t. touching t.notes.items };
-
-    fn note(&mut self, touch: Touch) -> Result<(), AllocError> {
-        self.notes.push(touch)?;
-        Ok(())
-    }
-
-    fn observe(&mut self, _observation: Observation) -> Result<(), AllocError> {
-        Ok(())
-    }
-}
 
 /// Has no memory for a note.
 #[derive(Drop)]
