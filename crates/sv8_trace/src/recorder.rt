@@ -280,7 +280,9 @@ pub(crate) fn record<const NW: usize, const PAGES: usize>(
 {
     draft.clear();
     let mut machine = machine;
-    for offset in 0..count {
+    // A range would be taken apart and put together again at each step.
+    let mut offset = 0;
+    while offset < count {
         record_step(
             &mut machine,
             timeline,
@@ -290,6 +292,7 @@ pub(crate) fn record<const NW: usize, const PAGES: usize>(
             draft,
             work,
         )?;
+        offset += 1;
     }
     Ok((machine, draft.copy()?))
 }

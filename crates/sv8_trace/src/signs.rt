@@ -177,7 +177,9 @@ impl Signs {
         requires { NW ≤ 32 }
         ensures { self.new ≡ record self.old { translation = self.old.translation || translates machine.now.mmu } }
     {
-        self.translation = self.translation || machine.mmu().translates();
+        if machine.mmu().translates() {
+            self.translation = true;
+        }
     }
 
     /// Notes where a trap led the step with an offset. Few steps have one, so what it needs stands apart from the others.

@@ -1,4 +1,5 @@
 pub mod Places
+pub mod Words
 pub mod Standing
 pub mod Sparing
 pub mod Accesses

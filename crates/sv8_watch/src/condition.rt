@@ -1,6 +1,6 @@
 //! Conditions on a step.
 
-ghost use Rattle.std.specs.Prelude.{◌≡◌, ◌≤◌, ◌+◌, false, length};
+ghost use Rattle.std.specs.Prelude.{◌≡◌, ◌≤◌, ◌+◌, ◌%◌, ◌∷◌, [], false, length};
 ghost use Rattle.sv8_phys.specs.Memory.{ram_size};
 ghost use Rattle.sv8_cpu.specs.State.{State};
 ghost use Rattle.sv8_watch.specs.Watched.{IsBefore, IsStepFrom, happening_of};
@@ -153,8 +153,28 @@ pub fn is_touched(address: u32, touches: &[Touch]) -> bool
     )
 }
 
+/// Whether one of four bytes is another one than that of RAM, from a multiple of 4 on.
+#[inline(always)]
+fn is_other_word<const NW: usize, const PAGES: usize>(
+    first: u8,
+    second: u8,
+    third: u8,
+    fourth: u8,
+    address: u32,
+    machine: &Machine<NW, PAGES>,
+) -> bool
+    requires few_windows { NW ≤ 32 }
+    requires few_pages { PAGES ≤ 65536 }
+    requires aligned { address % 4 ≡ 0 }
+    requires within { address + 4 ≤ ram_size PAGES }
+    ensures { result ≡ differ_from (first ∷ second ∷ third ∷ fourth ∷ []) address machine.now.memory.ram }
+{
+    let _size = machine.ram_size();
+    machine.word(address) != u32::from_be_bytes([first, second, third, fourth])
+}
+
 /// Whether one of some bytes is another one than that of RAM, from an address on.
-fn differ<const NW: usize, const PAGES: usize>(
+fn differ_by_byte<const NW: usize, const PAGES: usize>(
     old: &[u8],
     address: u32,
     machine: &Machine<NW, PAGES>,
@@ -174,6 +194,26 @@ fn differ<const NW: usize, const PAGES: usize>(
         at += 1;
     }
     false
+}
+
+/// The same; four bytes at a multiple of 4 are compared as a word.
+#[inline(always)]
+fn differ<const NW: usize, const PAGES: usize>(
+    old: &[u8],
+    address: u32,
+    machine: &Machine<NW, PAGES>,
+) -> bool
+    requires few_windows { NW ≤ 32 }
+    requires few_pages { PAGES ≤ 65536 }
+    requires within { address + length old.now ≤ ram_size PAGES }
+    ensures { result ≡ differ_from old.now address machine.now.memory.ram }
+{
+    match old {
+        [first, second, third, fourth] if address % 4 == 0 => {
+            is_other_word(*first, *second, *third, *fourth, address, machine)
+        }
+        _ => differ_by_byte(old, address, machine),
+    }
 }
 
 /// Whether so many bytes of the output are another number than before.

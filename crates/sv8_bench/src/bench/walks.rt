@@ -169,7 +169,9 @@ impl<const NW: usize, const PAGES: usize, const K: u32> Bench<NW, PAGES, K> {
     {
         let step = walk.step;
         match &mut walk.place {
-            Place::Restored(machine) => self.step_restored::<SEEN>(machine, step, watch)?,
+            Place::Restored(machine) => {
+                self.step_restored::<SEEN, false>(machine, step, watch)?;
+            }
             Place::Drafted(draft) => self.step_drafted(draft, step, watch)?,
         }
         walk.step = step + 1;
@@ -236,8 +238,11 @@ impl<const NW: usize, const PAGES: usize, const K: u32> Bench<NW, PAGES, K> {
         ensures raised { RaisedUpTo (to - from) self.old.worked self.new.worked }
     {
         let _trace = &self.trace;
-        for n in from..to {
-            self.step_restored::<false>(machine, n, watch)?;
+        // A range would be taken apart and put together again at each step.
+        let mut n = from;
+        while n < to {
+            self.step_restored::<false, true>(machine, n, watch)?;
+            n += 1;
         }
         Ok(())
     }
@@ -276,8 +281,11 @@ impl<const NW: usize, const PAGES: usize, const K: u32> Bench<NW, PAGES, K> {
     }
 
     /// Makes a step of which nothing is recorded, since it is recorded already or no checkpoint can follow.
+    ///
+    /// `ROW` says that it is one of many in a loop, and means nothing but to the built program: it gives the loop a step of
+    /// its own, which the compiler puts into it, since nothing else calls it.
     #[inline(always)]
-    fn step_restored<const SEEN: bool>(
+    fn step_restored<const SEEN: bool, const ROW: bool>(
         &mut self,
         machine: &mut Machine<NW, PAGES>,
         step: u32,

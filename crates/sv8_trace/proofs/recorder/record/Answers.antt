@@ -12,6 +12,7 @@ loop-offset-init g c =
       state = refl;
       delivered = subst (λ x. c.args.machine.memory.taken ≤ bytes_below x c.args.timeline.now.inputs) (omega arith) c.requires.delivered;
       recorded = rw c.clear.ensures (recorded_none g.row.NW g.row.PAGES c.args.timeline.now c.args.n c.args.machine);
+      within = omega arith;
       counted = refl;
     }
 
@@ -27,17 +28,18 @@ loop-offset-preserved g c =
       state = both.0;
       delivered = subst (λ x. c.record_step.new.machine.memory.taken ≤ bytes_below x c.args.timeline.now.inputs) (omega arith) c.in_ok-record_step.ensures.delivered;
       recorded = both.1;
+      within = omega (arith, c.loop-offset-test.true);
       counted = rw add-one (c.in_ok-record_step.ensures.counted ∙ ap counted inv.counted);
     }
 
 pub returns-clause-raised : goal.returns-clause-raised
-returns-clause-raised g c = (c.loop-offset.offset, omega (arith, c.loop-offset.auto.offset-end), c.loop-offset.invariant.counted)
+returns-clause-raised g c = (c.loop-offset.offset, omega (arith, c.loop-offset.invariant.within), c.loop-offset.invariant.counted)
 
 pub returns-in_err-copy-clause-raised : goal.returns-in_err-copy-clause-raised
-returns-in_err-copy-clause-raised g c = (c.loop-offset.offset, omega (arith, c.loop-offset.auto.offset-end), c.loop-offset.invariant.counted)
+returns-in_err-copy-clause-raised g c = (c.loop-offset.offset, omega (arith, c.loop-offset.invariant.within), c.loop-offset.invariant.counted)
 
 pub returns-clause-recorded : goal.returns-clause-recorded
 returns-clause-recorded g c =
-    let whole : c.loop-offset.offset ≡ c.args.count = omega (arith, c.loop-offset.auto.offset-end, c.loop-offset-test.false) in
+    let whole : c.loop-offset.offset ≡ c.args.count = omega (arith, c.loop-offset.invariant.within, c.loop-offset-test.false) in
     subst (λ (i : Interval). IsRecorded g.row.NW g.row.PAGES c.args.timeline.now c.args.n c.args.machine c.args.count i) (sym c.in_ok-copy.ensures)
     (subst (λ x. IsRecorded g.row.NW g.row.PAGES c.args.timeline.now c.args.n c.args.machine x c.loop-offset.draft) whole c.loop-offset.invariant.recorded)

@@ -8,7 +8,7 @@ use Rattle.sv8_bench.proofs.bench.Bench.pass_recorded.Goals as goal
 
 pub returns-in_err-step_restored-clause-raised : goal.returns-in_err-step_restored-clause-raised
 returns-in_err-step_restored-clause-raised g c =
-    raised_tried c.loop-n.n c.args.from c.args.to c.args.self.now.worked c.loop-n.self.worked c.step_restored.new.self.worked c.loop-n.auto.n c.loop-n-test.true
+    raised_tried c.loop-n.n c.args.from c.args.to c.args.self.now.worked c.loop-n.self.worked c.step_restored.new.self.worked c.loop-n.invariant.begun c.loop-n-test.true
     c.loop-n.invariant.counted c.in_err-step_restored.ensures.unmade.worked
 
 pub loop-n-preserved : goal.loop-n-preserved
@@ -21,8 +21,10 @@ loop-n-preserved g c =
     let kept = made.kept ∙ inv.kept in
     let last : c.args.to / k ≤ checkpoints c.args.self.now = full k (checkpoints c.args.self.now) c.args.to pos (omega (arith, c.requires.recorded, pos)) in
     record {
+      begun = omega (arith, inv.begun);
+      within = omega (arith, c.loop-n-test.true);
       state = c.in_ok-step_restored.ensures.state ∙ ap (λ (x : Kept). machine_state x (n + 1)) kept;
       kept = kept;
       recorded = made.recorded ∙ ap (λ x. max x ((n + 1) / k)) inv.recorded ∙ none_more k (checkpoints c.args.self.now) n c.args.to pos c.loop-n-test.true last;
-      counted = step_counted n c.args.from c.args.self.now.worked c.loop-n.self.worked c.step_restored.new.self.worked c.loop-n.auto.n inv.counted made.worked;
+      counted = step_counted n c.args.from c.args.self.now.worked c.loop-n.self.worked c.step_restored.new.self.worked c.loop-n.invariant.begun inv.counted made.worked;
     }

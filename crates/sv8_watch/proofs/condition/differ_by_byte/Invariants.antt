@@ -1,7 +1,7 @@
 use Rattle.std.proofs.Common.{◌≡◌, ◌≤◌, ◌+◌, length}
 use Rattle.sv8_phys.specs.Memory.{ram_size}
 use Rattle.sv8_watch.specs.Conditions.{differ_from}
-use Rattle.sv8_watch.proofs.condition.differ.Given as goal
+use Rattle.sv8_watch.proofs.condition.differ_by_byte.Given as goal
 
 abbrev pub invariant-loop-rest : goal.invariant-loop-rest
 invariant-loop-rest g l = record {
