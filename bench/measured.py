@@ -10,6 +10,9 @@ from image import image
 
 BENCH = Path(__file__).resolve().parent
 INTERPRETER = BENCH / "out" / "interpreter"
+# How long an undisturbed run is waited for, and the least time of the piece of work that shows one.
+CALM_SECONDS = 120
+LEAST = [1.0]
 
 # As `sparc8` starts the program: with memory in large pages.
 os.environ.setdefault("GLIBC_TUNABLES", "glibc.malloc.hugetlb=1")
@@ -76,7 +79,37 @@ class Pair:
 
     def plain_seconds(self, last, runs):
         """The processor seconds that the steps up to the last one take in plain Rust, the least of several."""
-        return min(self.times([last])[1] for _ in range(runs)) - min(self.times([0])[1] for _ in range(runs))
+
+        def least(step):
+            return min(calm_runs(lambda: processor_time(self.interpreted + [str(step)], b""), runs))
+
+        return least(last) - least(0)
+
+
+def calm_runs(run, count):
+    """What a run answers, so many times, each between two moments at which a fixed piece of work takes its least time.
+
+    Others may use what is below a virtual processor. It is then slower by half or more, for seconds at a time, and a
+    run that falls into such a time says nothing.
+    """
+    found, end = [], time.monotonic() + CALM_SECONDS
+    while len(found) < count:
+        if time.monotonic() > end:
+            sys.exit(f"only {len(found)} of {count} runs were undisturbed")
+        if is_calm():
+            answer = run()
+            if is_calm():
+                found.append(answer)
+    return found
+
+
+def is_calm():
+    """Whether a fixed piece of work, of about a millisecond, takes hardly more than its least time so far."""
+    begin = time.perf_counter()
+    sum(range(40_000))
+    took = time.perf_counter() - begin
+    LEAST.append(min(took, LEAST.pop()))
+    return took <= 1.12 * LEAST[0]
 
 
 def processor_time(words, text):
