@@ -1,17 +1,14 @@
 //! From words to instructions, and back.
 
-ghost use Rattle.std.specs.Prelude.{◌≡◌, ◌==◌, IfSome};
-ghost use Rattle.sv8_model.specs.Words.{field, signed};
-ghost use Rattle.sv8_isa.specs.declared.instr.Instr.TheVariants.{Bicc, Call};
-ghost use Rattle.sv8_isa.specs.Operands.{condition_of};
+ghost use Rattle.std.specs.Prelude.{◌≡◌, IfSome};
 ghost use Rattle.sv8_isa.specs.Encoding.{encoding};
 ghost use Rattle.sv8_isa.specs.Registers.{HasRegisters};
 ghost use Rattle.sv8_isa.specs.Table.{meaning, is_queue_store, group_of};
 
 use crate::instr::{ArithOp, Group, Instr, MemoryOp, ShiftOp, StateRegister, TaggedOp};
 use crate::word::{
-    alternate_source, bits, branch_field, condition, condition_code, count, format_2, format_3,
-    format_call, natural_source, operand, register, sign_extend, signed_bits, source_bits,
+    alternate_source, bits, branch, branch_field, call, condition, condition_code, count, format_2,
+    format_3, format_call, natural_source, operand, register, signed_bits, source_bits,
     trap_number, unsigned_bits,
 };
 
@@ -78,28 +75,6 @@ macro_rules! opcodes {
             queue_whole { Fp 0x26, Cp 0x36 }
         }
     };
-}
-
-/// Bicc with the fields of a word.
-#[inline(always)]
-fn branch(word: u32) -> Instr
-    ensures { result ≡ Bicc (condition_of (field word 28 25)) (field word 29 29 == 1) (signed (field word 21 0) 22) }
-{
-    Instr::Bicc {
-        cond: condition(word),
-        annul: bits(word, 29, 29) == 1,
-        disp22: sign_extend(bits(word, 21, 0), 22),
-    }
-}
-
-/// CALL with the displacement of a word.
-#[inline(always)]
-fn call(word: u32) -> Instr
-    ensures { result ≡ Call (signed (field word 29 0) 30) }
-{
-    Instr::Call {
-        disp30: sign_extend(bits(word, 29, 0), 30),
-    }
 }
 
 /// A `match` on a word, from the list.
@@ -214,6 +189,8 @@ pub fn group(word: u32) -> Group
     }
 }
 
+// Callers that have a way of their own for a group decode it alone, by the functions below.
+
 /// A `match` on op3, from the group of arithmetic and logic.
 macro_rules! arithmetic_rows {
     ([$word:ident] arith { $($arith:ident $plain:literal $cc:literal),* } $($later:tt)*) => {{
@@ -282,8 +259,7 @@ macro_rules! memory_rows {
 }
 
 /// The instruction of a word, if it is one of arithmetic and logic that has a form which sets the condition codes.
-///
-/// It is `decode` for these alone, for a caller that has a way of its own for them. `None` says nothing of the word.
+/// `None` says nothing of the word.
 #[tactic(auto, unfolding(crate::specs::Table::meaning))]
 #[inline(always)]
 pub fn decode_arithmetic(word: u32) -> Option<Instr>
@@ -297,8 +273,7 @@ pub fn decode_arithmetic(word: u32) -> Option<Instr>
 }
 
 /// The instruction of a word, if it is a shift.
-///
-/// It is `decode` for shifts alone, for a caller that has a way of its own for them. `None` says nothing of the word.
+/// `None` says nothing of the word.
 #[tactic(auto, unfolding(crate::specs::Table::meaning))]
 #[inline(always)]
 pub fn decode_shift(word: u32) -> Option<Instr>
@@ -312,8 +287,7 @@ pub fn decode_shift(word: u32) -> Option<Instr>
 }
 
 /// The instruction of a word, if it is a load or a store of an integer register with no address space of its own.
-///
-/// It is `decode` for these alone, for a caller that has a way of its own for them. `None` says nothing of the word.
+/// `None` says nothing of the word.
 #[tactic(auto, unfolding(crate::specs::Table::meaning))]
 #[inline(always)]
 pub fn decode_memory(word: u32) -> Option<Instr>
@@ -327,8 +301,7 @@ pub fn decode_memory(word: u32) -> Option<Instr>
 }
 
 /// The instruction of a word, if it is MULScc, JMPL, SAVE or RESTORE.
-///
-/// It is `decode` for these alone, for a caller that has a way of its own for them. `None` says nothing of the word.
+/// `None` says nothing of the word.
 #[tactic(auto, unfolding(crate::specs::Table::meaning))]
 #[inline(always)]
 pub fn decode_three_fields(word: u32) -> Option<Instr>
@@ -353,8 +326,7 @@ macro_rules! call_rows {
 }
 
 /// The instruction of a word, if it is CALL.
-///
-/// It is `decode` for CALL alone, for a caller that has a way of its own for it. `None` says nothing of the word.
+/// `None` says nothing of the word.
 #[tactic(auto, unfolding(crate::specs::Table::meaning))]
 #[inline(always)]
 pub fn decode_call(word: u32) -> Option<Instr>
@@ -383,8 +355,7 @@ macro_rules! format_2_rows {
 }
 
 /// The instruction of a word, if it is Bicc or SETHI.
-///
-/// It is `decode` for these alone, for a caller that has a way of its own for them. `None` says nothing of the word.
+/// `None` says nothing of the word.
 #[tactic(auto, unfolding(crate::specs::Table::meaning))]
 #[inline(always)]
 pub fn decode_format_2(word: u32) -> Option<Instr>

@@ -1,13 +1,14 @@
-//! Fields of a word.
+//! Fields of a word, and the branch and the call with them.
 
-ghost use Rattle.std.specs.Prelude.{◌≡◌, ◌+◌, ◌-◌, ◌^◌, ◌<◌, ◌≤◌, IfSome};
+ghost use Rattle.std.specs.Prelude.{◌≡◌, ◌+◌, ◌-◌, ◌^◌, ◌<◌, ◌≤◌, ◌==◌, IfSome};
 ghost use Rattle.std.specs.Option.{ForSome};
 ghost use Rattle.sv8_model.specs.Words.{field, signed};
+ghost use Rattle.sv8_isa.specs.declared.instr.Instr.TheVariants.{Bicc, Call};
 ghost use Rattle.sv8_isa.specs.Operands.{operand_of, count_of, trap_number_of, condition_of};
 ghost use Rattle.sv8_isa.specs.Registers.{OperandHasRegister};
 ghost use Rattle.sv8_isa.specs.Encoding.{unsigned_bits, signed_bits, source_bits, natural_source, alternate_source, cond_code, annul_code, format_call, format_2, format_3};
 
-use crate::instr::{Cond, Operand};
+use crate::instr::{Cond, Instr, Operand};
 
 /// The bits `high` down to `low` of a word.
 pub(crate) fn bits(word: u32, high: u32, low: u32) -> u32
@@ -240,5 +241,27 @@ pub(crate) fn format_3(op: u32, rd: u8, op3: u32, rs1: u8, source: Option<u32>) 
         Some(source | u32::from(rs1) << 14 | op3 << 19 | u32::from(rd) << 25 | op << 30)
     } else {
         None
+    }
+}
+
+/// Bicc with the fields of a word.
+#[inline(always)]
+pub(crate) fn branch(word: u32) -> Instr
+    ensures { result ≡ Bicc (condition_of (field word 28 25)) (field word 29 29 == 1) (signed (field word 21 0) 22) }
+{
+    Instr::Bicc {
+        cond: condition(word),
+        annul: bits(word, 29, 29) == 1,
+        disp22: sign_extend(bits(word, 21, 0), 22),
+    }
+}
+
+/// CALL with the displacement of a word.
+#[inline(always)]
+pub(crate) fn call(word: u32) -> Instr
+    ensures { result ≡ Call (signed (field word 29 0) 30) }
+{
+    Instr::Call {
+        disp30: sign_extend(bits(word, 29, 0), 30),
     }
 }
