@@ -1,4 +1,5 @@
 """The proved program and the plain interpreter: how they are built, asked and timed."""
+import functools
 import os
 import subprocess
 import sys
@@ -10,9 +11,9 @@ from image import image
 
 BENCH = Path(__file__).resolve().parent
 INTERPRETER = BENCH / "out" / "interpreter"
-# How long an undisturbed run is waited for, and the least time of the piece of work that shows one.
-CALM_SECONDS = 120
-LEAST = [1.0]
+# How long undisturbed runs are waited for; how many pieces of work show first what the least time of one is, some
+# seconds of them; how much more one may take.
+CALM_SECONDS, FIRST_PIECES, CALM_FACTOR = 120, 5_000, 1.12
 
 # As `sparc8` starts the program: with memory in large pages.
 os.environ.setdefault("GLIBC_TUNABLES", "glibc.malloc.hugetlb=1")
@@ -104,12 +105,27 @@ def calm_runs(run, count):
 
 
 def is_calm():
-    """Whether a fixed piece of work, of about a millisecond, takes hardly more than its least time so far."""
+    """Whether a piece of work takes hardly more than the least time of the first ones.
+
+    Where one takes far less than those, what was timed before is of slower moments and compares with nothing.
+    """
+    took = piece_seconds()
+    if took * CALM_FACTOR < least_piece_seconds():
+        sys.exit("the processor is faster than when the bench began: run it again")
+    return took <= CALM_FACTOR * least_piece_seconds()
+
+
+@functools.cache
+def least_piece_seconds():
+    """The least time of a piece of work, before anything is timed."""
+    return min(piece_seconds() for _ in range(FIRST_PIECES))
+
+
+def piece_seconds():
+    """The seconds that a fixed piece of work takes, about one thousandth."""
     begin = time.perf_counter()
     sum(range(40_000))
-    took = time.perf_counter() - begin
-    LEAST.append(min(took, LEAST.pop()))
-    return took <= 1.12 * LEAST[0]
+    return time.perf_counter() - begin
 
 
 def processor_time(words, text):
