@@ -15,8 +15,10 @@ use Rattle.sv8_time.specs.Schedule.{Schedule}
 use Rattle.sv8_source.specs.Text.{Text}
 use Rattle.sv8_cpu.specs.State.{State}
 use Rattle.sv8_cpu.specs.Sameness.{IsSameProcessor}
-use Rattle.sv8_cpu.specs.Recorded.{machine, run_of, put, AreEvents}
-use Rattle.sv8_cpu.proofs.Common.{framed, state_is}
+use Rattle.sv8_cpu.specs.Recorded.{machine, put, AreEvents}
+use Rattle.sv8_cpu.proofs.Common.{framed}
+use Rattle.sv8_reset.specs.Reset.{run_of}
+use Rattle.sv8_reset.proofs.Runs.{state_is}
 use Rattle.sv8_bench.specs.Alike.{AreAlikeUpTo}
 use Rattle.sv8_bench.specs.Kept.{Kept}
 use Rattle.sv8_bench.specs.Shown.{machine_state}

@@ -1,5 +1,5 @@
 -- What an edit makes of a workbench, once its changes are made of the trace.
-use Rattle.std.proofs.Common.{◌≡◌, ◌∙◌, ℕ, ◌+◌, ◌*◌, ◌<◌, ◌≤◌, List, length, Some, refl, sym, subst, arith, mul-le-mul_left}
+use Rattle.std.proofs.Common.{◌≡◌, ◌∙◌, ℕ, ◌+◌, ◌*◌, ◌<◌, ◌≤◌, List, length, Option, Some, None, refl, sym, subst, arith, mul-le-mul_left}
 use Rattle.sv8_history.specs.Machine.{Run, state_at}
 use Rattle.sv8_history.specs.Trace.{Trace, IsTraceOf, Agrees}
 use Rattle.sv8_history.specs.Changes.{Change}
@@ -9,25 +9,38 @@ use Rattle.sv8_history.specs.Input.{IsFirstTake}
 use Rattle.sv8_history.specs.Patches as history
 use Rattle.sv8_history.specs.Laws.{IsRightCount}
 use Rattle.sv8_history.proofs.Common.{edit_keeps, edit_counts, input_edit_keeps, input_edit_counts, agrees_keeps, later_keeps}
-use Rattle.sv8_time.specs.Schedule.{Schedule, IsTimeline, with_input, bytes_of_step}
+use Rattle.sv8_time.specs.declared.edit.TimelineEdit.{TimelineEdit}
+use Rattle.sv8_time.specs.declared.edit.TimelineEdit.TheVariants.{SetPoke, ClearPoke, SetPokeByte, ClearPokeByte, SetInput, ClearInput, SetRequest, ClearRequest}
+use Rattle.sv8_time.specs.Edits.{with_edit}
+use Rattle.sv8_time.specs.Schedule.{Schedule, IsTimeline}
 use Rattle.sv8_phys.specs.Memory.{ram_size}
 use Rattle.sv8_source.specs.Text.{Text}
 use Rattle.sv8_cpu.specs.Sameness.{IsSameProcessor}
-use Rattle.sv8_cpu.specs.Recorded.{machine, run_of, AreEvents}
+use Rattle.sv8_cpu.specs.Recorded.{machine, AreEvents}
 use Rattle.sv8_cpu.proofs.Common.{framed}
-use Rattle.sv8_edits.specs.Changes.{input_change}
-use Rattle.sv8_edits.specs.EditLaws.{CanRun, Edits, Refeeds}
-use Rattle.sv8_edits.proofs.Common.{standing_inputs}
-use Rattle.sv8_trace.specs.declared.patch.Patch.{Patch}
-use Rattle.sv8_trace.specs.Patch.{changes_of}
+use Rattle.sv8_reset.specs.Reset.{run_of}
+use Rattle.sv8_edits.specs.Changes.{RunChange, cells, input}
+use Rattle.sv8_edits.specs.EditLaws.{CanRun, Edits, Refeeds, Makes}
 use Rattle.sv8_trace.specs.Recording.{Recording, signs_of, recorded, trace_of}
 use Rattle.sv8_trace.specs.Prepared.{prepared_trace, IsPlaced, Near, Preparation}
 use Rattle.sv8_trace.specs.Signs.{signs_among}
 use Rattle.sv8_trace.proofs.Common.{near_agrees, agrees_along, signs_alike}
-use Rattle.sv8_bench.specs.Kept.{Kept, with_timeline}
+use Rattle.sv8_bench.specs.Kept.{Kept}
+use Rattle.sv8_bench.specs.Edits.{IsReadyFor, IsCommitted}
 use Rattle.sv8_bench.specs.Alike.{StaysAlike}
-use Rattle.sv8_bench.specs.Workbench.{Workbench, IsRecordOf, IsRun, IsEdited, IsRefed}
+use Rattle.sv8_bench.specs.Workbench.{Workbench, IsRecordOf, IsRun, IsEdited}
 use Rattle.sv8_bench.proofs.Alike.{unread_alike, untaken_alike, kept_alike}
+
+-- an edit of a timeline leaves the size of RAM
+pub limit_stays : (edit : TimelineEdit) (s : Schedule) → (with_edit edit s).limit ≡ s.limit
+limit_stays (SetPoke step address value) s = refl
+limit_stays (ClearPoke step address) s = refl
+limit_stays (SetPokeByte step address value) s = refl
+limit_stays (ClearPokeByte step address) s = refl
+limit_stays (SetInput step bytes) s = refl
+limit_stays (ClearInput step) s = refl
+limit_stays (SetRequest step level) s = refl
+limit_stays (ClearRequest step level) s = refl
 
 -- what an edit comes to: the recorded run is that of what is now kept, what is said of the edit holds, and the processors are alike
 pub record AfterEdit (k : ℕ) (old new : Workbench) (IsDone : Type 0) : Type 0 where
@@ -63,20 +76,19 @@ module _ (windows pages k : ℕ) (pos : 0 < k) where
 
       -- cells are edited
       module _ (steps : recorded k r ≤ 1000000) (source' : Text) (s' : Schedule) (cs : List (Change (machine windows pages))) (edits : Edits windows pages cs source s source' s' can)
-          (ps : List Patch) (is : changes_of windows pages ps ≡ cs) (staged : Preparation) (r' : Recording)
-          (near : Near (machine windows pages) k (prepared_trace windows pages k r staged) (history.edited (machine windows pages) k (trace_of windows pages k r) (changes_of windows pages ps)))
+          (staged : Preparation) (r' : Recording)
+          (near : Near (machine windows pages) k (prepared_trace windows pages k r staged) (history.edited (machine windows pages) k (trace_of windows pages k r) cs))
           (placed : IsPlaced windows pages k r staged r')
           (next : Kept) (kept : record { windows = windows; pages = pages; source = source'; timeline = s' } ≡ next) where
-        abbrev pub new : Workbench
+        abbrev new : Workbench
         new = record { kept = record { windows = windows; pages = pages; source = source'; timeline = s' }; recording = r'; worked = worked }
 
         same : Agrees (machine windows pages) k (history.edited (machine windows pages) k (trace_of windows pages k r) cs) (trace_of windows pages k r')
         same =
-            subst (λ x. Agrees (machine windows pages) k (history.edited (machine windows pages) k (trace_of windows pages k r) x) (trace_of windows pages k r')) is
-            (agrees_along (machine windows pages) k (history.edited (machine windows pages) k (trace_of windows pages k r) (changes_of windows pages ps)) (prepared_trace windows pages k r staged) (trace_of windows pages k r')
-            (near_agrees (machine windows pages) k (prepared_trace windows pages k r staged) (history.edited (machine windows pages) k (trace_of windows pages k r) (changes_of windows pages ps)) near) placed.agrees)
+            agrees_along (machine windows pages) k (history.edited (machine windows pages) k (trace_of windows pages k r) cs) (prepared_trace windows pages k r staged) (trace_of windows pages k r')
+            (near_agrees (machine windows pages) k (prepared_trace windows pages k r staged) (history.edited (machine windows pages) k (trace_of windows pages k r) cs) near) placed.agrees
 
-        edited_is : IsEdited k next old new cs
+        edited_is : IsEdited k next old new (cells cs)
         edited_is = record {
           kept = kept;
           worked = refl;
@@ -108,7 +120,7 @@ module _ (windows pages k : ℕ) (pos : 0 < k) where
           };
         }
 
-        pub after_edit : AfterEdit k old new (IsEdited k next old new cs)
+        after_edit : AfterEdit k old new (IsEdited k next old new (cells cs))
         after_edit = record { run = edited_run; done = edited_is; alike = edited_alike }
 
       -- the input from a step on is edited
@@ -116,7 +128,7 @@ module _ (windows pages k : ℕ) (pos : 0 < k) where
           (near : Near (machine windows pages) k (prepared_trace windows pages k r staged) (history_input.edited_input (machine windows pages) k (trace_of windows pages k r) step))
           (placed : IsPlaced windows pages k r staged r')
           (next : Kept) (kept : record { windows = windows; pages = pages; source = source; timeline = s' } ≡ next) where
-        abbrev pub refed : Workbench
+        abbrev refed : Workbench
         refed = record { kept = record { windows = windows; pages = pages; source = source; timeline = s' }; recording = r'; worked = worked }
 
         fed_same : Agrees (machine windows pages) k (history_input.edited_input (machine windows pages) k (trace_of windows pages k r) step) (trace_of windows pages k r')
@@ -124,7 +136,7 @@ module _ (windows pages k : ℕ) (pos : 0 < k) where
             agrees_along (machine windows pages) k (history_input.edited_input (machine windows pages) k (trace_of windows pages k r) step) (prepared_trace windows pages k r staged) (trace_of windows pages k r')
             (near_agrees (machine windows pages) k (prepared_trace windows pages k r staged) (history_input.edited_input (machine windows pages) k (trace_of windows pages k r) step) near) placed.agrees
 
-        refed_is : IsRefed k (Some step) next old refed
+        refed_is : IsEdited k next old refed (input (Some step))
         refed_is = record {
           kept = kept;
           worked = refl;
@@ -153,14 +165,40 @@ module _ (windows pages k : ℕ) (pos : 0 < k) where
           };
         }
 
-        pub after_input : AfterEdit k old refed (IsRefed k (Some step) next old refed)
+        after_input : AfterEdit k old refed (IsEdited k next old refed (input (Some step)))
         after_input = record { run = refed_run; done = refed_is; alike = refed_alike }
 
--- ---- the input of a step
+      -- input that stands already
+      module _ (next : Kept) (kept : record { windows = windows; pages = pages; source = source; timeline = s } ≡ next) where
+        after_nothing : AfterEdit k old old (IsEdited k next old old (input None))
+        after_nothing = record {
+          run = run;
+          done = record { kept = kept; worked = refl; recorded = λ valid. record { fewer = omega arith; at_first = λ s h. absurd h; without = λ none. refl } };
+          alike = record { processors = λ n l. record { processor = refl; mmu = refl } };
+        }
 
--- bytes that stand there already change nothing
-pub standing_is : (k : ℕ) (w : Workbench) (step : ℕ) (bytes : List ℕ) → IsTimeline w.kept.timeline → 0 < length bytes → bytes_of_step step w.kept.timeline.inputs ≡ bytes
-    → IsRefed k (input_change step bytes w.kept.timeline) (with_timeline (with_input step bytes w.kept.timeline) w.kept) w w
-standing_is k w step bytes timeline some same =
-    let law = standing_inputs w.kept.timeline timeline step bytes some same in
-    rw (law.0, law.1) (record { kept = refl; worked = refl; recorded = λ valid. record { fewer = omega arith; at_first = λ s h. absurd h; without = λ none. refl } })
+      -- an edit of whatever it is
+      module _ (steps : recorded k r ≤ 1000000) where
+        abbrev changed : Text → Schedule → Recording → Workbench
+        changed source' s' r' = record { kept = record { windows = windows; pages = pages; source = source'; timeline = s' }; recording = r'; worked = worked }
+
+        pub after_change : (change : RunChange windows pages) (source' : Text) (s' : Schedule) → Makes windows pages change source s source' s' can
+            → (staged : Option Preparation) → IsReadyFor windows pages k change r staged → (r' : Recording) → IsCommitted windows pages k staged r r'
+            → (next : Kept) → record { windows = windows; pages = pages; source = source'; timeline = s' } ≡ next
+            → AfterEdit k old (changed source' s' r') (IsEdited k next old (changed source' s' r') change)
+        after_change (cells cs) source' s' edits (Some p) near r' placed next kept = after_edit steps source' s' cs edits p r' near placed next kept
+        after_change (cells cs) source' s' edits None near r' placed next kept = absurd near
+        after_change (input (Some step)) source' s' makes (Some p) near r' placed next kept =
+            subst (λ t. record { windows = windows; pages = pages; source = t; timeline = s' } ≡ next
+            → AfterEdit k old (changed t s' r') (IsEdited k next old (changed t s' r') (input (Some step)))) (sym makes.0)
+            (λ same. after_input step s' makes.1 p r' near placed next same) kept
+        after_change (input (Some step)) source' s' makes None near r' placed next kept = absurd near
+        after_change (input None) source' s' makes (Some p) near r' placed next kept = absurd near
+        after_change (input None) source' s' makes None near r' placed next kept =
+            subst (λ t. record { windows = windows; pages = pages; source = t; timeline = s' } ≡ next
+            → AfterEdit k old (changed t s' r') (IsEdited k next old (changed t s' r') (input None))) (sym makes.0)
+            (subst (λ t. record { windows = windows; pages = pages; source = source; timeline = t } ≡ next
+            → AfterEdit k old (changed source t r') (IsEdited k next old (changed source t r') (input None))) (sym makes.1)
+            (subst (λ t. record { windows = windows; pages = pages; source = source; timeline = s } ≡ next
+            → AfterEdit k old (changed source s t) (IsEdited k next old (changed source s t) (input None))) (sym placed)
+            (λ same. after_nothing next same))) kept

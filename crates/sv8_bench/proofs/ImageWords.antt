@@ -15,8 +15,9 @@ use Rattle.sv8_source.specs.declared.image.Change as source
 use Rattle.sv8_source.specs.Listing.{ListedLine, listing}
 use Rattle.sv8_source.specs.Text.{Text}
 use Rattle.sv8_source.specs.Image.{byte_at, word_at, change_at, changed, changes, words, image_byte, image_bytes}
-use Rattle.sv8_cpu.specs.State.{State, reset_state}
+use Rattle.sv8_cpu.specs.State.{State}
 use Rattle.sv8_cpu.specs.Recorded.{machine}
+use Rattle.sv8_reset.specs.Reset.{reset_state}
 use Rattle.sv8_edits.specs.Changes.{image_byte_changes, image_changes}
 
 -- what a word of the image changes, where RAM has the new bytes

@@ -1,7 +1,6 @@
 pub mod ShownWords
 pub mod ImageWords
 pub mod Queried
-pub mod Places
 pub mod Alike
 pub mod Edited
 pub mod Walking

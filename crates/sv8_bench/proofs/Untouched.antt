@@ -14,7 +14,7 @@ use Rattle.sv8_cpu.specs.State.{State}
 use Rattle.sv8_cpu.specs.Recorded.{machine}
 use Rattle.sv8_cpu.specs.Run.{footprint}
 use Rattle.sv8_cpu.specs.Touching.{touches_byte_as, is_within, pokes_any}
-use Rattle.sv8_cpu.proofs.Common.{footprint_is, state_is}
+use Rattle.sv8_reset.proofs.Runs.{footprint_is, state_is}
 use Rattle.sv8_trace.specs.Recording.{recorded, trace_of}
 use Rattle.sv8_notes.specs.Flags.{IsFlagged, IsFlaggedUnless}
 use Rattle.sv8_notes.specs.Touching.{touches_as}

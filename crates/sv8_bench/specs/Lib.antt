@@ -5,3 +5,4 @@ pub mod Workbench
 pub mod Alike
 pub mod Walks
 pub mod Touching
+pub mod Edits

@@ -7,7 +7,7 @@ use Rattle.sv8_regs.specs.Control.{packed_psr}
 use Rattle.sv8_model.specs.Levels.{levels_word}
 use Rattle.sv8_time.specs.Schedule.{Schedule}
 use Rattle.sv8_cpu.specs.State.{State, waiting}
-use Rattle.sv8_cpu.specs.Run.{state_at}
+use Rattle.sv8_reset.specs.Reset.{state_at}
 use Rattle.sv8_bench.specs.Kept.{Kept}
 use Rattle.sv8_bench.specs.declared.shown.Shown.{Shown}
 

@@ -1,14 +1,11 @@
 -- Walks through the steps of a workbench's run, one by one.
-use Rattle.std.specs.Prelude.{◌≡◌, ℕ, ◌+◌, ◌-◌, ◌*◌, ◌/◌, ◌<◌, ◌≤◌, ◌⊎◌, max}
+use Rattle.std.specs.Prelude.{◌≡◌, ℕ, ◌+◌, ◌/◌, ◌<◌, ◌≤◌, ◌⊎◌, max}
 use Rattle.sv8_cpu.specs.State.{State}
 use Rattle.sv8_cpu.specs.Work.{counted}
-use Rattle.sv8_history.specs.Growing.{restored}
 use Rattle.sv8_trace.specs.Drafts.{IsDraft}
-use Rattle.sv8_trace.specs.Recorder.{counted_by, RaisedUpTo}
 use Rattle.sv8_trace.specs.Recording.{Recording, recorded}
-use Rattle.sv8_bench.specs.Kept.{Kept}
 use Rattle.sv8_bench.specs.Shown.{machine_state}
-use Rattle.sv8_bench.specs.Workbench.{Workbench, checkpoints, missing}
+use Rattle.sv8_bench.specs.Workbench.{Workbench, checkpoints}
 use Rattle.sv8_bench.specs.declared.walk.Place.{Place}
 use Rattle.sv8_bench.specs.declared.walk.Place.TheVariants.{Restored, Drafted}
 use Rattle.sv8_bench.specs.declared.walk.Walk.{Walk}

@@ -1,17 +1,17 @@
 -- A workbench as its contracts see it: what it keeps, the recorded run, and the count of the steps that were made. What edits and queries make of it.
-use Rattle.std.specs.Prelude.{◌≡◌, ℕ, ◌+◌, ◌-◌, ◌*◌, ◌/◌, ◌<◌, ◌≤◌, List, Option, Some, None, length, max}
+use Rattle.std.specs.Prelude.{◌≡◌, ℕ, ◌+◌, ◌-◌, ◌*◌, ◌/◌, ◌<◌, ◌≤◌, Some, None, length, max}
 use Rattle.sv8_history.specs.Machine.{Run, state_at}
-use Rattle.sv8_history.specs.Changes.{Change}
 use Rattle.sv8_history.specs.Reads.{IsFirstRead}
 use Rattle.sv8_history.specs.Input.{IsFirstTake}
 use Rattle.sv8_history.specs.Trace.{IsTraceOf}
 use Rattle.sv8_history.specs.Laws.{IsRightCount}
 use Rattle.sv8_history.specs.Growing.{restored}
-use Rattle.sv8_cpu.specs.State.{reset_state}
-use Rattle.sv8_cpu.specs.Recorded.{machine, run_of, AreEvents, IsSound}
+use Rattle.sv8_cpu.specs.Recorded.{machine, AreEvents, IsSound}
+use Rattle.sv8_reset.specs.Reset.{reset_state, run_of}
 use Rattle.sv8_trace.specs.Recorder.{counted_by, RaisedUpTo}
 use Rattle.sv8_trace.specs.Recording.{Recording, signs_of, trace_of}
 use Rattle.sv8_trace.specs.Signs.{signs_among}
+use Rattle.sv8_edits.specs.Changes.{RunChange, cells, input}
 use Rattle.sv8_bench.specs.Kept.{Kept, empty}
 
 pub record Workbench : Type 0 where
@@ -59,24 +59,18 @@ pub record IsNew (windows pages : ℕ) (w : Workbench) : Type 0 where
 
 -- ---- edits
 
--- An edit leads to what is now kept, and makes no step. Of the recorded run it leaves what is not above the first step that reads one of its changes.
-pub record IsEdited (k : ℕ) (next : Kept) (old new : Workbench) (changes : List (Change (machine old.kept.windows old.kept.pages))) : Type 0 where
+-- The first step of a run that reads what an edit changes: one of its cells, or the input from the step on from which it is another.
+abbrev pub IsFirstReader : (k : Kept) → AreEvents k.pages k.timeline → RunChange k.windows k.pages → ℕ → Type 0
+IsFirstReader k valid (cells cs) s = IsFirstRead (machine k.windows k.pages) (run_of_kept k valid) cs s
+IsFirstReader k valid (input None) s = ⊥
+IsFirstReader k valid (input (Some step)) s = IsFirstTake (machine k.windows k.pages) (run_of_kept k valid) step s
+
+-- AN EDIT leads to what is now kept, and makes no step. Of the recorded run it leaves what is not above the first step that reads what it changes.
+pub record IsEdited (k : ℕ) (next : Kept) (old new : Workbench) (change : RunChange old.kept.windows old.kept.pages) : Type 0 where
   pub kept : new.kept ≡ next
   pub worked : new.worked ≡ old.worked
   pub recorded : (valid : AreEvents old.kept.pages old.kept.timeline)
-      → IsRightCount k (checkpoints old) (checkpoints new) (IsFirstRead (machine old.kept.windows old.kept.pages) (run_of_kept old.kept valid) changes)
-
--- the first step of a run that takes or counts the bytes that wait, from the step on from which the input is another; none does where it is not
-abbrev pub IsFirstFed : (k : Kept) → AreEvents k.pages k.timeline → Option ℕ → ℕ → Type 0
-IsFirstFed k valid None s = ⊥
-IsFirstFed k valid (Some step) s = IsFirstTake (machine k.windows k.pages) (run_of_kept k valid) step s
-
--- An edit of the input does the same, with that step for the first one that reads a change.
-pub record IsRefed (k : ℕ) (change : Option ℕ) (next : Kept) (old new : Workbench) : Type 0 where
-  pub kept : new.kept ≡ next
-  pub worked : new.worked ≡ old.worked
-  pub recorded : (valid : AreEvents old.kept.pages old.kept.timeline)
-      → IsRightCount k (checkpoints old) (checkpoints new) (IsFirstFed old.kept valid change)
+      → IsRightCount k (checkpoints old) (checkpoints new) (IsFirstReader old.kept valid change)
 
 -- ---- queries
 

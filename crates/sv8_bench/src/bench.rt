@@ -5,13 +5,14 @@ ghost use Rattle.sv8_source.specs.Text.{texts, replaced};
 ghost use Rattle.sv8_source.specs.Listing.{listing, numbered};
 ghost use Rattle.sv8_source.specs.Names.{names};
 ghost use Rattle.sv8_source.specs.View.{named_of, shown_of};
-ghost use Rattle.sv8_edits.specs.Changes.{image_changes};
+ghost use Rattle.sv8_edits.specs.Changes.{source_change};
 ghost use Rattle.sv8_trace.specs.Recording.{recorded};
 ghost use Rattle.sv8_bench.specs.Alike.{StaysAlike};
 ghost use Rattle.sv8_bench.specs.Faults.{edit_refusal};
 ghost use Rattle.sv8_bench.specs.Kept.{edited};
 ghost use Rattle.sv8_bench.specs.Workbench.{IsRun, IsNew, IsEdited, IsSized};
 
+mod affected;
 mod copies;
 mod edits;
 mod patches;
@@ -19,12 +20,14 @@ mod queries;
 mod touching;
 mod walks;
 
+use crate::bench::affected::{Affected, commit, prepare};
 use crate::bench::patches::image_patches;
 pub use crate::bench::queries::LAST_STEP;
 use crate::fault::BenchFault;
 use std::alloc::{AllocError, Global};
 use std::marker::Model;
-use sv8_cpu::{Machine, Work};
+use sv8_cpu::Work;
+use sv8_reset::reset;
 use sv8_source::{DefinedName, Listed, Source};
 use sv8_time::Timeline;
 use sv8_trace::Trace;
@@ -85,7 +88,7 @@ impl<const NW: usize, const PAGES: usize, const K: u32> Bench<NW, PAGES, K> {
     {
         let ram_size = 4096 * PAGES as u32;
         let source = Source::new(alloc, ram_size);
-        let machine = Machine::reset(alloc, &source)?;
+        let machine = reset(alloc, &source)?;
         let _size = machine.ram_size();
         let trace = Trace::new(alloc, machine)?;
         Ok(Bench {
@@ -112,7 +115,7 @@ impl<const NW: usize, const PAGES: usize, const K: u32> Bench<NW, PAGES, K> {
     ) -> Result<(), BenchFault>
         ensures accepted { OnOk result (edit_refusal first last (texts lines.now) self.old.kept ≡ None) }
         ensures edited { OnOk result (IsEdited K (edited first last (texts lines.now) self.old.kept) self.old self.new
-            (image_changes self.old.kept.windows self.old.kept.pages self.old.kept.source (replaced first last (texts lines.now) self.old.kept.source) self.old.kept.timeline)) }
+            (source_change self.old.kept.windows self.old.kept.pages self.old.kept.source (replaced first last (texts lines.now) self.old.kept.source) self.old.kept.timeline)) }
         ensures refused { IfErr result (λ e. (e ≡ BenchFault.OutOfMemory) ⊎ (edit_refusal first last (texts lines.now) self.old.kept ≡ Some e)) }
         ensures unchanged { OnErr result (self.new ≡ self.old) }
         ensures alike { StaysAlike K self.old self.new }
@@ -120,12 +123,12 @@ impl<const NW: usize, const PAGES: usize, const K: u32> Bench<NW, PAGES, K> {
         let plan = self.source.plan(self.alloc, first, last, lines)?;
         let _limit = self.timeline.limit();
         let _recorded = self.trace.recorded();
-        let reset = Machine::<NW, PAGES>::reset(self.alloc, plan.source())?;
-        let _size = reset.ram_size();
-        let patches = image_patches(self.alloc, plan.changes(), &reset, &self.timeline)?;
-        let prepared = self.trace.prepare_edit(self.alloc, &patches)?;
+        let machine = reset::<NW, PAGES>(self.alloc, plan.source())?;
+        let _size = machine.ram_size();
+        let patches = image_patches(self.alloc, plan.changes(), &machine, &self.timeline)?;
+        let prepared = prepare(self.alloc, &self.trace, &Affected::Cells(patches))?;
         self.source.commit(plan);
-        self.trace.commit(prepared);
+        commit(&mut self.trace, prepared);
         Ok(())
     }
 

@@ -6,6 +6,7 @@ use sv8_bench::{Bench, BenchFault};
 use sv8_cpu::Machine;
 use sv8_model::Level;
 use sv8_phys::Page;
+use sv8_reset::reset;
 use sv8_source::Source;
 
 /// A machine with one page of RAM, and a checkpoint every 256 steps.
@@ -149,7 +150,7 @@ fn is_copied(machine: &mut Machine<8, 1>, alloc: Global) -> Result<bool, AllocEr
 /// A machine just reset, whose RAM is zeros.
 fn blank(alloc: Global) -> Result<Machine<8, 1>, AllocError> {
     let source = Source::new(alloc, 4_096);
-    Machine::reset(alloc, &source)
+    reset(alloc, &source)
 }
 
 #[test]

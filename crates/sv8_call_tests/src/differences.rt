@@ -4,6 +4,7 @@ use std::alloc::Global;
 use std::test::*;
 use sv8_cpu::Machine;
 use sv8_phys::Phys;
+use sv8_reset::reset;
 use sv8_source::Source;
 
 /// A memory of three pages and its snapshot, in which some bytes are set.
@@ -92,7 +93,7 @@ fn loaded(alloc: Global) -> Result<Small, Fail> {
     lines.push(b".word 0x12345678".to_vec(alloc)?)?;
     let mut source = Source::new(alloc, 8_192);
     let _ = source.replace(alloc, 1, 0, &lines);
-    let machine = Small::reset(alloc, &source)?;
+    let machine: Small = reset(alloc, &source)?;
     Ok(machine)
 }
 

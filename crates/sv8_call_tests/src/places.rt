@@ -7,6 +7,7 @@ use std::test::*;
 use sv8_cpu::{Machine, Work};
 use sv8_mmu::{Mmu, Place, TableLevel, place_of};
 use sv8_phys::{NoTouches, Phys, Size};
+use sv8_reset::reset;
 use sv8_source::Source;
 use sv8_time::Timeline;
 
@@ -193,7 +194,7 @@ fn translator(alloc: Global) -> Result<Small, Fail> {
     }
     let mut source = Source::new(alloc, 8_192);
     let _ = source.replace(alloc, 1, 0, &lines);
-    let machine = Small::reset(alloc, &source)?;
+    let machine: Small = reset(alloc, &source)?;
     Ok(machine)
 }
 

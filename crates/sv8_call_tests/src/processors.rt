@@ -6,6 +6,7 @@ use std::alloc::{AllocError, Global};
 use std::test::*;
 use sv8_cpu::{Machine, Work};
 use sv8_phys::NoTouches;
+use sv8_reset::reset;
 use sv8_source::Source;
 use sv8_time::Timeline;
 
@@ -68,7 +69,7 @@ fn after(alloc: Global, last: &[&[u8]], steps: u32) -> Result<Small, Fail> {
     }
     let mut source = Source::new(alloc, 4_096);
     let _ = source.replace(alloc, 1, 0, &lines);
-    let machine = Small::reset(alloc, &source)?;
+    let machine: Small = reset(alloc, &source)?;
     let ran = run(alloc, machine, steps)?;
     Ok(ran)
 }
@@ -89,13 +90,21 @@ fn run(alloc: Global, machine: Small, steps: u32) -> Result<Small, AllocError> {
 /// Whether the last of the instructions leaves the same processor as `nop` does, asked either way round.
 fn is_same(alloc: Global, plain: &Small, last: &[u8]) -> Result<bool, Fail> {
     let other = after(alloc, &[last], 8)?;
-    Ok(plain.has_same_processor(&other) && other.has_same_processor(plain))
+    Ok(
+        plain.has_same_processor(&other)
+            && other.has_same_processor(plain)
+            && plain.has_same_processor_in_window(&other),
+    )
 }
 
 /// Whether it leaves another one, asked either way round.
 fn is_other(alloc: Global, plain: &Small, last: &[u8]) -> Result<bool, Fail> {
     let other = after(alloc, &[last], 8)?;
-    Ok(!plain.has_same_processor(&other) && !other.has_same_processor(plain))
+    Ok(
+        !plain.has_same_processor(&other)
+            && !other.has_same_processor(plain)
+            && !plain.has_same_processor_in_window(&other),
+    )
 }
 
 /// How many of some instructions leave the same processor as `nop` does, and how many leave another one.
@@ -111,6 +120,17 @@ fn count(alloc: Global, plain: &Small, instructions: &[&[u8]]) -> Result<(u32, u
         }
     }
     Ok((same, others))
+}
+
+/// A local register of another window makes another processor, which is the same in the current window.
+fn outside_the_window(alloc: Global) -> Result<bool, Fail> {
+    let plain = after(alloc, &[b"nop", b"nop", b"nop"], 10)?;
+    let other = after(
+        alloc,
+        &[b"save %g0, 0, %g0", b"mov 1, %l0", b"restore %g0, 0, %g0"],
+        10,
+    )?;
+    Ok(!plain.has_same_processor(&other) && plain.has_same_processor_in_window(&other))
 }
 
 /// Machines in error mode are compared by the same parts.
@@ -133,6 +153,7 @@ fn processors_are_compared(rt: HostRuntime) -> Result<(), Fail> {
     assert!(rt; plain.is_running());
     assert!(rt; count(alloc, &plain, &SAME)? == (5, 0));
     assert!(rt; count(alloc, &plain, &OTHER)? == (0, 21));
+    assert!(rt; outside_the_window(alloc)?);
     assert!(rt; error_modes(alloc)?);
     Ok(())
 }

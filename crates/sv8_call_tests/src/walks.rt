@@ -36,7 +36,7 @@ fn leads_on(alloc: Global, bench: &mut Small) -> Result<bool, AllocError> {
     bench.walk_on(&mut walk, &mut watch)?;
     let recorded = steps(bench) == (512, 512) && walk.machine().registers().get(1) == 256;
     let seen = watch.touches().len() == 1 && watch.observations().len() == 1;
-    bench.walk_past(&mut walk, &mut watch)?;
+    bench.walk_past::<0>(&mut walk, &mut watch)?;
     let behind = steps(bench) == (512, 513) && walk.step() == 513 && walk.machine().pc() == 4;
     let mut again = bench.walk(255, &mut watch)?;
     bench.walk_on(&mut again, &mut watch)?;

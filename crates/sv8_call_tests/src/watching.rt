@@ -6,6 +6,7 @@ use std::alloc::{AllocError, Global};
 use std::test::*;
 use sv8_cpu::{Machine, Work};
 use sv8_phys::{AccessKind, Observation, Touch, Touches};
+use sv8_reset::reset;
 use sv8_source::Source;
 use sv8_time::Timeline;
 
@@ -48,7 +49,7 @@ fn loaded(alloc: Global, program: &[&[u8]]) -> Result<Small, Fail> {
     }
     let mut source = Source::new(alloc, 8_192);
     let _ = source.replace(alloc, 1, 0, &lines);
-    let machine = Small::reset(alloc, &source)?;
+    let machine: Small = reset(alloc, &source)?;
     Ok(machine)
 }
 

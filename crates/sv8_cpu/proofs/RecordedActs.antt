@@ -17,13 +17,12 @@ use Rattle.sv8_history.specs.Acting.{IsActing}
 use Rattle.sv8_history.proofs.Common.{acting_frames}
 use Rattle.sv8_time.specs.Schedule.{Schedule}
 use Rattle.sv8_phys.specs.Contents.{Contents, outside_of}
-use Rattle.sv8_source.specs.Text.{Text}
 use Rattle.sv8_cpu.specs.Step.{Inner}
 use Rattle.sv8_memory.specs.Events.{with_events}
 use Rattle.sv8_cpu.specs.State.{State, left_by}
 use Rattle.sv8_cpu.specs.Run as run
 use Rattle.sv8_cpu.specs.Run.{step_action, acted_on, touched}
-use Rattle.sv8_cpu.specs.Recorded.{put, IsSound, Holds, Has, Ready, come, act, footprint_of, footprint_of_act, machine, acting, AreEvents, run_of}
+use Rattle.sv8_cpu.specs.Recorded.{put, IsSound, Holds, Has, Ready, come, act, footprint_of, footprint_of_act, machine, acting}
 use Rattle.sv8_cpu.proofs.RecordedCells.{same_is, sound_outside, has_outside, put-get, put-put, get-put, get-put_other, get_fits, has_put}
 use Rattle.sv8_cpu.proofs.RecordedEvents.{are_events, sound_come, has_come, comes, delivers}
 
@@ -191,19 +190,3 @@ is_acting windows pages = record {
 
 pub framed : (windows pages : ℕ) → IsFramed (machine windows pages)
 framed windows pages = acting_frames (acting windows pages) (are_cells windows pages) (are_events windows pages) (is_acting windows pages)
-
--- ---- runs
-
-pub state_is : (windows pages : ℕ) (source : Text) (schedule : Schedule) (valid : AreEvents pages schedule) (n : ℕ)
-    → history.state_at (machine windows pages) (run_of windows pages source schedule valid) n ≡ run.state_at windows pages source schedule n
-unfolding run.steps run.step with_events
-state_is windows pages source schedule valid zero = refl
-state_is windows pages source schedule valid (suc n) =
-    ap (run.step windows pages schedule n) (state_is windows pages source schedule valid n)
-
-pub footprint_is : (windows pages : ℕ) (source : Text) (schedule : Schedule) (valid : AreEvents pages schedule) (n : ℕ)
-    → history.footprint_at (machine windows pages) (run_of windows pages source schedule valid) n
-    ≡ footprint_of (run.footprint windows pages schedule n (run.state_at windows pages source schedule n))
-unfolding run.footprint with_events
-footprint_is windows pages source schedule valid n =
-    ap (λ s. footprint_of (run.footprint windows pages schedule n s)) (state_is windows pages source schedule valid n)

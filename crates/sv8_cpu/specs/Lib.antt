@@ -5,6 +5,5 @@ pub mod Run
 pub mod Recorded
 pub mod Touching
 pub mod Trapping
-pub mod Loading
 pub mod Work
 pub mod Whole

@@ -8,16 +8,15 @@ use Rattle.sv8_model.specs.Outside.{Outside}
 use Rattle.sv8_model.specs.Cells as cells
 use Rattle.sv8_model.specs.Cells.{Cell, ram_byte, waiting_bytes, pending_level, Value, byte, held, same_cell, Fits, is_read, is_written, is_data}
 use Rattle.sv8_model.specs.Footprint.{reads_input}
-use Rattle.sv8_history.specs.Machine.{Footprint, Machine, Run}
+use Rattle.sv8_history.specs.Machine.{Footprint, Machine}
 use Rattle.sv8_history.specs.Acting.{Acting}
 use Rattle.sv8_time.specs.Order.{Each}
 use Rattle.sv8_time.specs.Schedule.{Schedule, BytePoke, pokes_of_step, requests_of_step}
 use Rattle.sv8_time.specs.declared.requests.Request.{Request}
 use Rattle.sv8_phys.specs.Memory.{ram_size}
 use Rattle.sv8_phys.specs.Contents.{AreContents, arrived, outside_of}
-use Rattle.sv8_source.specs.Text.{Text}
 use Rattle.sv8_memory.specs.Events.{poked, marked}
-use Rattle.sv8_cpu.specs.State.{State, reset_state}
+use Rattle.sv8_cpu.specs.State.{State}
 use Rattle.sv8_cpu.specs.Run.{step_action, acted_on, touched}
 
 -- ---- events
@@ -156,12 +155,8 @@ acting windows pages = record {
   Has = λ c r. Has pages c r.state;
 }
 
--- ---- runs
+-- ---- timelines
 
 -- every event of a timeline is one
 abbrev pub AreEvents : ℕ → Schedule → Type 0
 AreEvents pages schedule = (n : ℕ) → IsEvent pages (event_at schedule n)
-
--- the run of a source under a timeline
-abbrev pub run_of : (windows pages : ℕ) → Text → (schedule : Schedule) → AreEvents pages schedule → Run (machine windows pages)
-run_of windows pages source schedule valid = record { start = reset_state windows pages source; events = event_at schedule; valid = valid }

@@ -6,10 +6,9 @@ use Rattle.sv8_model.specs.Action.{Action, result_of, after, touches, observatio
 use Rattle.sv8_time.specs.Schedule.{Schedule}
 use Rattle.sv8_phys.specs.Memory.{ram_size}
 use Rattle.sv8_phys.specs.Contents.{arrived, outside_of}
-use Rattle.sv8_source.specs.Text.{Text}
 use Rattle.sv8_cpu.specs.Step.{Inner, action}
 use Rattle.sv8_memory.specs.Events.{with_events}
-use Rattle.sv8_cpu.specs.State.{State, reset_state, inner_of, left_by}
+use Rattle.sv8_cpu.specs.State.{State, inner_of, left_by}
 
 -- the state behind the events of step n
 abbrev pub eventful : Schedule → ℕ → State → State
@@ -47,7 +46,3 @@ observed windows pages schedule n s = seen windows pages (arrived (n + 1) schedu
 unfoldable pub steps : ℕ → ℕ → Schedule → ℕ → State → State
 steps windows pages schedule zero s = s
 steps windows pages schedule (suc n) s = step windows pages schedule n (steps windows pages schedule n s)
-
--- the state that is shown at step n: n steps from reset
-abbrev pub state_at : ℕ → ℕ → Text → Schedule → ℕ → State
-state_at windows pages source schedule n = steps windows pages schedule n (reset_state windows pages source)

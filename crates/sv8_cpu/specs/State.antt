@@ -2,10 +2,7 @@
 use Rattle.std.specs.Prelude.{ℕ, ◌+◌, ◌-◌, List, length, drop}
 use Rattle.sv8_model.specs.Outside.{Outside}
 use Rattle.sv8_time.specs.Schedule.{Schedule}
-use Rattle.sv8_phys.specs.Memory.{ram_size}
-use Rattle.sv8_phys.specs.Contents.{Contents, empty_contents, arrived}
-use Rattle.sv8_source.specs.Text.{Text}
-use Rattle.sv8_source.specs.Image.{image_bytes}
+use Rattle.sv8_phys.specs.Contents.{Contents, arrived}
 use Rattle.sv8_trap.specs.Processor.{Processor, reset_processor}
 use Rattle.sv8_mmu.specs.declared.registers.Mmu.{Mmu}
 use Rattle.sv8_mmu.specs.Registers.{registers_at_reset}
@@ -22,13 +19,9 @@ pub record State : Type 0 where
 abbrev pub waiting : Schedule → ℕ → State → List ℕ
 waiting schedule n s = drop s.memory.taken (arrived n schedule)
 
--- after reset: the image of a source in RAM over zeros, and everything else at rest
-unfoldable pub reset_state : ℕ → ℕ → Text → State
-reset_state windows pages source = record {
-  processor = reset_processor windows;
-  mmu = registers_at_reset;
-  memory = record (empty_contents pages) { ram = image_bytes source (ram_size pages) };
-}
+-- after reset, over a memory: the processor and the registers of the memory management unit are at rest
+abbrev pub reset_over : ℕ → Contents → State
+reset_over windows memory = record { processor = reset_processor windows; mmu = registers_at_reset; memory = memory }
 
 -- the state as its parts outside and not outside
 abbrev pub inner_of : State → Inner

@@ -2,7 +2,6 @@
 #![tactic(auto)]
 
 mod frequent;
-mod loading;
 mod machine;
 mod parts;
 mod readers;

@@ -9,18 +9,16 @@ ghost use Rattle.sv8_trap.specs.Table.{taken};
 ghost use Rattle.sv8_phys.specs.Memory.{ram_size};
 ghost use Rattle.sv8_phys.specs.Contents.{arrived};
 ghost use Rattle.sv8_cpu.specs.Step.{instruction};
-ghost use Rattle.sv8_cpu.specs.State.{reset_state};
+ghost use Rattle.sv8_cpu.specs.State.{reset_over};
 ghost use Rattle.sv8_cpu.specs.Work.{counted};
 ghost use Rattle.sv8_cpu.specs.Whole.{state_of};
 
-use crate::loading::load;
 use crate::parts::Parts;
 use crate::work::Work;
 use std::alloc::{AllocError, Global};
 use std::marker::Model;
 use sv8_memory::{Memory, end_of};
 use sv8_phys::{NoTouches, Phys, StepTouches, Touches};
-use sv8_source::Source;
 use sv8_time::Timeline;
 use sv8_trap::Processor;
 
@@ -184,7 +182,6 @@ impl<const NW: usize, const PAGES: usize> Drop for Machine<NW, PAGES> {
 impl<const NW: usize, const PAGES: usize> Model for Machine<NW, PAGES> {
     ghost use Rattle.std.specs.Prelude.{◌≤◌};
     ghost use Rattle.sv8_cpu.specs.State.{State};
-    ghost use Rattle.sv8_cpu.specs.State.{reset_state};
     ghost use Rattle.sv8_cpu.specs.Work.{counted};
     ghost use Rattle.sv8_cpu.specs.Whole.{state_of};
 
@@ -196,21 +193,17 @@ impl<const NW: usize, const PAGES: usize> Model for Machine<NW, PAGES> {
 }
 
 impl<const NW: usize, const PAGES: usize> Machine<NW, PAGES> {
-    /// The machine after reset (chapter 7), with the image of a source in its RAM over zeros: PC 0, nPC 4, S = 1
-    /// and ET = 0, and every other register 0. RAM shares pages of zeros where no line places a byte.
+    /// The machine after reset (chapter 7) over a physical memory: PC 0, nPC 4, S = 1 and ET = 0, and every other register 0.
     ///
     /// # Errors
     ///
     /// `AllocError` where memory for the state cannot be had.
-    #[tactic(auto, unfolding(crate::specs::State::reset_state))]
-    pub fn reset(alloc: Global, source: &Source) -> Result<Self, AllocError>
+    pub fn new(alloc: Global, phys: Phys<PAGES>) -> Result<Self, AllocError>
         requires some_windows { 2 ≤ NW }
         requires few_windows { NW ≤ 32 }
         requires few_pages { PAGES ≤ 65536 }
-        ensures { IfOk result (λ m. m ≡ reset_state NW PAGES source.now) }
+        ensures { IfOk result (λ m. m ≡ reset_over NW phys.entry) }
     {
-        let mut phys = Phys::new(alloc)?;
-        load(&mut phys, source)?;
         let parts = Parts {
             processor: Processor::new(),
             memory: Memory::new(alloc, phys),

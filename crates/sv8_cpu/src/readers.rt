@@ -2,6 +2,7 @@
 
 ghost use Rattle.std.specs.Prelude.{◌≡◌, ◌<◌, ◌≤◌, ◌%◌, ◌/◌, ◌^◌, length, drop, false, option_map, IfOk, IfSome, MatchBool, slice_index_or, slice_set, OnOk, OnErr};
 ghost use Rattle.sv8_model.specs.Levels.{levels_word};
+ghost use Rattle.sv8_regs.specs.Current.{other_windows};
 ghost use Rattle.sv8_model.specs.Outside.{word_of};
 ghost use Rattle.sv8_time.specs.Schedule.{bytes_below};
 ghost use Rattle.sv8_phys.specs.Memory.{ram_size, page_of, with_page};
@@ -116,6 +117,21 @@ impl<const NW: usize, const PAGES: usize> Machine<NW, PAGES> {
         ensures { MatchBool result (IsSameProcessor self.now other.now) (IsSameProcessor self.now other.now → ⊥) }
     {
         self.mmu().is_same(&other.mmu()) && self.parts.processor.is_same(&other.parts.processor)
+    }
+
+    /// The same of machines whose registers outside the current window are known to be the same: these are not compared.
+    /// A step that leaves CWP leaves them (law `other_windows_stay`).
+    #[inline(always)]
+    pub fn has_same_processor_in_window(&self, other: &Machine<NW, PAGES>) -> bool
+        ensures { MatchBool result
+            (other_windows NW self.now.processor.registers ≡ other_windows NW other.now.processor.registers → IsSameProcessor self.now other.now)
+            (IsSameProcessor self.now other.now → ⊥) }
+    {
+        self.mmu().is_same(&other.mmu())
+            && self
+                .parts
+                .processor
+                .is_same_in_window(&other.parts.processor)
     }
 
     /// The timer.

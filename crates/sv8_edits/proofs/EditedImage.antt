@@ -14,8 +14,9 @@ use Rattle.sv8_time.proofs.Common.{next_poke_is}
 use Rattle.sv8_phys.specs.Memory.{ram_size}
 use Rattle.sv8_source.specs.Text.{Text}
 use Rattle.sv8_source.specs.Image.{image_byte, image_bytes}
-use Rattle.sv8_cpu.specs.State.{State, reset_state}
-use Rattle.sv8_cpu.specs.Recorded.{event_at, machine, run_of}
+use Rattle.sv8_cpu.specs.State.{State}
+use Rattle.sv8_cpu.specs.Recorded.{event_at, machine}
+use Rattle.sv8_reset.specs.Reset.{reset_state, run_of}
 use Rattle.sv8_edits.specs.Changes.{no_end, next_poke, first_poke, image_byte_changes}
 use Rattle.sv8_edits.specs.EditLaws.{CanRun, ImageEdits}
 use Rattle.sv8_edits.proofs.EditedRuns.{apart_then}

@@ -5,11 +5,12 @@ use Rattle.std.specs.List.{filter}
 use Rattle.std.proofs.lemmas.Bool.Decides.{nat_tests}
 use Rattle.std.proofs.lemmas.List.{append-nil}
 use Rattle.std.proofs.lemmas.List.Elements.{filter-append}
-use Rattle.sv8_time.specs.Schedule.{Schedule, Input, input_of, input_before, is_input_at, put_input, cut_input, input_bytes}
+use Rattle.sv8_time.specs.Schedule.{Schedule, Input, input_of, input_before, is_input_at, put_input, cut_input, input_bytes, with_input, without_input}
 use Rattle.sv8_time.proofs.Common.{filter_none, each_map, each_passes}
 use Rattle.sv8_phys.specs.Contents.{arrived}
 use Rattle.sv8_cpu.specs.Recorded.{Event, event_at}
-use Rattle.sv8_edits.specs.EditLaws.{InputEdits, ClearInputEdits}
+use Rattle.sv8_source.specs.Text.{Text}
+use Rattle.sv8_edits.specs.EditLaws.{CanRun, Refeeds}
 use Rattle.sv8_edits.proofs.EditedLists.{filter_part}
 
 sooner : (i before step : ℕ) → before ≤ step → nat_lt i before ≡ true → nat_lt i step ≡ true
@@ -46,7 +47,8 @@ cut_below before step inputs up_to = filter_part (λ i. nat_lt i.step before) (�
 with_arrived : (s : Schedule) (n : ℕ) (bytes : List ℕ) → bytes ≡ arrived (n + 1) s → record (event_at s n) { arrived = bytes } ≡ event_at s n
 with_arrived s n bytes e = ap {A = List ℕ} {B = Event} (λ b. record (event_at s n) { arrived = b }) e
 
-pub input_edits : InputEdits
+pub input_edits : (windows pages : ℕ) (source : Text) (s : Schedule) (can : CanRun windows pages source s) (step : ℕ) (bytes : List ℕ)
+    → Refeeds windows pages step source s (with_input step bytes s) can
 input_edits windows pages source s can step bytes = record {
   events = λ n. record { pokes = (can.events n).pokes; requests = (can.events n).requests };
   refed = record {
@@ -57,7 +59,8 @@ input_edits windows pages source s can step bytes = record {
   };
 }
 
-pub clear_input_edits : ClearInputEdits
+pub clear_input_edits : (windows pages : ℕ) (source : Text) (s : Schedule) (can : CanRun windows pages source s) (step : ℕ)
+    → Refeeds windows pages step source s (without_input step s) can
 clear_input_edits windows pages source s can step = record {
   events = λ n. record { pokes = (can.events n).pokes; requests = (can.events n).requests };
   refed = record {

@@ -11,11 +11,11 @@ use Rattle.sv8_time.specs.Schedule.{Schedule, BytePoke, IsPokePlace, IsNextPoke,
 use Rattle.sv8_time.proofs.Common.{each_filter, each_placed, next_poke_is, poke_bound}
 use Rattle.sv8_phys.specs.Memory.{ram_size}
 use Rattle.sv8_source.specs.Text.{Text}
-use Rattle.sv8_cpu.specs.State.{reset_state}
 use Rattle.sv8_cpu.specs.Recorded as recorded
-use Rattle.sv8_cpu.specs.Recorded.{Event, event_at, IsPoke, AlikeBut, AreEvents, IsSound, value_poked, machine, run_of}
+use Rattle.sv8_cpu.specs.Recorded.{Event, event_at, IsPoke, AlikeBut, AreEvents, IsSound, value_poked, machine}
+use Rattle.sv8_reset.specs.Reset.{reset_state, run_of}
 use Rattle.sv8_edits.specs.Changes.{no_end, next_poke, poked_with, stands, poke_byte_changes, clear_byte_changes}
-use Rattle.sv8_edits.specs.EditLaws.{PokeByteEdits, ClearByteEdits}
+use Rattle.sv8_edits.specs.EditLaws.{CanRun, Edits}
 use Rattle.sv8_edits.proofs.EditedLists.{none_of, found_passes, placed_minor, placed_major, placed_here, placed_again, cleared_minor, cleared_major, cleared_here, cleared_none}
 use Rattle.sv8_edits.proofs.EditedRuns.{edited_once}
 
@@ -250,7 +250,9 @@ module _ (windows pages : ℕ) (source : Text) (s : Schedule) (valid : AreEvents
       )
       go false e = tt
 
-pub poke_byte_edits : PokeByteEdits
+pub poke_byte_edits : (windows pages : ℕ) (source : Text) (s : Schedule) (can : CanRun windows pages source s) (step address value : ℕ)
+    → step ≤ 1000000 → address < ram_size pages → value < 256
+    → Edits windows pages (poke_byte_changes windows pages step address value s) source s source (with_poke_byte step address value s) can
 poke_byte_edits windows pages source s can step address value soon inside below =
     let rising = can.timeline.pokes_rise in
     let new = with_events windows pages source s can.events rising step address value inside below in
@@ -261,7 +263,8 @@ poke_byte_edits windows pages source s can step address value soon inside below 
       edited = with_edited windows pages source s can.events rising step address value new s refl;
     }
 
-pub clear_byte_edits : ClearByteEdits
+pub clear_byte_edits : (windows pages : ℕ) (source : Text) (s : Schedule) (can : CanRun windows pages source s) (step address : ℕ) → address < ram_size pages
+    → Edits windows pages (clear_byte_changes windows pages step address s) source s source (without_poke_byte step address s) can
 clear_byte_edits windows pages source s can step address inside =
     let new = without_events windows pages source s can.events step address in
     record {

@@ -11,9 +11,10 @@ use Rattle.sv8_time.specs.Schedule.{Schedule, IsRequestPlace, IsNextRequest, req
 use Rattle.sv8_time.proofs.Common.{each_map, each_filter, each_placed, next_request_is, request_bound}
 use Rattle.sv8_source.specs.Text.{Text}
 use Rattle.sv8_cpu.specs.Recorded as recorded
-use Rattle.sv8_cpu.specs.Recorded.{Event, event_at, IsRequest, AlikeBut, AreEvents, machine, run_of}
+use Rattle.sv8_cpu.specs.Recorded.{Event, event_at, IsRequest, AlikeBut, AreEvents, machine}
+use Rattle.sv8_reset.specs.Reset.{run_of}
 use Rattle.sv8_edits.specs.Changes.{no_end, next_request, request_changes, clear_request_changes}
-use Rattle.sv8_edits.specs.EditLaws.{CanRun, RequestEdits, ClearRequestEdits}
+use Rattle.sv8_edits.specs.EditLaws.{CanRun, Edits}
 use Rattle.sv8_edits.proofs.EditedLists.{any_alike, any_there, any_gone, found_one, found_passes, placed_minor, placed_major, placed_here, placed_again, cleared_minor, cleared_major, cleared_here, cleared_none}
 use Rattle.sv8_edits.proofs.EditedRuns.{edited_once}
 
@@ -178,7 +179,8 @@ module _ (windows pages : ℕ) (source : Text) (s : Schedule) (can : CanRun wind
       go true e = (record { has = has_level low high; fits = tt; next = planned_next (request_bound level s.requests can.timeline.request_places step e) r few }, tt, tt)
       go false e = tt
 
-pub request_edits : RequestEdits
+pub request_edits : (windows pages : ℕ) (source : Text) (s : Schedule) (can : CanRun windows pages source s) (step level : ℕ) → step ≤ 1000000 → 1 ≤ level → level ≤ 15
+    → Edits windows pages (request_changes windows pages step level s) source s source (with_request step level s) can
 request_edits windows pages source s can step level soon low high = record {
   events = with_events windows pages source s can step level low high;
   sound = can.sound;
@@ -186,7 +188,8 @@ request_edits windows pages source s can step level soon low high = record {
   edited = with_edited windows pages source s can step level low high;
 }
 
-pub clear_request_edits : ClearRequestEdits
+pub clear_request_edits : (windows pages : ℕ) (source : Text) (s : Schedule) (can : CanRun windows pages source s) (step level : ℕ) → 1 ≤ level → level ≤ 15
+    → Edits windows pages (clear_request_changes windows pages step level s) source s source (without_request step level s) can
 clear_request_edits windows pages source s can step level low high = record {
   events = without_events windows pages source s can step level;
   sound = can.sound;

@@ -5,13 +5,14 @@ use Rattle.std.proofs.lemmas.Bool.Decides.{nat_tests}
 use Rattle.sv8_model.specs.Cells.{ram_byte, byte}
 use Rattle.sv8_history.specs.Changes.{Poke, Clear, Change, IsEdited, IsApart, ArePlanned}
 use Rattle.sv8_time.specs.Order.{Rising}
-use Rattle.sv8_time.specs.Schedule.{Schedule, poke_of, poke_before, is_poke_at, has_poke, with_poke_byte, without_poke_byte}
+use Rattle.sv8_time.specs.Schedule.{Schedule, poke_of, poke_before, is_poke_at, has_poke, with_poke_byte, without_poke_byte, with_poke, without_poke}
 use Rattle.sv8_time.proofs.Common.{rising_placed, key_order}
 use Rattle.sv8_phys.specs.Memory.{ram_size}
 use Rattle.sv8_source.specs.Text.{Text}
-use Rattle.sv8_cpu.specs.Recorded.{AreEvents, machine, run_of}
-use Rattle.sv8_edits.specs.Changes.{poked_with, stands, next_poke, poke_byte_changes, clear_byte_changes}
-use Rattle.sv8_edits.specs.EditLaws.{CanRun, PokeEdits, ClearEdits}
+use Rattle.sv8_cpu.specs.Recorded.{AreEvents, machine}
+use Rattle.sv8_reset.specs.Reset.{run_of}
+use Rattle.sv8_edits.specs.Changes.{poked_with, stands, next_poke, poke_byte_changes, clear_byte_changes, poke_changes, clear_changes}
+use Rattle.sv8_edits.specs.EditLaws.{CanRun, Edits}
 use Rattle.sv8_edits.proofs.EditedLists.{find_alike, any_alike}
 use Rattle.sv8_edits.proofs.EditedRuns.{edited_then, planned_then, AreApart, are_apart_then}
 use Rattle.sv8_edits.proofs.EditedPokes as one
@@ -164,7 +165,9 @@ module _ (windows pages : ℕ) (source : Text) (s : Schedule) (can : CanRun wind
         (apart address (address + 3) v0 v3 (λ z. omega (arith, z))) (apart (address + 1) (address + 3) v1 v3 (λ z. omega (arith, z))))
         (apart (address + 2) (address + 3) v2 v3 (λ z. omega (arith, z))))
 
-pub poke_edits : PokeEdits
+pub poke_edits : (windows pages : ℕ) (source : Text) (s : Schedule) (can : CanRun windows pages source s) (step address value : ℕ)
+    → step ≤ 1000000 → address % 4 ≡ 0 → address + 4 ≤ ram_size pages
+    → Edits windows pages (poke_changes windows pages step address value s) source s source (with_poke step address value s) can
 poke_edits windows pages source s can step address value soon aligned end =
     let v0 = value / 2 ^ 24 % 2 ^ 8 in
     let v1 = value / 2 ^ 16 % 2 ^ 8 in
@@ -258,7 +261,8 @@ module _ (windows pages : ℕ) (source : Text) (s : Schedule) (can : CanRun wind
       (apart address (address + 3) (λ z. omega (arith, z))) (apart (address + 1) (address + 3) (λ z. omega (arith, z))))
       (apart (address + 2) (address + 3) (λ z. omega (arith, z))))
 
-pub clear_edits : ClearEdits
+pub clear_edits : (windows pages : ℕ) (source : Text) (s : Schedule) (can : CanRun windows pages source s) (step address : ℕ) → address % 4 ≡ 0 → address + 4 ≤ ram_size pages
+    → Edits windows pages (clear_changes windows pages step address s) source s source (without_poke step address s) can
 clear_edits windows pages source s can step address aligned end = record {
   events = cut4 windows pages source s can step address;
   sound = can.sound;

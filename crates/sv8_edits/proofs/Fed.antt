@@ -7,8 +7,8 @@ use Rattle.sv8_time.specs.Schedule.{Input, bytes_below}
 use Rattle.sv8_phys.specs.Contents.{arrived}
 use Rattle.sv8_phys.proofs.Common.{length-arrived}
 use Rattle.sv8_memory.specs.Events.{with_events}
-use Rattle.sv8_cpu.specs.State.{reset_state}
 use Rattle.sv8_cpu.specs.Run as run
+use Rattle.sv8_reset.specs.Reset.{reset_state}
 use Rattle.sv8_edits.specs.EditLaws.{StatesAreFed}
 
 -- one step more has no fewer bytes

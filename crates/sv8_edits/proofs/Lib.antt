@@ -7,4 +7,6 @@ pub mod EditedPokes
 pub mod EditedWords
 pub mod EditedImage
 pub mod Standing
+pub mod Places
+pub mod EditedTimelines
 pub mod Common

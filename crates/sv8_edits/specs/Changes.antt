@@ -4,6 +4,8 @@ use Rattle.std.specs.Prelude.{ℕ, ◌+◌, ◌-◌, ◌/◌, ◌%◌, ◌^◌, 
 use Rattle.std.specs.List.{range_with_len}
 use Rattle.sv8_model.specs.Cells.{ram_byte, pending_level, byte, held}
 use Rattle.sv8_history.specs.Changes.{Change, Image, Poke, Clear}
+use Rattle.sv8_time.specs.declared.edit.TimelineEdit.{TimelineEdit}
+use Rattle.sv8_time.specs.declared.edit.TimelineEdit.TheVariants.{SetPoke, ClearPoke, SetPokeByte, ClearPokeByte, SetInput, ClearInput, SetRequest, ClearRequest}
 use Rattle.sv8_time.specs.Schedule.{Schedule, poked_at, has_poke, has_request, bytes_of_step, poke_after, request_after}
 use Rattle.sv8_phys.specs.Memory.{ram_size}
 use Rattle.sv8_source.specs.Text.{Text}
@@ -82,3 +84,25 @@ module _ (windows pages : ℕ) where
       flat_map
       (λ a. image_byte_changes a (slice_index_or (image_bytes old (ram_size pages)) a 0) (slice_index_or (image_bytes new (ram_size pages)) a 0) s)
       (range_with_len 0 (ram_size pages))
+
+-- ---- what an edit changes
+
+-- cells of the run, or the input from a step on, if it is another
+pub data RunChange (windows pages : ℕ) : Type 0 where
+  cells : List (Change (machine windows pages)) → RunChange windows pages
+  input : Option ℕ → RunChange windows pages
+
+-- an edit of the timeline
+abbrev pub edit_change : (windows pages : ℕ) → TimelineEdit → Schedule → RunChange windows pages
+edit_change windows pages (SetPoke step address value) s = cells (poke_changes windows pages step address value s)
+edit_change windows pages (ClearPoke step address) s = cells (clear_changes windows pages step address s)
+edit_change windows pages (SetPokeByte step address value) s = cells (poke_byte_changes windows pages step address value s)
+edit_change windows pages (ClearPokeByte step address) s = cells (clear_byte_changes windows pages step address s)
+edit_change windows pages (SetInput step bytes) s = input (input_change step bytes s)
+edit_change windows pages (ClearInput step) s = input (Some step)
+edit_change windows pages (SetRequest step level) s = cells (request_changes windows pages step level s)
+edit_change windows pages (ClearRequest step level) s = cells (clear_request_changes windows pages step level s)
+
+-- an edit of the source
+abbrev pub source_change : (windows pages : ℕ) → Text → Text → Schedule → RunChange windows pages
+source_change windows pages old new s = cells (image_changes windows pages old new s)

@@ -3,15 +3,17 @@
 use Rattle.std.specs.Prelude.{◌≡◌, ◌≢◌, true, ℕ, ◌+◌, ◌/◌, ◌%◌, ◌^◌, ◌<◌, ◌≤◌, List, [], length, Some, None, slice_index_or}
 use Rattle.sv8_history.specs.Changes.{Change, IsEdited, ArePlanned}
 use Rattle.sv8_history.specs.Input.{IsRefed}
-use Rattle.sv8_time.specs.Schedule.{Schedule, IsTimeline, has_request, bytes_of_step, with_poke_byte, without_poke_byte, with_poke, without_poke, with_request, without_request, with_input, without_input}
+use Rattle.sv8_time.specs.declared.edit.TimelineEdit.{TimelineEdit}
+use Rattle.sv8_time.specs.declared.edit.TimelineEdit.TheVariants.{SetPoke, ClearPoke, SetPokeByte, ClearPokeByte, SetInput, ClearInput, SetRequest, ClearRequest}
+use Rattle.sv8_time.specs.Edits.{timeline_fault, with_edit}
+use Rattle.sv8_time.specs.Schedule.{Schedule, IsTimeline, has_request, bytes_of_step, with_poke_byte, with_poke, with_request, with_input}
 use Rattle.sv8_phys.specs.Memory.{ram_size}
 use Rattle.sv8_source.specs.Text.{Text}
 use Rattle.sv8_source.specs.Image.{image_bytes}
 use Rattle.sv8_time.specs.Schedule.{bytes_below}
-use Rattle.sv8_cpu.specs.State.{reset_state}
-use Rattle.sv8_cpu.specs.Run.{state_at}
-use Rattle.sv8_cpu.specs.Recorded.{machine, run_of, AreEvents, IsSound}
-use Rattle.sv8_edits.specs.Changes.{poked_with, input_change, poke_byte_changes, clear_byte_changes, poke_changes, clear_changes, request_changes, clear_request_changes, image_changes}
+use Rattle.sv8_cpu.specs.Recorded.{machine, AreEvents, IsSound}
+use Rattle.sv8_reset.specs.Reset.{reset_state, state_at, run_of}
+use Rattle.sv8_edits.specs.Changes.{poked_with, input_change, poke_byte_changes, poke_changes, request_changes, image_changes, RunChange, cells, input, edit_change}
 
 -- a source and a timeline that a machine can run under
 pub record CanRun (windows pages : ℕ) (source : Text) (s : Schedule) : Type 0 where
@@ -28,32 +30,6 @@ pub record Edits (windows pages : ℕ) (cs : List (Change (machine windows pages
   pub planned : (r : ℕ) → r ≤ 1000000 → ArePlanned (machine windows pages) (run_of windows pages source s can.events) r cs
   pub edited : IsEdited (machine windows pages) cs (run_of windows pages source s can.events) (run_of windows pages source' s' events)
 
-abbrev pub PokeByteEdits : Type 0
-PokeByteEdits = (windows pages : ℕ) (source : Text) (s : Schedule) (can : CanRun windows pages source s) (step address value : ℕ)
-    → step ≤ 1000000 → address < ram_size pages → value < 256
-    → Edits windows pages (poke_byte_changes windows pages step address value s) source s source (with_poke_byte step address value s) can
-
-abbrev pub ClearByteEdits : Type 0
-ClearByteEdits = (windows pages : ℕ) (source : Text) (s : Schedule) (can : CanRun windows pages source s) (step address : ℕ) → address < ram_size pages
-    → Edits windows pages (clear_byte_changes windows pages step address s) source s source (without_poke_byte step address s) can
-
-abbrev pub PokeEdits : Type 0
-PokeEdits = (windows pages : ℕ) (source : Text) (s : Schedule) (can : CanRun windows pages source s) (step address value : ℕ)
-    → step ≤ 1000000 → address % 4 ≡ 0 → address + 4 ≤ ram_size pages
-    → Edits windows pages (poke_changes windows pages step address value s) source s source (with_poke step address value s) can
-
-abbrev pub ClearEdits : Type 0
-ClearEdits = (windows pages : ℕ) (source : Text) (s : Schedule) (can : CanRun windows pages source s) (step address : ℕ) → address % 4 ≡ 0 → address + 4 ≤ ram_size pages
-    → Edits windows pages (clear_changes windows pages step address s) source s source (without_poke step address s) can
-
-abbrev pub RequestEdits : Type 0
-RequestEdits = (windows pages : ℕ) (source : Text) (s : Schedule) (can : CanRun windows pages source s) (step level : ℕ) → step ≤ 1000000 → 1 ≤ level → level ≤ 15
-    → Edits windows pages (request_changes windows pages step level s) source s source (with_request step level s) can
-
-abbrev pub ClearRequestEdits : Type 0
-ClearRequestEdits = (windows pages : ℕ) (source : Text) (s : Schedule) (can : CanRun windows pages source s) (step level : ℕ) → 1 ≤ level → level ≤ 15
-    → Edits windows pages (clear_request_changes windows pages step level s) source s source (without_request step level s) can
-
 -- An edit of the source changes each byte of RAM that has another value after reset; the new values are bytes.
 abbrev pub ImageEdits : Type 0
 ImageEdits = (windows pages : ℕ) (source source' : Text) (s : Schedule) (can : CanRun windows pages source s)
@@ -65,13 +41,26 @@ pub record Refeeds (windows pages : ℕ) (step : ℕ) (source : Text) (s s' : Sc
   pub events : AreEvents pages s'
   pub refed : IsRefed (machine windows pages) step (run_of windows pages source s can.events) (run_of windows pages source s' events)
 
-abbrev pub InputEdits : Type 0
-InputEdits = (windows pages : ℕ) (source : Text) (s : Schedule) (can : CanRun windows pages source s) (step : ℕ) (bytes : List ℕ)
-    → Refeeds windows pages step source s (with_input step bytes s) can
+-- THE EDIT OF A TIMELINE IS AN EDIT OF THE RUN: what it changes makes of the run that of the edited timeline. Input that stands already changes neither.
+abbrev pub Makes : (windows pages : ℕ) → RunChange windows pages → (source : Text) (s : Schedule) (source' : Text) (s' : Schedule) → CanRun windows pages source s → Type 0
+Makes windows pages (cells cs) source s source' s' can = Edits windows pages cs source s source' s' can
+Makes windows pages (input None) source s source' s' can = (source' ≡ source) × (s' ≡ s)
+Makes windows pages (input (Some step)) source s source' s' can = (source' ≡ source) × Refeeds windows pages step source s s' can
 
-abbrev pub ClearInputEdits : Type 0
-ClearInputEdits = (windows pages : ℕ) (source : Text) (s : Schedule) (can : CanRun windows pages source s) (step : ℕ)
-    → Refeeds windows pages step source s (without_input step s) can
+-- what it sets are bytes, and at least one comes in
+abbrev pub HasBytes : TimelineEdit → Type 0
+HasBytes (SetPoke step address value) = Unit {0}
+HasBytes (ClearPoke step address) = Unit {0}
+HasBytes (SetPokeByte step address value) = value < 256
+HasBytes (ClearPokeByte step address) = Unit {0}
+HasBytes (SetInput step bytes) = 0 < length bytes
+HasBytes (ClearInput step) = Unit {0}
+HasBytes (SetRequest step level) = Unit {0}
+HasBytes (ClearRequest step level) = Unit {0}
+
+abbrev pub TimelineEdits : Type 0
+TimelineEdits = (windows pages : ℕ) (source : Text) (s : Schedule) (can : CanRun windows pages source s) (edit : TimelineEdit) → HasBytes edit
+    → timeline_fault edit s ≡ None → Makes windows pages (edit_change windows pages edit s) source s source (with_edit edit s) can
 
 -- SETTING WHAT STANDS changes nothing: the timeline stays as it is, and no cell and no input is changed. So with a byte, a word, a level and the bytes
 -- that come in.

@@ -1,50 +1,17 @@
 //! Why an edit of a source or a timeline is an edit of the recorded run. Each law stands as the contract of a function that does nothing.
 
-ghost use Rattle.sv8_edits.specs.EditLaws.{PokeByteEdits, ClearByteEdits, PokeEdits, ClearEdits, RequestEdits, ClearRequestEdits, ImageEdits, InputEdits, ClearInputEdits, StandingBytes, StandingWords, StandingRequests, StandingInputs, StandingSources, OtherInputs, StatesAreFed};
+ghost use Rattle.sv8_edits.specs.EditLaws.{TimelineEdits, ImageEdits, StandingBytes, StandingWords, StandingRequests, StandingInputs, StandingSources, OtherInputs, StatesAreFed};
 
-/// A byte that is poked, in the place of another value or where there was none, changes that byte from its step up to its next poke.
-pub fn poke_byte_edits()
-    ensures { PokeByteEdits }
-{}
-
-/// The poke of a byte that is cleared changes that byte from its step up to its next poke.
-pub fn clear_byte_edits()
-    ensures { ClearByteEdits }
-{}
-
-/// A word that is poked changes those of its four bytes that are poked otherwise then.
-pub fn poke_edits()
-    ensures { PokeEdits }
-{}
-
-/// The pokes of a word that are cleared change those of its bytes that are poked.
-pub fn clear_edits()
-    ensures { ClearEdits }
-{}
-
-/// A level that is requested changes whether it is pending from the step on, up to its next request.
-pub fn request_edits()
-    ensures { RequestEdits }
-{}
-
-/// A request that is cleared does, too.
-pub fn clear_request_edits()
-    ensures { ClearRequestEdits }
+/// What an edit of the timeline changes makes of the run that of the edited timeline: a poke, or one that is cleared, changes its bytes
+/// from its step up to their next pokes, a request changes whether its level is pending up to its next request, and bytes that
+/// come in, or no longer do, change what has come in from then on.
+pub fn timeline_edits()
+    ensures { TimelineEdits }
 {}
 
 /// An edit of the source changes each byte of RAM that has another value after reset, up to its first poke.
 pub fn image_edits()
     ensures { ImageEdits }
-{}
-
-/// Bytes that come in at a step change what has come in from then on, and nothing else.
-pub fn input_edits()
-    ensures { InputEdits }
-{}
-
-/// So do bytes that no longer come in.
-pub fn clear_input_edits()
-    ensures { ClearInputEdits }
 {}
 
 /// A byte that is poked with the value that it is poked with already: the timeline stays, and nothing is changed.

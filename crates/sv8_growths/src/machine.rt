@@ -6,6 +6,7 @@ ghost use Rattle.std.specs.Prelude.{◌≡◌};
 use std::alloc::{AllocError, Global};
 use sv8_cpu::{Machine, Work};
 use sv8_phys::{NoTouches, Watch};
+use sv8_reset::reset;
 use sv8_source::Source;
 use sv8_time::Timeline;
 
@@ -105,7 +106,7 @@ fn pass(machine: Small, n: u32, timeline: &Timeline) -> Result<Small, AllocError
 
 fn run(alloc: Global, source: &Source) -> Result<Small, AllocError> {
     let timeline = Timeline::new(alloc, 8_192);
-    let first = advance(Small::reset(alloc, source)?, 0, &timeline)?;
+    let first = advance(reset(alloc, source)?, 0, &timeline)?;
     let second = advance(first, 1, &timeline)?;
     let third = pass(second, 2, &timeline)?;
     watch(alloc, third, 3, &timeline)

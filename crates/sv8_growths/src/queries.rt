@@ -202,7 +202,7 @@ fn walked(alloc: Global, bench: &mut Small) -> Result<bool, AllocError> {
     let mut watch = Watch::new(alloc);
     let mut walk = bench.walk(1_279, &mut watch)?;
     bench.walk_on(&mut walk, &mut watch)?;
-    bench.walk_past(&mut walk, &mut watch)?;
+    bench.walk_past::<0>(&mut walk, &mut watch)?;
     Ok(walk.step() == 1_281 && bench.recorded() == 1_280 && walk.machine().word(0x104) == 7)
 }
 

@@ -8,6 +8,7 @@ ghost use Rattle.sv8_trace.specs.Recording.{last_point, recorded};
 use std::alloc::{AllocError, Global};
 use sv8_cpu::{Machine, Work};
 use sv8_phys::Watch;
+use sv8_reset::reset;
 use sv8_source::Source;
 use sv8_time::Timeline;
 use sv8_trace::{Draft, Trace};
@@ -47,7 +48,7 @@ pub(crate) fn fresh(
 fn begun(alloc: Global, source: &Source, timeline: &Timeline) -> Result<Small, AllocError>
     ensures { IfOk result (λ t. (last_point t).memory.taken ≤ bytes_below (recorded 4 t) timeline.now.inputs) }
 {
-    let machine = Point::reset(alloc, source)?;
+    let machine: Point = reset(alloc, source)?;
     if timeline.delivered(0) < machine.taken() {
         return Err(AllocError);
     }

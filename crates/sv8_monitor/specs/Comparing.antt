@@ -1,7 +1,9 @@
 -- What differs between a workbench and the one that was kept.
 use Rattle.std.specs.Prelude.{◌≡◌, ℕ, ◌*◌, ◌/◌, ◌<◌, ◌≤◌, ◌==◌, Bool, not, List, map, Option, Some, None, nat_lt, ◌||◌, if◌then◌else◌}
 use Rattle.sv8_model.specs.Outside.{word_of}
+use Rattle.sv8_regs.specs.Current.{other_windows}
 use Rattle.sv8_cpu.specs.Sameness.{IsSameProcessor}
+use Rattle.sv8_cpu.specs.State.{State}
 use Rattle.sv8_bench.specs.declared.fault.BenchFault.{BenchFault}
 use Rattle.sv8_bench.specs.declared.fault.BenchFault.TheVariants.{StepTooLarge}
 use Rattle.sv8_bench.specs.Kept.{Kept}
@@ -26,6 +28,11 @@ abbrev pub IsParted : Kept → Kept → ℕ → ℕ → Option ℕ → Type 0
 IsParted before now from to (Some n) =
     (from ≤ n) × (n ≤ to) × ((m : ℕ) → from ≤ m → m < n → AreAlike before now m) × (AreAlike before now n → ⊥)
 IsParted before now from to None = (m : ℕ) → from ≤ m → m ≤ to → AreAlike before now m
+
+-- where a window is the current one in both states, they have the same registers outside it
+abbrev pub AreSameOutside : ℕ → ℕ → State → State → Type 0
+AreSameOutside windows window before now =
+    before.processor.registers.cwp ≡ window → now.processor.registers.cwp ≡ window → other_windows windows before.processor.registers ≡ other_windows windows now.processor.registers
 
 -- walks through the runs of both have come to a step
 pub record AreWalks (k : ℕ) (now before : Workbench) (n : ℕ) {windows pages : ℕ} (both : Both windows pages) : Type 0 where

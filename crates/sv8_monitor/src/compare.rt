@@ -9,13 +9,18 @@ ghost use Rattle.sv8_bench.specs.Workbench.{IsAnswered, IsGivenUp};
 ghost use Rattle.sv8_cpu.specs.Sameness.{IsSameProcessor};
 ghost use Rattle.sv8_bench.specs.Walks.{IsMade, state_in};
 ghost use Rattle.sv8_monitor.specs.Search.{IsSearched, IsTried, IsAbandoned};
-ghost use Rattle.sv8_monitor.specs.Comparing.{range_refusal, AreWalks, IsParted, parting, difference_at, differences};
+ghost use Rattle.sv8_monitor.specs.Comparing.{range_refusal, AreSameOutside, AreWalks, IsParted, parting, difference_at, differences};
 
 use crate::difference::Difference;
 use std::alloc::{AllocError, Global};
 use sv8_bench::{Bench, BenchFault, LAST_STEP, Walk};
 use sv8_cpu::Machine;
 use sv8_phys::Watch;
+
+/// The sites of the steps of both runs (see `walk_past`).
+const NOW: usize = 2;
+
+const BEFORE: usize = 3;
 
 /// The first step from one on up to another, which is looked at too, at which the processors of two workbenches differ. Up to `common`,
 /// that step included, they are known to be the same, so it begins no lower.
@@ -67,6 +72,34 @@ impl<const NW: usize, const PAGES: usize> Both<NW, PAGES> {
     {
         self.other.machine().has_same_processor(self.walk.machine())
     }
+
+    /// The current window of the first machine.
+    #[inline(always)]
+    fn window(&self) -> u32
+        requires few_windows { NW ≤ 32 }
+        ensures value { result ≡ (state_in self.now.walk.place).processor.registers.cwp }
+        ensures in_range { result < NW }
+    {
+        self.walk.machine().registers().cwp()
+    }
+
+    /// Whether both machines have the same processor, behind a step in front of which they had. `window` was the current one
+    /// there. Where it still is, the step wrote no register outside it, and none is compared.
+    #[inline(always)]
+    fn are_alike_after(&self, window: u32) -> bool
+        requires few_windows { NW ≤ 32 }
+        ensures { MatchBool result
+            (AreSameOutside NW window (state_in self.now.other.place) (state_in self.now.walk.place) → IsSameProcessor (state_in self.now.other.place) (state_in self.now.walk.place))
+            (IsSameProcessor (state_in self.now.other.place) (state_in self.now.walk.place) → ⊥) }
+    {
+        let own = self.walk.machine();
+        let other = self.other.machine();
+        if own.registers().cwp() == window && other.registers().cwp() == window {
+            other.has_same_processor_in_window(own)
+        } else {
+            other.has_same_processor(own)
+        }
+    }
 }
 
 /// Begins both walks at a step.
@@ -104,8 +137,8 @@ fn step_both<const NW: usize, const PAGES: usize, const K: u32>(
     ensures now_tried { OnErr result (IsTried K both.old.walk.step now.old now.new) }
     ensures before_tried { OnErr result (IsTried K both.old.walk.step before.old before.new) }
 {
-    now.walk_past(&mut both.walk, watch)?;
-    before.walk_past(&mut both.other, watch)?;
+    now.walk_past::<NOW>(&mut both.walk, watch)?;
+    before.walk_past::<BEFORE>(&mut both.other, watch)?;
     Ok(())
 }
 
@@ -124,15 +157,20 @@ fn part_within<const NW: usize, const PAGES: usize, const K: u32>(
     ensures before_given_up { IsAbandoned K from to before.old before.new }
 {
     now.sizes();
+    before.sizes();
     let mut watch = Watch::new(now.alloc());
     let mut both = begin_both(now, before, from, &mut watch)?;
-    while both.are_alike() {
-        if both.walk.step() == to {
-            return Ok(None);
-        }
-        step_both(now, before, &mut both, &mut watch)?;
+    if !both.are_alike() {
+        return Ok(Some(both.walk.step()));
     }
-    Ok(Some(both.walk.step()))
+    while both.walk.step() < to {
+        let window = both.window();
+        step_both(now, before, &mut both, &mut watch)?;
+        if !both.are_alike_after(window) {
+            return Ok(Some(both.walk.step()));
+        }
+    }
+    Ok(None)
 }
 
 /// The words of RAM that differ between two machines, rising, and at most so many.

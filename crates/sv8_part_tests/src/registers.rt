@@ -197,6 +197,13 @@ fn is_seen(base: &Regs<3>, changed: &Regs<3>) -> bool {
     !base.is_same(changed) && !changed.is_same(base) && changed.is_same(&changed.copy())
 }
 
+/// Whether they differ from them in the current window alone, too.
+fn is_seen_in_window(base: &Regs<3>, changed: &Regs<3>) -> bool {
+    is_seen(base, changed)
+        && !base.is_same_in_window(changed)
+        && changed.is_same_in_window(&changed.copy())
+}
+
 /// Whether a change of a register is seen in each window.
 fn each_register_counts(base: &Regs<3>, r: u32) -> bool
     requires { r < 32 }
@@ -217,19 +224,19 @@ fn each_control_register_counts(base: &Regs<3>) -> bool {
     let mut holds = true;
     let mut changed = base.copy();
     changed.set_cwp(2);
-    holds = holds && is_seen(base, &changed);
+    holds = holds && is_seen_in_window(base, &changed);
     changed = base.copy();
     changed.set_wim(4);
-    holds = holds && is_seen(base, &changed);
+    holds = holds && is_seen_in_window(base, &changed);
     changed = base.copy();
     changed.set_tba(0x1000);
-    holds = holds && is_seen(base, &changed);
+    holds = holds && is_seen_in_window(base, &changed);
     changed = base.copy();
     changed.set_trap_type(0xff);
-    holds = holds && is_seen(base, &changed);
+    holds = holds && is_seen_in_window(base, &changed);
     changed = base.copy();
     changed.set_y(1);
-    holds && is_seen(base, &changed)
+    holds && is_seen_in_window(base, &changed)
 }
 
 /// Whether a change of each field of the PSR is seen, whose word after the reset is 80 (hexadecimal).
@@ -241,7 +248,7 @@ fn each_field_counts(base: &Regs<3>) -> bool {
     for word in words {
         let mut changed = base.copy();
         changed.set_psr_word(word);
-        holds = holds && is_seen(base, &changed);
+        holds = holds && is_seen_in_window(base, &changed);
     }
     holds
 }
@@ -255,4 +262,17 @@ fn registers_that_differ_in_one_place(rt: HostRuntime) {
     }
     assert!(rt; each_control_register_counts(&base));
     assert!(rt; each_field_counts(&base));
+}
+
+#[test]
+fn registers_outside_the_window_are_not_compared(rt: HostRuntime) {
+    let base = Regs::<3>::new();
+    let mut changed = base.copy();
+    changed.set_cwp(1);
+    changed.set(16, 1);
+    changed.set_cwp(0);
+    assert!(rt; is_seen(&base, &changed));
+    assert!(rt; base.is_same_in_window(&changed));
+    changed.set(16, 1);
+    assert!(rt; is_seen_in_window(&base, &changed));
 }

@@ -1,7 +1,7 @@
 //! Timelines at their bounds, with answers worked out by hand.
 
 use std::alloc::Global;
-use sv8_time::{TimeFault, Timeline};
+use sv8_time::{InputBytes, TimeFault, Timeline, TimelineEdit};
 
 /// An edit of a timeline.
 #[derive(Clone, Copy)]
@@ -16,17 +16,37 @@ enum Deed {
     Unrequest(u32, u32),
 }
 
+/// The edit of a deed; no bytes that come in are none.
+fn edit_of(deed: Deed) -> Option<TimelineEdit<'static>> {
+    let edit = match deed {
+        Deed::Poke(step, address, value) => TimelineEdit::SetPoke {
+            step,
+            address,
+            value,
+        },
+        Deed::Unpoke(step, address) => TimelineEdit::ClearPoke { step, address },
+        Deed::PokeByte(step, address, value) => TimelineEdit::SetPokeByte {
+            step,
+            address,
+            value,
+        },
+        Deed::UnpokeByte(step, address) => TimelineEdit::ClearPokeByte { step, address },
+        Deed::Input(_, []) => return None,
+        Deed::Input(step, bytes) => TimelineEdit::SetInput {
+            step,
+            bytes: InputBytes::new(bytes),
+        },
+        Deed::Uninput(step) => TimelineEdit::ClearInput { step },
+        Deed::Request(step, level) => TimelineEdit::SetRequest { step, level },
+        Deed::Unrequest(step, level) => TimelineEdit::ClearRequest { step, level },
+    };
+    Some(edit)
+}
+
 fn carry_out(timeline: &mut Timeline, alloc: Global, deed: Deed) -> Result<(), TimeFault> {
-    match deed {
-        Deed::Poke(step, address, value) => timeline.set_poke(alloc, step, address, value),
-        Deed::Unpoke(step, address) => timeline.clear_poke(step, address),
-        Deed::PokeByte(step, address, value) => timeline.set_poke_byte(alloc, step, address, value),
-        Deed::UnpokeByte(step, address) => timeline.clear_poke_byte(step, address),
-        Deed::Input(_, []) => Ok(()),
-        Deed::Input(step, bytes) => timeline.set_input(alloc, step, bytes),
-        Deed::Uninput(step) => timeline.clear_input(step),
-        Deed::Request(step, level) => timeline.set_request(alloc, step, level),
-        Deed::Unrequest(step, level) => timeline.clear_request(step, level),
+    match edit_of(deed) {
+        Some(edit) => timeline.edit(alloc, &edit),
+        None => Ok(()),
     }
 }
 

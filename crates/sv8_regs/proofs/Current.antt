@@ -6,10 +6,10 @@ use Rattle.std.proofs.lemmas.Bool.Decides.{nat_tests}
 use Rattle.std.proofs.lemmas.Grind.{same_number_lists, get_or-set_at}
 use Rattle.std.proofs.lemmas.List.{get_or-take, take-set-le, length-replicate, get_or-replicate}
 use Rattle.std.proofs.lemmas.List.FromFn.{get_or-map-range_with_len, length-map-range_with_len}
-use Rattle.sv8_regs.specs.Current.{register, ring_of, IsVacant}
+use Rattle.sv8_regs.specs.Current.{register, ring_of, IsVacant, other_windows}
 use Rattle.sv8_regs.specs.Ring.{Registers, place, read, write, flat}
 use Rattle.sv8_regs.proofs.Rows.{flat-zeros}
-use Rattle.sv8_regs.proofs.Places.{register_of_place, place_of_register, place_in, place_apart, read_ring, write_ring, read_global, read_zero, write_global}
+use Rattle.sv8_regs.proofs.Places.{register_of_place, place_of_register, place_in, place_apart, read_ring, write_ring, read_global, read_zero, write_zero, write_global}
 
 module _ (n w : ℕ) (w_in : w < n) (current words : List ℕ) where
   pub length-ring : length (ring_of n w current words) ≡ 16 * n
@@ -131,3 +131,44 @@ module _ (n w : ℕ) (two : 2 ≤ n) (w_in : w < n) (current current2 words word
             grind (arith, vacant (register n w k), vacant2 (register n w k))
         | inr other ↦ grind (arith, ring_elsewhere n w w_in current words k k_in other, ring_elsewhere n w w_in current2 words2 k k_in other)
       ])
+
+-- the words of the rows are the ring with zeros in the places of the window
+pub vacated : (n w : ℕ) → 2 ≤ n → w < n → (current words : List ℕ) → length words ≡ 16 * n → IsVacant n w words
+    → ring_of n w (replicate 32 0) (ring_of n w current words) ≡ words
+unfolding IsVacant
+vacated n w two w_in current words size vacant =
+    sym (is_ring n w w_in (replicate 32 0) (ring_of n w current words) words size
+    (λ r low high. vacant r low high ∙ sym (get_or-replicate 32 r 0 0 high))
+    (λ k k_in elsewhere. sym (ring_elsewhere n w w_in current words k k_in elsewhere)))
+
+-- a register of the current window is written: those outside it stay
+module _ (n : ℕ) (s : Registers) (two : 2 ≤ n) (w_in : s.cwp < n) where
+  ring_written : (r v : ℕ) → 8 ≤ r → r < 32 → ring_of n s.cwp (replicate 32 0) (set s.ring (place n s.cwp r) v) ≡ other_windows n s
+  ring_written r v low high =
+      let zeros = replicate 32 0 in
+      let written = set s.ring (place n s.cwp r) v in
+      is_ring n s.cwp w_in zeros s.ring (ring_of n s.cwp zeros written) (length-ring n s.cwp w_in zeros written)
+      (λ t t_low t_high. ring_at_place n s.cwp w_in zeros written t two t_low t_high)
+      (λ k k_in elsewhere.
+      let back = register_of_place n s.cwp w_in r two low high in
+      let apart : k ≢ place n s.cwp r = λ e. let register_is = ap (register n s.cwp) e in absurd (omega arith) in
+      ring_elsewhere n s.cwp w_in zeros written k k_in elsewhere ∙ get_or-set_other s.ring (place n s.cwp r) k v 0 apart)
+
+  pub others_written : (r v : ℕ) → r < 32 → other_windows n (write n s r v) ≡ other_windows n s
+  others_written r v high = elim (cases_eq r 0) [
+    | inl is_zero ↦ ap (other_windows n) (write_zero n s r v is_zero)
+    | inr not_zero ↦ elim (cases_lt r 8) [
+      | inl global ↦ ap (other_windows n) (write_global n s r v (omega arith) global)
+      | inr windowed ↦ ap (other_windows n) (write_ring n s r v windowed) ∙ ring_written r v windowed high
+    ]
+  ]
+
+-- and CWP does
+pub window_kept : (n : ℕ) (s : Registers) (r v : ℕ) → (write n s r v).cwp ≡ s.cwp
+window_kept n s r v = elim (cases_eq r 0) [
+  | inl is_zero ↦ ap (λ (x : Registers). x.cwp) (write_zero n s r v is_zero)
+  | inr not_zero ↦ elim (cases_lt r 8) [
+    | inl global ↦ ap (λ (x : Registers). x.cwp) (write_global n s r v (omega arith) global)
+    | inr windowed ↦ ap (λ (x : Registers). x.cwp) (write_ring n s r v windowed)
+  ]
+]

@@ -4,7 +4,7 @@ use Rattle.std.proofs.Math.Nat.{add-mod_right, mod-lt, mod_self}
 use Rattle.std.proofs.lemmas.Bool.{cases_lt, cases_eq}
 use Rattle.std.proofs.lemmas.Bool.Decides.{nat_tests}
 use Rattle.sv8_regs.specs.Ring.{Registers, place, read, write}
-use Rattle.sv8_regs.specs.Control.{above}
+use Rattle.sv8_regs.specs.Control.{above, below}
 use Rattle.sv8_regs.specs.Current.{register}
 
 mod_past : (m k r : ℕ) → r < m → k ≡ r + m → k % m ≡ r
@@ -19,6 +19,17 @@ above_apart n w two w_in = elim (cases_lt (w + 1) n) [
   | inr past ↦
       let last : w + 1 ≡ n = omega arith in
       let next = ap (λ t. t % n) last ∙ mod_self n in
+      λ e. omega arith
+]
+
+pub below_apart : (n w : ℕ) → 2 ≤ n → w < n → below n w ≢ w
+below_apart n w two w_in = elim (cases_eq w 0) [
+  | inl first ↦
+      let last : w + n - 1 < n = omega arith in
+      let next = mod-eq_of_lt last in
+      λ e. omega arith
+  | inr other ↦
+      let turned = mod_past n (w + n - 1) (w - 1) (omega arith) (omega arith) in
       λ e. omega arith
 ]
 
@@ -102,7 +113,7 @@ read_global n s i low high = grind (arith, nat_tests)
 pub read_zero : (n : ℕ) (s : Registers) (i : ℕ) → i ≡ 0 → read n s i ≡ 0
 read_zero n s i e = grind (arith, nat_tests)
 
-write_zero : (n : ℕ) (s : Registers) (i v : ℕ) → i ≡ 0 → write n s i v ≡ s
+pub write_zero : (n : ℕ) (s : Registers) (i v : ℕ) → i ≡ 0 → write n s i v ≡ s
 write_zero n s i v e = grind (arith, nat_tests)
 
 pub write_global : (n : ℕ) (s : Registers) (i v : ℕ) → 0 < i → i < 8 → write n s i v ≡ record s { globals = set s.globals i v }

@@ -1,5 +1,5 @@
 -- Registers that are the same, field by field.
-use Rattle.std.proofs.Common.{Bool, true, false, MatchBool, ◌≡◌, ◌≢◌, ◌==◌, ◌&&◌, ℕ, ◌+◌, ◌*◌, ◌<◌, ◌≤◌, List, [], length, get_or, take, not, refl, sym, ap, ◌∙◌, subst, arith}
+use Rattle.std.proofs.Common.{Bool, true, false, MatchBool, ◌≡◌, ◌≢◌, ◌==◌, ◌&&◌, ℕ, ◌+◌, ◌*◌, ◌<◌, ◌≤◌, List, [], length, get_or, take, replicate, not, refl, sym, ap, ◌∙◌, subst, arith}
 use Rattle.std.proofs.lemmas.Grind.{same_number_lists}
 use Rattle.std.proofs.lemmas.Bool.{not-false}
 use Rattle.std.proofs.lemmas.Bool.Decides.{Decides-eqb}
@@ -8,9 +8,9 @@ use Rattle.std.specs.Bool.{Decides}
 use Rattle.std.specs.Cmp.{booleans_Decides}
 use Rattle.sv8_regs.specs.declared.Psr.{Psr}
 use Rattle.sv8_regs.specs.Ring.{Registers, flat}
-use Rattle.sv8_regs.specs.Current.{ring_of, IsVacant}
+use Rattle.sv8_regs.specs.Current.{ring_of, IsVacant, other_windows}
 use Rattle.sv8_regs.proofs.Rows.{get_or-flat_at}
-use Rattle.sv8_regs.proofs.Current.{same_current, same_rest}
+use Rattle.sv8_regs.proofs.Current.{same_current, same_rest, vacated}
 
 -- what follows from each answer of a test
 pub decided : {P Q R : Type 0} (b : Bool) → Decides b R → (R → P) → (¬ R → Q) → MatchBool b P Q
@@ -82,6 +82,18 @@ module _ (n : ℕ) (u v s t : Registers) (us : u ≡ s) (vt : v ≡ t) (fields :
   unlike_current false b_is differ size size2 = λ same.
       let globals = sym globals_are ∙ ap (λ (x : Registers). x.globals) (us ∙ same ∙ sym vt) ∙ globals2_are in
       differ (same_current n u.cwp two w_in current current2 words words2 (rings_same same) size size2 globals)
+
+  -- the same where the registers outside the window are known to be
+  pub decided_by_window : (b : Bool) → MatchBool b (current ≡ current2) (current ≢ current2) → length current ≡ 32 → length current2 ≡ 32
+      → length words ≡ 16 * n → length words2 ≡ 16 * n → IsVacant n u.cwp words → IsVacant n v.cwp words2
+      → MatchBool b (other_windows n s ≡ other_windows n t → s ≡ t) (s ≢ t)
+  decided_by_window true currents len len2 size size2 vacant vacant2 = λ others.
+      let v_in : v.cwp < n = subst (λ w. w < n) same_cwp w_in in
+      let zeros = replicate 32 0 in
+      let own = ap (other_windows n) (sym us) ∙ ap (ring_of n u.cwp zeros) ring_is ∙ vacated n u.cwp two w_in current words size vacant in
+      let theirs = ap (other_windows n) (sym vt) ∙ ap (ring_of n v.cwp zeros) ring2_is ∙ vacated n v.cwp two v_in current2 words2 size2 vacant2 in
+      alike currents (sym own ∙ others ∙ theirs)
+  decided_by_window false differ len len2 size size2 vacant vacant2 = unlike_current false refl differ len len2
 
 -- rows that differ have other words
 pub row_unlike : (n w : ℕ) (one other : List (List ℕ)) → w < n → length (get_or one w []) ≡ 16 → length (get_or other w []) ≡ 16

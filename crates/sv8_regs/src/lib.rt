@@ -95,6 +95,7 @@ impl<const NW: usize> Model for Regs<NW> {
 
 impl<const NW: usize> Regs<NW> {
     ghost use Rattle.std.specs.Prelude.{◌≡◌, ◌≢◌, ◌<◌, ◌≤◌, ◌^◌, ◌%◌, MatchBool};
+    ghost use Rattle.sv8_regs.specs.Current.{other_windows};
     ghost use Rattle.sv8_regs.specs.Ring.{read, write, reset};
     ghost use Rattle.sv8_model.specs.Words.{bit};
     ghost use Rattle.sv8_regs.specs.Control.{packed_psr, unpacked_psr, window_field, kept_mask, with_base, with_trap_type, below, above, condition_codes, with_condition_codes};
@@ -147,6 +148,15 @@ impl<const NW: usize> Regs<NW> {
         ensures { MatchBool result (self.now ≡ other.now) (self.now ≢ other.now) }
     {
         self.has_same_fields(other) && self.has_same_windows(other)
+    }
+
+    /// Whether two sets of registers are the same where those outside the current window are known to be. The globals, the
+    /// registers of that window, and the control and status registers are compared. Sections 4.1 and 4.2.
+    #[inline(always)]
+    pub fn is_same_in_window(&self, other: &Regs<NW>) -> bool
+        ensures { MatchBool result (other_windows NW self.now ≡ other_windows NW other.now → self.now ≡ other.now) (self.now ≢ other.now) }
+    {
+        self.has_same_fields(other) && same_words(&self.current, &other.current)
     }
 
     /// Whether the control and status registers are the same, with the current window.

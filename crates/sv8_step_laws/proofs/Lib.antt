@@ -5,6 +5,8 @@ pub mod Seen
 pub mod Fetched
 pub mod Trapping
 pub mod Console
+pub mod Targets
+pub mod Windows
 pub mod Spared
 pub mod FirstTouch
 pub mod Data

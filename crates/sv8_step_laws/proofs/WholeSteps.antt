@@ -13,10 +13,11 @@ use Rattle.sv8_phys.specs.Contents.{arrived, outside_of}
 use Rattle.sv8_source.specs.Text.{Text}
 use Rattle.sv8_cpu.specs.Step.{action}
 use Rattle.sv8_memory.specs.Events.{with_events}
-use Rattle.sv8_cpu.specs.State.{State, reset_state, inner_of}
+use Rattle.sv8_cpu.specs.State.{State, inner_of}
 use Rattle.sv8_cpu.specs.Run as run
 use Rattle.sv8_step_laws.specs.Frames.{WholeState, whole_step, whole_touched, whole_steps, events_of, whole, IsFed, EventsCome, StepsAreWhole, RunsAreWhole}
 use Rattle.sv8_cpu.proofs.Common.{waiting_falls}
+use Rattle.sv8_reset.specs.Reset.{reset_state, state_at}
 
 -- ---- what comes in at a step comes in behind what came in before
 
@@ -127,9 +128,9 @@ steps_are_whole windows pages schedule n s timeline fed =
 -- ---- a run
 
 record Reached (windows pages : ℕ) (source : Text) (schedule : Schedule) (n : ℕ) : Type 0 where
-  pub state : whole schedule n (run.state_at windows pages source schedule n)
+  pub state : whole schedule n (state_at windows pages source schedule n)
       ≡ whole_steps windows pages (events_of schedule) n (whole schedule 0 (reset_state windows pages source))
-  pub fed : IsFed schedule n (run.state_at windows pages source schedule n)
+  pub fed : IsFed schedule n (state_at windows pages source schedule n)
 
 reached : (windows pages : ℕ) (source : Text) (schedule : Schedule) → IsTimeline schedule → (n : ℕ) → Reached windows pages source schedule n
 unfolding run.steps reset_state
@@ -149,5 +150,5 @@ reached windows pages source schedule timeline (suc n) =
 pub runs_are_whole : RunsAreWhole
 runs_are_whole windows pages source schedule n timeline =
     let it = reached windows pages source schedule timeline n in
-    let one = steps_are_whole windows pages schedule n (run.state_at windows pages source schedule n) timeline it.fed in
+    let one = steps_are_whole windows pages schedule n (state_at windows pages source schedule n) timeline it.fed in
     record { state = it.state; touched = one.touched ∙ ap (λ w. whole_touched windows pages (events_of schedule n) w) it.state; fed = it.fed }

@@ -13,9 +13,10 @@ use Rattle.sv8_phys.specs.Contents.{arrived, outside_of}
 use Rattle.sv8_source.specs.Text.{Text}
 use Rattle.sv8_cpu.specs.Step.{Inner, action}
 use Rattle.sv8_memory.specs.Events.{poked, marked}
-use Rattle.sv8_cpu.specs.State.{State, reset_state, inner_of}
+use Rattle.sv8_cpu.specs.State.{State, inner_of}
 use Rattle.sv8_cpu.specs.Run as run
 use Rattle.sv8_cpu.specs.Recorded.{poke_of}
+use Rattle.sv8_reset.specs.Reset.{reset_state, state_at}
 
 -- ---- the whole state, and its steps
 
@@ -84,11 +85,11 @@ StepsAreWhole = (windows pages : ℕ) (schedule : Schedule) (n : ℕ) (s : State
 
 -- so the state before each step of a run from reset is what so many steps of the whole state lead to, and each step touches the same
 pub record RunIsWhole (windows pages : ℕ) (source : Text) (schedule : Schedule) (n : ℕ) : Type 0 where
-  pub state : whole schedule n (run.state_at windows pages source schedule n)
+  pub state : whole schedule n (state_at windows pages source schedule n)
       ≡ whole_steps windows pages (events_of schedule) n (whole schedule 0 (reset_state windows pages source))
-  pub touched : run.footprint windows pages schedule n (run.state_at windows pages source schedule n)
+  pub touched : run.footprint windows pages schedule n (state_at windows pages source schedule n)
       ≡ touched_at windows pages (events_of schedule) n (whole schedule 0 (reset_state windows pages source))
-  pub fed : IsFed schedule n (run.state_at windows pages source schedule n)
+  pub fed : IsFed schedule n (state_at windows pages source schedule n)
 
 abbrev pub RunsAreWhole : Type 0
 RunsAreWhole = (windows pages : ℕ) (source : Text) (schedule : Schedule) (n : ℕ) → IsTimeline schedule → RunIsWhole windows pages source schedule n

@@ -11,8 +11,9 @@ use Rattle.sv8_source.specs.Text.{Text}
 use Rattle.sv8_memory.specs.Units.{Units}
 use Rattle.sv8_memory.specs.Access.{access}
 use Rattle.sv8_iu.specs.declared.request.AccessRequest.{AccessRequest}
-use Rattle.sv8_cpu.specs.Run.{state_at, footprint}
-use Rattle.sv8_cpu.specs.Recorded.{machine, footprint_of, AreEvents, run_of}
+use Rattle.sv8_cpu.specs.Run.{footprint}
+use Rattle.sv8_cpu.specs.Recorded.{machine, footprint_of, AreEvents}
+use Rattle.sv8_reset.specs.Reset.{state_at, run_of}
 
 -- the frame law of an access: one that reads no cell of a set does the same whatever these cells hold, and leaves those of them that it does not write
 abbrev pub AccessFrames : Type 0

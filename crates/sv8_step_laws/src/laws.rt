@@ -10,6 +10,7 @@ ghost use Rattle.sv8_step_laws.specs.Frames.{EventsCome, StepsAreWhole, RunsAreW
 ghost use Rattle.sv8_cpu.specs.Touching.{SparedBytesStay, AccessesTouch, StepsTouch, AccessesAreData, FetchesTouch, AnnulledStepsPass};
 ghost use Rattle.sv8_cpu.specs.Trapping.{TrapsLeadThere, TrapTypesLeadThere};
 ghost use Rattle.sv8_step_laws.specs.Console.{ConsolesGrow};
+ghost use Rattle.sv8_step_laws.specs.Windows.{OtherWindowsStay};
 
 /// The steps of small programs, computed from the definition of a step.
 ///
@@ -234,4 +235,10 @@ pub fn trap_types_lead_there()
 /// After a step no fewer bytes are taken from the console, and no fewer are put out.
 pub fn consoles_grow()
     ensures { ConsolesGrow }
+{}
+
+/// A step that leaves CWP writes no register outside the current window: the outs, locals and ins of that window and the globals are
+/// all that it may write.
+pub fn other_windows_stay()
+    ensures { OtherWindowsStay }
 {}

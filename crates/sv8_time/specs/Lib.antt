@@ -5,3 +5,4 @@ pub mod Marks
 pub mod Inputs
 pub mod Timeline
 pub mod Examples
+pub mod Edits

@@ -2,6 +2,7 @@
 #![tactic(auto)]
 
 mod block;
+mod edit;
 mod fault;
 mod inputs;
 mod laws;
@@ -15,6 +16,7 @@ mod starts;
 mod timeline;
 mod words;
 
+pub use edit::{InputBytes, TimelineEdit};
 pub use fault::TimeFault;
 pub use laws::{worked_nexts, worked_pokes, worked_reads, worked_refusals};
 pub use requests::Request;

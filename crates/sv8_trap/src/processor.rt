@@ -2,6 +2,7 @@
 
 ghost use Rattle.std.specs.Prelude.{◌≡◌, ◌≢◌, ◌<◌, ◌≤◌, ◌%◌, ◌^◌, MatchBool};
 ghost use Rattle.sv8_regs.specs.Control.{unpacked_psr, window_field, kept_mask, with_base};
+ghost use Rattle.sv8_regs.specs.Current.{other_windows};
 ghost use Rattle.sv8_trap.specs.Processor.{reset_processor, plus, advanced, transferred, slot_skipped, with_register, with_result, with_codes, with_y, in_window};
 
 use std::marker::Model;
@@ -67,13 +68,26 @@ impl<const NW: usize> Processor<NW> {
     pub fn is_same(&self, other: &Processor<NW>) -> bool
         ensures { MatchBool result (self.now ≡ other.now) (self.now ≢ other.now) }
     {
+        self.has_same_counters(other) && self.registers.is_same(&other.registers)
+    }
+
+    /// The same of processors whose registers outside the current window are known to be the same: these are not compared.
+    #[inline(always)]
+    pub fn is_same_in_window(&self, other: &Processor<NW>) -> bool
+        ensures { MatchBool result (other_windows NW self.now.registers ≡ other_windows NW other.now.registers → self.now ≡ other.now) (self.now ≢ other.now) }
+    {
+        self.has_same_counters(other) && self.registers.is_same_in_window(&other.registers)
+    }
+
+    /// Whether PC, nPC, the annul flag, and whether they run are the same.
+    #[inline(always)]
+    fn has_same_counters(&self, other: &Processor<NW>) -> bool
+        ensures { MatchBool result (self.now ≡ record other.now { registers = self.now.registers }) (self.now ≢ record other.now { registers = self.now.registers }) }
+    {
         if self.pc != other.pc || self.npc != other.npc {
             return false;
         }
-        if self.annul != other.annul || self.running != other.running {
-            return false;
-        }
-        self.registers.is_same(&other.registers)
+        self.annul == other.annul && self.running == other.running
     }
 
     /// The number of windows, `NW`.

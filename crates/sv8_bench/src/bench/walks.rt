@@ -63,17 +63,21 @@ impl<const NW: usize, const PAGES: usize, const K: u32> Bench<NW, PAGES, K> {
         ensures unmade { OnErr result (IsUnmade self.old self.new) }
     {
         self.make_ready(walk)?;
-        self.make_next::<true>(walk, watch)
+        self.make_next::<true, 0>(walk, watch)
     }
 
     /// The same with nothing seen of the step, which takes less time. `watch` is a place for notes, which mean nothing
     /// afterwards.
     ///
+    /// `SITE` tells the places apart that make steps in a loop, and means nothing but to the built program: a site has a
+    /// step of its own, which the compiler puts into the loop, since nothing else calls it. 0 stands for all other places,
+    /// and 1 for `walk_to`.
+    ///
     /// # Errors
     ///
     /// Those of `walk_on`.
     #[inline(always)]
-    pub fn walk_past(
+    pub fn walk_past<const SITE: usize>(
         &mut self,
         walk: &mut Walk<NW, PAGES>,
         watch: &mut Watch,
@@ -86,7 +90,7 @@ impl<const NW: usize, const PAGES: usize, const K: u32> Bench<NW, PAGES, K> {
         ensures unmade { OnErr result (IsUnmade self.old self.new) }
     {
         self.make_ready(walk)?;
-        self.make_next::<false>(walk, watch)
+        self.make_next::<false, SITE>(walk, watch)
     }
 
     /// Whether a walk stands where its next step can be made: on the record of the steps since the last checkpoint, where the
@@ -150,7 +154,7 @@ impl<const NW: usize, const PAGES: usize, const K: u32> Bench<NW, PAGES, K> {
 
     /// Makes the next step of a walk that stands where it can be made.
     #[inline(always)]
-    fn make_next<const SEEN: bool>(
+    fn make_next<const SEEN: bool, const SITE: usize>(
         &mut self,
         walk: &mut Walk<NW, PAGES>,
         watch: &mut Watch,
@@ -170,7 +174,7 @@ impl<const NW: usize, const PAGES: usize, const K: u32> Bench<NW, PAGES, K> {
         let step = walk.step;
         match &mut walk.place {
             Place::Restored(machine) => {
-                self.step_restored::<SEEN, false>(machine, step, watch)?;
+                self.step_restored::<SEEN, SITE>(machine, step, watch)?;
             }
             Place::Drafted(draft) => self.step_drafted(draft, step, watch)?,
         }
@@ -212,7 +216,7 @@ impl<const NW: usize, const PAGES: usize, const K: u32> Bench<NW, PAGES, K> {
             }
         }
         while walk.step() < step {
-            self.walk_past(walk, watch)?;
+            self.walk_past::<0>(walk, watch)?;
         }
         Ok(())
     }
@@ -241,7 +245,7 @@ impl<const NW: usize, const PAGES: usize, const K: u32> Bench<NW, PAGES, K> {
         // A range would be taken apart and put together again at each step.
         let mut n = from;
         while n < to {
-            self.step_restored::<false, true>(machine, n, watch)?;
+            self.step_restored::<false, 1>(machine, n, watch)?;
             n += 1;
         }
         Ok(())
@@ -281,11 +285,8 @@ impl<const NW: usize, const PAGES: usize, const K: u32> Bench<NW, PAGES, K> {
     }
 
     /// Makes a step of which nothing is recorded, since it is recorded already or no checkpoint can follow.
-    ///
-    /// `ROW` says that it is one of many in a loop, and means nothing but to the built program: it gives the loop a step of
-    /// its own, which the compiler puts into it, since nothing else calls it.
     #[inline(always)]
-    fn step_restored<const SEEN: bool, const ROW: bool>(
+    fn step_restored<const SEEN: bool, const SITE: usize>(
         &mut self,
         machine: &mut Machine<NW, PAGES>,
         step: u32,

@@ -1,4 +1,4 @@
-use Rattle.std.proofs.Common.{ℕ, ◌-◌, ◌<◌, ◌≤◌}
+use Rattle.std.proofs.Common.{ℕ, ◌+◌, ◌-◌, ◌<◌, ◌≤◌}
 use Rattle.sv8_monitor.specs.Search.{IsSearched}
 use Rattle.sv8_monitor.specs.Comparing.{AreWalks, AreAlike}
 use Rattle.sv8_monitor.proofs.compare.part_within.Given as goal
@@ -10,7 +10,7 @@ invariant-loop-both g l = record {
   high : l.both.walk.step ≤ l.to;
   now_searched : IsSearched g.row.K l.from l.both.walk.step l.fn.now l.now;
   before_searched : IsSearched g.row.K l.from l.both.walk.step l.fn.before l.before;
-  alike : (m : ℕ) → l.from ≤ m → m < l.both.walk.step → AreAlike l.fn.before.kept l.fn.now.kept m;
+  alike : (m : ℕ) → l.from ≤ m → m < l.both.walk.step + 1 → AreAlike l.fn.before.kept l.fn.now.kept m;
 }
 
 -- the steps that are left

@@ -1,4 +1,4 @@
-use Rattle.std.proofs.Common.{◌≡◌, ◌∙◌, ◌+◌, ◌-◌, ◌<◌, ◌≤◌, ℕ, List, take, drop, length, get_or, refl, sym, ap, subst, arith, length-take}
+use Rattle.std.proofs.Common.{◌≡◌, ◌∙◌, ◌+◌, ◌-◌, ◌<◌, ◌≤◌, ℕ, List, take, drop, length, get_or, ap, subst, arith, length-take}
 use Rattle.std.proofs.lemmas.List.{length-drop, get_or-drop, get_or-take, take_all}
 use Rattle.sv8_source.specs.Listing.{ListedLine, listing}
 use Rattle.sv8_commands.specs.Text.{numbered_text}

@@ -1,4 +1,4 @@
-use Rattle.sv8_cpu.proofs.Common.{state_is, footprint_is}
+use Rattle.sv8_reset.proofs.Runs.{state_is, footprint_is}
 use Rattle.sv8_step_laws.proofs.laws.runs_agree.Goals as goal
 
 pub returns : goal.returns

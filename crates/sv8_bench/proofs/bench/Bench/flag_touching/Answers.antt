@@ -1,5 +1,4 @@
-use Rattle.std.proofs.Common.{◌≡◌, ◌+◌, ◌≤◌, length, sym, subst}
-use Rattle.sv8_time.specs.Schedule.{Schedule}
+use Rattle.std.proofs.Common.{◌+◌, ◌≤◌, length, sym, subst}
 use Rattle.sv8_notes.specs.Flags.{IsFlaggedUnless}
 use Rattle.sv8_trace.specs.Recording.{recorded}
 use Rattle.sv8_bench.specs.Workbench.{Workbench}

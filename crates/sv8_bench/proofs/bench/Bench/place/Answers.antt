@@ -1,4 +1,4 @@
-use Rattle.std.proofs.Common.{◌≡◌, ◌∙◌, ◌+◌, ◌*◌, ◌<◌, ◌≤◌, ◌⊎◌, sym, ap, arith, subst}
+use Rattle.std.proofs.Common.{◌≡◌, ◌∙◌, ◌+◌, ◌<◌, ◌≤◌, ◌⊎◌, sym, ap, arith, subst}
 use Rattle.sv8_trace.specs.Drafts.{Drafted, IsDraft}
 use Rattle.sv8_trace.specs.Recording.{recorded}
 use Rattle.sv8_bench.specs.Kept.{Kept}

@@ -1,4 +1,4 @@
-use Rattle.std.proofs.Common.{◌≡◌, ◌∙◌, ◌+◌, ◌*◌, ◌<◌, ◌≤◌, ℕ, length, refl, sym, ap, arith, subst}
+use Rattle.std.proofs.Common.{◌≡◌, ◌∙◌, ◌+◌, ◌*◌, ◌≤◌, ℕ, length, refl, sym, ap, arith, subst}
 use Rattle.sv8_time.specs.Schedule.{bytes_below}
 use Rattle.sv8_cpu.specs.Run.{step}
 use Rattle.sv8_trace.specs.Drafts.{IsDraft}

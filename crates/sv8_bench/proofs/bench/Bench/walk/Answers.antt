@@ -1,4 +1,4 @@
-use Rattle.std.proofs.Common.{◌≡◌, ◌∙◌, ◌+◌, ◌-◌, ◌*◌, ◌/◌, ◌%◌, ◌≤◌, sym, ap, arith}
+use Rattle.std.proofs.Common.{◌∙◌, ◌-◌, ◌*◌, ◌/◌, arith}
 use Rattle.sv8_history.specs.Growing.{restored}
 use Rattle.sv8_bench.specs.Workbench.{checkpoints}
 use Rattle.sv8_bench.proofs.Queried.{counted_more, raised_more, query_steps, query_extends}

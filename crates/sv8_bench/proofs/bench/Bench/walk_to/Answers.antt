@@ -1,4 +1,4 @@
-use Rattle.std.proofs.Common.{◌≡◌, ◌∙◌, ◌+◌, ◌-◌, ◌/◌, max, refl, sym, ap, arith}
+use Rattle.std.proofs.Common.{◌∙◌, ◌+◌, ◌-◌, ◌/◌, max, sym, ap, arith}
 use Rattle.sv8_trace.specs.Recorder.{counted_by}
 use Rattle.sv8_bench.specs.Workbench.{checkpoints}
 use Rattle.sv8_bench.proofs.Walking.{none_more, step_counted, raised_tried}

@@ -1,0 +1,2 @@
+pub mod LoadedImage
+pub mod Runs
