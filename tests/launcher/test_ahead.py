@@ -6,6 +6,7 @@ import io
 import os
 import unittest
 from collections.abc import Sequence
+from unittest import mock
 
 from rubliman.launcher import ahead
 from rubliman.launcher.progress import Progress
@@ -19,6 +20,8 @@ GIB = 1 << 30
 TEXT = "".join(f"{name}: {uses}\n" for name, uses in CRATES.items())
 # What `rt ci NAME` says where all goes well: of libraries that were proved before, and of the crate.
 SAYS = 'echo "rt: low is kept: an earlier run"; echo "== $2"; echo "logic=proved functions=3"; echo "rt: $2 proved"'
+# And where another command proves the library at the time.
+WAITS = "rt: low: another run on this machine is proving the same; waiting for it"
 
 
 class Ahead(InRepository):
@@ -66,6 +69,15 @@ class Ahead(InRepository):
         tests = f'[ "$2" = low ] && until grep -q "ci high" {self.log}; do sleep 0.1; done; true'
         self.prove(f"{SAYS}; {tests}")
         self.assertEqual(sorted(self.all_calls()), ["ci high", "ci low", "ci side"])
+
+    def test_the_next_crate_is_begun_while_its_library_is_under_way(self) -> None:
+        # `low` waits for `high`, which stands on it. `high` then takes the place of `low`, and not one of its own.
+        waits = f'[ "$2" = low ] && until grep -q "ci high" {self.log}; do sleep 0.1; done; echo "{WAITS}"; {SAYS}'
+        with mock.patch.object(ahead, "_BEGUN_SECONDS", 0), mock.patch.object(ahead, "_AMPLE_BYTES", 0):
+            shown = self.prove(waits, lanes=1)
+        self.assertNotIn("waiting", shown)
+        calls = self.all_calls()
+        self.assertEqual((sorted(calls[:2]), calls[2:]), (["ci high", "ci low"], ["ci side"]))
 
     def test_what_was_taken_is_not_asked_for(self) -> None:
         self.prove(SAYS, taken=["low"])

@@ -1,5 +1,7 @@
 //! A walk through the steps of a workbench's run.
 
+ghost use Rattle.std.specs.Prelude.{◌<◌};
+
 use std::alloc::{AllocError, Global};
 use std::test::Fail;
 use sv8_bench::Bench;
@@ -11,15 +13,18 @@ type Small = Bench<8, 1, 256>;
 /// A loop of two steps that counts in %g1, the second of them at address 4.
 const COUNT: &[&[u8]] = &[b"again: ba again", b"inc %g1"];
 
+/// The same, but the second step loads into %g1.
+const LOAD: &[&[u8]] = &[b"again: ba again", b"ld [%g0], %g1"];
+
 /// How many steps are recorded, and how many were made.
 fn steps(bench: &Small) -> (u32, u64) {
     (bench.recorded(), bench.worked())
 }
 
-/// A workbench over `COUNT`.
-fn counting(alloc: Global) -> Result<Small, Fail> {
+/// A workbench over some lines.
+fn with_lines(alloc: Global, texts: &[&[u8]]) -> Result<Small, Fail> {
     let mut lines = Vec::new(alloc);
-    for text in COUNT {
+    for text in texts {
         lines.push(text.to_vec(alloc)?)?;
     }
     let mut bench = Small::new(alloc)?;
@@ -46,7 +51,31 @@ fn leads_on(alloc: Global, bench: &mut Small) -> Result<bool, AllocError> {
 
 #[test]
 fn a_walk_is_recorded_as_it_goes(rt: HostRuntime) -> Result<(), Fail> {
-    let mut bench = counting(rt.alloc())?;
+    let mut bench = with_lines(rt.alloc(), COUNT)?;
     assert!(rt; leads_on(rt.alloc(), &mut bench)?);
+    Ok(())
+}
+
+/// The word that a step gives.
+fn word_of(alloc: Global, bench: &mut Small, step: u32) -> Result<Option<u32>, AllocError>
+    requires { step < 1000000 }
+{
+    let mut watch = Watch::new(alloc);
+    let mut walk = bench.walk(step, &mut watch)?;
+    let word = bench.walk_past::<0>(&mut walk, &mut watch)?;
+    Ok(word)
+}
+
+/// The words of a branch and of an addition are given where the steps are recorded, and not above the record. That of a load
+/// is not given.
+#[test]
+fn a_recorded_step_gives_the_word_of_a_plain_instruction(rt: HostRuntime) -> Result<(), Fail> {
+    let mut counting = with_lines(rt.alloc(), COUNT)?;
+    let mut loading = with_lines(rt.alloc(), LOAD)?;
+    assert!(rt; word_of(rt.alloc(), &mut counting, 256)? == None);
+    assert!(rt; word_of(rt.alloc(), &mut counting, 254)? == Some(0x1080_0000));
+    assert!(rt; word_of(rt.alloc(), &mut counting, 255)? == Some(0x8200_6001));
+    assert!(rt; word_of(rt.alloc(), &mut loading, 256)? == None);
+    assert!(rt; word_of(rt.alloc(), &mut loading, 255)? == None);
     Ok(())
 }

@@ -1,5 +1,5 @@
 -- The rest of a step, behind its event: it neither depends on a cell that it does not read nor changes it. Nothing here looks into the action of a step.
-use Rattle.std.proofs.Common.{◌≡◌, ℕ, zero, suc, ◌+◌, ◌-◌, Bool, true, false, List, length, drop, cond, refl, sym, ◌∙◌, ap, subst, arith}
+use Rattle.std.proofs.Common.{◌≡◌, ℕ, ◌+◌, ◌-◌, Bool, true, false, List, length, drop, cond, refl, sym, ◌∙◌, ap, subst, arith}
 use Rattle.std.specs.Prelude.{not, ◌&&◌}
 use Rattle.std.proofs.Math.Bool.{and-false}
 use Rattle.sv8_model.specs.declared.touch.Touch.{Touch}
@@ -10,18 +10,14 @@ use Rattle.sv8_model.specs.Cells.{Cell, ram_byte, waiting_bytes, pending_level, 
 use Rattle.sv8_model.specs.Frame as frame
 use Rattle.sv8_model.specs.Frame.{Alike, Unread, remaining, Framed, only}
 use Rattle.sv8_model.proofs.Common.{cells_hold, framed as action_framed, sound as action_sound, stays as action_stays}
-use Rattle.sv8_history.specs.Machine as history
 use Rattle.sv8_history.specs.Machine.{SameFootprint}
 use Rattle.sv8_history.specs.Framed.{AreCells, IsFramed}
 use Rattle.sv8_history.specs.Acting.{IsActing}
 use Rattle.sv8_history.proofs.Common.{acting_frames}
-use Rattle.sv8_time.specs.Schedule.{Schedule}
 use Rattle.sv8_phys.specs.Contents.{Contents, outside_of}
 use Rattle.sv8_cpu.specs.Step.{Inner}
-use Rattle.sv8_memory.specs.Events.{with_events}
 use Rattle.sv8_cpu.specs.State.{State, left_by}
-use Rattle.sv8_cpu.specs.Run as run
-use Rattle.sv8_cpu.specs.Run.{step_action, acted_on, touched}
+use Rattle.sv8_cpu.specs.Run.{step_action, touched}
 use Rattle.sv8_cpu.specs.Recorded.{put, IsSound, Holds, Has, Ready, come, act, footprint_of, footprint_of_act, machine, acting}
 use Rattle.sv8_cpu.proofs.RecordedCells.{same_is, sound_outside, has_outside, put-get, put-put, get-put, get-put_other, get_fits, has_put}
 use Rattle.sv8_cpu.proofs.RecordedEvents.{are_events, sound_come, has_come, comes, delivers}

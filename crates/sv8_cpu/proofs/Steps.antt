@@ -1,5 +1,5 @@
 -- The parts of a step, one after another.
-use Rattle.std.proofs.Common.{◌≡◌, ℕ, Bool, true, false, MatchBool, MatchOption, Option, Some, None, List, [], ◌∷◌, refl, sym, ◌∙◌, subst}
+use Rattle.std.proofs.Common.{◌≡◌, ℕ, true, MatchOption, Option, Some, None, [], ◌∷◌, refl, sym, ◌∙◌, subst}
 use Rattle.sv8_isa.specs.declared.instr.Instr.{Instr}
 use Rattle.sv8_isa.specs.declared.instr.Instr.TheVariants.{Memory}
 use Rattle.sv8_isa.specs.declared.instr.MemoryOp.{MemoryOp}
@@ -10,9 +10,7 @@ use Rattle.sv8_model.specs.Action.{done, ask_levels, observe}
 use Rattle.sv8_model.specs.Does.{Does, Keeps, Notes, noting}
 use Rattle.sv8_model.proofs.Common.{does_then, does_done, does_observe, does_if_true, noting_none}
 use Rattle.sv8_phys.specs.declared.timer.Timer.{Timer}
-use Rattle.sv8_phys.specs.Contents.{outside_of}
 use Rattle.sv8_phys.specs.Devices.{tick}
-use Rattle.sv8_phys.specs.Memory.{ram_size}
 use Rattle.sv8_trap.specs.declared.table.Trap.{Trap}
 use Rattle.sv8_trap.specs.Table.{taken}
 use Rattle.sv8_trap.specs.Processor.{Processor}
@@ -21,14 +19,12 @@ use Rattle.sv8_iu.specs.declared.request.AccessRequest.{AccessRequest}
 use Rattle.sv8_iu.specs.declared.request.AccessRequest.TheVariants.{Nothing, Fetch}
 use Rattle.sv8_iu.specs.declared.request.Response.{Response}
 use Rattle.sv8_iu.specs.declared.request.Response.TheVariants.{Value, Refused}
-use Rattle.sv8_cpu.specs.declared.parts.Parts.{Parts}
 use Rattle.sv8_memory.specs.Units.{Units, Served, served}
 use Rattle.sv8_memory.specs.Access.{access}
 use Rattle.sv8_iu.specs.Operands.{sum_of_sources}
 use Rattle.sv8_iu.specs.Memory.{memory_traps, access_of}
 use Rattle.sv8_iu.specs.Instruction.{raised, asked, trapped, data_space, IsPlain}
 use Rattle.sv8_cpu.specs.Step.{Inner, trap_seen, refusal_seen, observed_trap, answered, finished_access, executed, carried_out, fetched, instruction, requested, interruptible, with_timer, awake}
-use Rattle.sv8_cpu.specs.Whole.{inner_of_parts, MayCarryOut}
 
 -- a trap is seen, and then something is there
 pub does_trap : {A : Type 0} (keeps : Keeps) (t : Trap) (x y : A) (o : Outside) (ns ns1 : Notes) → ns1 ≡ noting keeps ns [] (trap_seen t ∷ []) → y ≡ x
@@ -105,10 +101,3 @@ module _ (keeps : Keeps) (windows limit : ℕ) (m : Inner) where
         → Does keeps (awake windows limit m) o o2 y ns ns2
     unfolding awake
     awake_by timer next e h k = does_then keeps (tick m.units.timer) (λ t. interruptible windows limit (with_timer m t)) o o1 o2 timer y ns ns1 ns2 h (rw (← e) k)
-
--- a shorter way has carried a word out by the processor alone, or it has left all as it was
-pub plainly_or_not : {windows pages : ℕ} (keeps : Keeps) (bytes : List ℕ) (word : ℕ) (p p' : Parts windows pages) (q : Processor) (ns : Notes) (found : Bool)
-    → MatchBool found (IsPlain windows p.processor (meaning word) q) (q ≡ p.processor) → p' ≡ record p { processor = q } → MayCarryOut keeps bytes word p p' ns ns found
-plainly_or_not {windows} {pages} keeps bytes word p p' q ns true plain is =
-    rw is (carried_out_plainly keeps windows (ram_size pages) (inner_of_parts p) (outside_of p.memory.phys bytes) ns word q _ plain refl)
-plainly_or_not keeps bytes word p p' q ns false left is = (rw is (rw left refl), refl)

@@ -20,8 +20,8 @@ ghost use Rattle.sv8_cpu.specs.Whole.{MayCarryOut};
 
 use crate::parts::{Parts, show_refusal};
 use std::alloc::AllocError;
-use sv8_isa::{Group, Instr, MemoryOp, Operand, decode_memory, group};
-use sv8_iu::{Response, carry_out_plainly, data_space, finish_access, memory_trap, sum_of_sources};
+use sv8_isa::{Instr, MemoryOp, Operand, decode_memory};
+use sv8_iu::{Response, data_space, finish_access, memory_trap, sum_of_sources};
 use sv8_memory::Memory;
 use sv8_phys::{Size, Touches};
 use sv8_time::Timeline;
@@ -211,9 +211,10 @@ impl<const NW: usize, const PAGES: usize> Parts<NW, PAGES> {
         }
     }
 
-    /// Carries out a load or a store of a word or a byte that raises no trap before its access (Appendices B.1 and B.4).
+    /// Carries out a load or a store of a word or a byte that raises no trap before its access (Appendices B.1 and B.4). Tells
+    /// whether it has; where it has not, nothing has changed.
     #[inline(never)]
-    fn carry_out_access<T: Touches>(
+    pub fn carry_out_access<T: Touches>(
         &mut self,
         word: u32,
         before: u32,
@@ -240,29 +241,6 @@ impl<const NW: usize, const PAGES: usize> Parts<NW, PAGES> {
                 Ok(found)
             }
             _ => Ok(false),
-        }
-    }
-
-    /// Carries out a word, if it is one of a frequent instruction that has a way of its own. Tells whether it has; where it has not,
-    /// nothing has changed.
-    #[inline(always)]
-    pub fn carry_out_frequent<T: Touches>(
-        &mut self,
-        word: u32,
-        before: u32,
-        timeline: &Timeline,
-        notes: &mut T,
-    ) -> Result<bool, AllocError>
-        requires delivered { self.old.memory.phys.taken ≤ bytes_below before timeline.now.inputs }
-        ensures ok { IfOk result (MayCarryOut (keeping T.KEEPS T.OBSERVES) (arrived before timeline.now) word self.old self.new (T.noted notes.old) (T.noted notes.new)) }
-        ensures taken { OnOk result (self.new.memory.phys.taken ≤ bytes_below before timeline.now.inputs) }
-    {
-        match group(word) {
-            Group::Memory => {
-                let found = self.carry_out_access(word, before, timeline, notes)?;
-                Ok(found)
-            }
-            _ => Ok(carry_out_plainly(&mut self.processor, word)),
         }
     }
 }

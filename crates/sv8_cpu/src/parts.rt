@@ -1,6 +1,6 @@
 //! The parts of a machine, and what a step does with them behind its events.
 
-ghost use Rattle.std.specs.Prelude.{◌≡◌, ◌<◌, ◌≤◌, ◌/◌, [], None, OnOk};
+ghost use Rattle.std.specs.Prelude.{◌≡◌, ◌<◌, ◌≤◌, ◌/◌, [], None, IfOk, IfSome, OnOk};
 ghost use Rattle.sv8_isa.specs.Registers.{HasRegisters};
 ghost use Rattle.sv8_model.specs.Does.{kept, noting, keeping};
 ghost use Rattle.sv8_cpu.specs.Run.{step};
@@ -11,11 +11,13 @@ ghost use Rattle.sv8_phys.specs.Contents.{arrived};
 ghost use Rattle.sv8_iu.specs.Instruction.{raised};
 ghost use Rattle.sv8_cpu.specs.Step.{trap_seen, refusal_seen, answered, executed, carried_out, fetched, instruction, continued, requested, interruptible, awake, action};
 ghost use Rattle.sv8_memory.specs.View.{units_of};
-ghost use Rattle.sv8_cpu.specs.Whole.{inner_of_parts, MachineDoes};
+ghost use Rattle.sv8_cpu.specs.Whole.{inner_of_parts, state_of, IsByWord, MachineDoes};
 
 use std::alloc::AllocError;
-use sv8_isa::{Instr, decode};
-use sv8_iu::{AccessRequest, Response, asked, complete, low_word, raised_by, take_trap};
+use sv8_isa::{Group, Instr, decode, group};
+use sv8_iu::{
+    AccessRequest, Response, asked, carry_out_plainly, complete, low_word, raised_by, take_trap,
+};
 use sv8_memory::Memory;
 use sv8_phys::{Observation, Touches};
 use sv8_time::Timeline;
@@ -133,7 +135,8 @@ impl<const NW: usize, const PAGES: usize> Parts<NW, PAGES> {
         Ok(())
     }
 
-    /// Carries out a word that was fetched, by a way of its own where it has one.
+    /// Carries out a word that was fetched, by a way of its own where it has one. Gives the word where its instruction raised no
+    /// trap and made no access, and where it had such a way.
     #[inline(always)]
     fn carry_out_fetched<T: Touches>(
         &mut self,
@@ -141,17 +144,28 @@ impl<const NW: usize, const PAGES: usize> Parts<NW, PAGES> {
         before: u32,
         timeline: &Timeline,
         notes: &mut T,
-    ) -> Result<(), AllocError>
+    ) -> Result<Option<u32>, AllocError>
         requires delivered { self.old.memory.phys.taken ≤ bytes_below before timeline.now.inputs }
         ensures ok { OnOk result (MachineDoes (keeping T.KEEPS T.OBSERVES) (arrived before timeline.now) (carried_out NW (ram_size PAGES) (inner_of_parts self.old) word)
             self.old self.new (T.noted notes.old) (T.noted notes.new)) }
         ensures taken { OnOk result (self.new.memory.phys.taken ≤ bytes_below before timeline.now.inputs) }
+        ensures by_word { IfOk result (λ word. IfSome word (λ w. IsByWord NW w (state_of self.old) (state_of self.new))) }
     {
-        if self.carry_out_frequent(word, before, timeline, notes)? {
-            return Ok(());
+        match group(word) {
+            Group::Memory => {
+                if !self.carry_out_access(word, before, timeline, notes)? {
+                    self.carry_out_word(word, before, timeline, notes)?;
+                }
+                Ok(None)
+            }
+            _ => {
+                if carry_out_plainly(&mut self.processor, word) {
+                    return Ok(Some(word));
+                }
+                self.carry_out_word(word, before, timeline, notes)?;
+                Ok(None)
+            }
         }
-        self.carry_out_word(word, before, timeline, notes)?;
-        Ok(())
     }
 
     /// Carries out a word that was fetched, or takes the trap of its fetch.
@@ -204,29 +218,31 @@ impl<const NW: usize, const PAGES: usize> Parts<NW, PAGES> {
         Ok(())
     }
 
-    /// Fetches the instruction at PC and carries it out.
+    /// Fetches the instruction at PC and carries it out. Gives what `carry_out_fetched` does, where it was fetched from RAM and is
+    /// not translated.
     #[inline(always)]
     fn run_instruction<T: Touches>(
         &mut self,
         before: u32,
         timeline: &Timeline,
         notes: &mut T,
-    ) -> Result<(), AllocError>
+    ) -> Result<Option<u32>, AllocError>
         requires delivered { self.old.memory.phys.taken ≤ bytes_below before timeline.now.inputs }
         ensures ok { OnOk result (MachineDoes (keeping T.KEEPS T.OBSERVES) (arrived before timeline.now) (instruction NW (ram_size PAGES) (inner_of_parts self.old))
             self.old self.new (T.noted notes.old) (T.noted notes.new)) }
         ensures taken { OnOk result (self.new.memory.phys.taken ≤ bytes_below before timeline.now.inputs) }
+        ensures by_word { IfOk result (λ word. IfSome word (λ w. IsByWord NW w (state_of self.old) (state_of self.new))) }
     {
         let supervisor = self.processor.registers().psr().s;
         let at = self.processor.pc();
         match self.memory.fetch_in_place(supervisor, at, notes)? {
             Some(value) => {
-                self.carry_out_fetched(low_word(value), before, timeline, notes)?;
-                Ok(())
+                let word = self.carry_out_fetched(low_word(value), before, timeline, notes)?;
+                Ok(word)
             }
             None => {
                 self.run_any_instruction(before, timeline, notes)?;
-                Ok(())
+                Ok(None)
             }
         }
     }
@@ -239,18 +255,19 @@ impl<const NW: usize, const PAGES: usize> Parts<NW, PAGES> {
         before: u32,
         timeline: &Timeline,
         notes: &mut T,
-    ) -> Result<(), AllocError>
+    ) -> Result<Option<u32>, AllocError>
         requires delivered { self.old.memory.phys.taken ≤ bytes_below before timeline.now.inputs }
         ensures ok { OnOk result (MachineDoes (keeping T.KEEPS T.OBSERVES) (arrived before timeline.now) (continued NW (ram_size PAGES) (inner_of_parts self.old))
             self.old self.new (T.noted notes.old) (T.noted notes.new)) }
         ensures taken { OnOk result (self.new.memory.phys.taken ≤ bytes_below before timeline.now.inputs) }
+        ensures by_word { IfOk result (λ word. IfSome word (λ w. IsByWord NW w (state_of self.old) (state_of self.new))) }
     {
         if self.processor.annul() {
             self.processor.skip_slot();
-            Ok(())
+            Ok(None)
         } else {
-            self.run_instruction(before, timeline, notes)?;
-            Ok(())
+            let word = self.run_instruction(before, timeline, notes)?;
+            Ok(word)
         }
     }
 
@@ -263,21 +280,22 @@ impl<const NW: usize, const PAGES: usize> Parts<NW, PAGES> {
         before: u32,
         timeline: &Timeline,
         notes: &mut T,
-    ) -> Result<(), AllocError>
+    ) -> Result<Option<u32>, AllocError>
         requires delivered { self.old.memory.phys.taken ≤ bytes_below before timeline.now.inputs }
         ensures ok { OnOk result (MachineDoes (keeping T.KEEPS T.OBSERVES) (arrived before timeline.now) (requested NW (ram_size PAGES) (inner_of_parts self.old) levels)
             self.old self.new (T.noted notes.old) (T.noted notes.new)) }
         ensures taken { OnOk result (self.new.memory.phys.taken ≤ bytes_below before timeline.now.inputs) }
+        ensures by_word { IfOk result (λ word. IfSome word (λ w. IsByWord NW w (state_of self.old) (state_of self.new))) }
     {
         match highest_level(levels) {
             None => {
-                self.go_on(before, timeline, notes)?;
-                Ok(())
+                let word = self.go_on(before, timeline, notes)?;
+                Ok(word)
             }
             Some(level) => {
                 notes.observe(seen(Trap::Interrupt(level.number() as u8)))?;
                 self.processor.interrupt(level);
-                Ok(())
+                Ok(None)
             }
         }
     }
@@ -290,20 +308,21 @@ impl<const NW: usize, const PAGES: usize> Parts<NW, PAGES> {
         before: u32,
         timeline: &Timeline,
         notes: &mut T,
-    ) -> Result<(), AllocError>
+    ) -> Result<Option<u32>, AllocError>
         requires delivered { self.old.memory.phys.taken ≤ bytes_below before timeline.now.inputs }
         ensures ok { OnOk result (MachineDoes (keeping T.KEEPS T.OBSERVES) (arrived before timeline.now) (interruptible NW (ram_size PAGES) (inner_of_parts self.old))
             self.old self.new (T.noted notes.old) (T.noted notes.new)) }
         ensures taken { OnOk result (self.new.memory.phys.taken ≤ bytes_below before timeline.now.inputs) }
+        ensures by_word { IfOk result (λ word. IfSome word (λ w. IsByWord NW w (state_of self.old) (state_of self.new))) }
     {
         if self.processor.registers().psr().et {
             let levels = self.processor.unmasked_levels();
             let pending = self.memory.pending_among(levels, notes)?;
-            self.serve(pending, before, timeline, notes)?;
-            Ok(())
+            let word = self.serve(pending, before, timeline, notes)?;
+            Ok(word)
         } else {
-            self.go_on(before, timeline, notes)?;
-            Ok(())
+            let word = self.go_on(before, timeline, notes)?;
+            Ok(word)
         }
     }
 
@@ -315,18 +334,20 @@ impl<const NW: usize, const PAGES: usize> Parts<NW, PAGES> {
         before: u32,
         timeline: &Timeline,
         notes: &mut T,
-    ) -> Result<(), AllocError>
+    ) -> Result<Option<u32>, AllocError>
         requires delivered { self.old.memory.phys.taken ≤ bytes_below before timeline.now.inputs }
         ensures ok { OnOk result (MachineDoes (keeping T.KEEPS T.OBSERVES) (arrived before timeline.now) (awake NW (ram_size PAGES) (inner_of_parts self.old))
             self.old self.new (T.noted notes.old) (T.noted notes.new)) }
         ensures taken { OnOk result (self.new.memory.phys.taken ≤ bytes_below before timeline.now.inputs) }
+        ensures by_word { IfOk result (λ word. IfSome word (λ w. IsByWord NW w (state_of self.old) (state_of self.new))) }
     {
         self.memory.tick(notes)?;
-        self.go_on_or_interrupt(before, timeline, notes)?;
-        Ok(())
+        let word = self.go_on_or_interrupt(before, timeline, notes)?;
+        Ok(word)
     }
 
-    /// What a step does behind its events: in error mode nothing.
+    /// What a step does behind its events: in error mode nothing. Gives what `run_instruction` does, where an instruction was
+    /// fetched.
     #[inline(always)]
     #[tactic(auto, unfolding(crate::specs::Step::action))]
     pub fn act<T: Touches>(
@@ -334,16 +355,17 @@ impl<const NW: usize, const PAGES: usize> Parts<NW, PAGES> {
         before: u32,
         timeline: &Timeline,
         notes: &mut T,
-    ) -> Result<(), AllocError>
+    ) -> Result<Option<u32>, AllocError>
         requires delivered { self.old.memory.phys.taken ≤ bytes_below before timeline.now.inputs }
         ensures ok { OnOk result (MachineDoes (keeping T.KEEPS T.OBSERVES) (arrived before timeline.now) (action NW (ram_size PAGES) (inner_of_parts self.old))
             self.old self.new (T.noted notes.old) (T.noted notes.new)) }
         ensures taken { OnOk result (self.new.memory.phys.taken ≤ bytes_below before timeline.now.inputs) }
+        ensures by_word { IfOk result (λ word. IfSome word (λ w. IsByWord NW w (state_of self.old) (state_of self.new))) }
     {
         if !self.processor.is_running() {
-            return Ok(());
+            return Ok(None);
         }
-        self.tick_and_go_on(before, timeline, notes)?;
-        Ok(())
+        let word = self.tick_and_go_on(before, timeline, notes)?;
+        Ok(word)
     }
 }

@@ -28,10 +28,14 @@ module _ {windows pages : ℕ} (k : ℕ) (first second now before : Workbench) (
       subst (λ (s : State). IsSameProcessor s (machine_state first.kept both.walk.step)) before_is
       (subst (λ (s : State). IsSameProcessor (state_in both.other.place) s) now_is h)
 
+  -- and the other way
+  pub alike_in : AreAlike second.kept first.kept both.walk.step → IsSameProcessor (state_in both.other.place) (state_in both.walk.place)
+  alike_in a =
+      subst (λ (s : State). IsSameProcessor s (state_in both.walk.place)) (sym before_is)
+      (subst (λ (s : State). IsSameProcessor (machine_state second.kept both.walk.step) s) (sym now_is) a)
+
   pub unlike_at : (IsSameProcessor (state_in both.other.place) (state_in both.walk.place) → ⊥) → AreAlike second.kept first.kept both.walk.step → ⊥
-  unlike_at h a =
-      h (subst (λ (s : State). IsSameProcessor s (state_in both.walk.place)) (sym before_is)
-      (subst (λ (s : State). IsSameProcessor (machine_state second.kept both.walk.step) s) (sym now_is) a))
+  unlike_at h a = h (alike_in a)
 
 -- ---- the registers outside a window, which stays the current one
 

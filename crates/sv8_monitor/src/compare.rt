@@ -1,6 +1,6 @@
 //! What differs between a workbench and the one that was kept.
 
-ghost use Rattle.std.specs.Prelude.{◌≡◌, MatchBool, ℕ, ◌+◌, ◌-◌, ◌*◌, ◌/◌, ◌<◌, ◌≤◌, ◌++◌, ◌∷◌, ◌⊎◌, [], max, length, map, IfOk, IfErr, IfSome, OnOk, OnErr, None, Some};
+ghost use Rattle.std.specs.Prelude.{◌≡◌, MatchBool, true, ℕ, ◌+◌, ◌-◌, ◌*◌, ◌/◌, ◌<◌, ◌≤◌, ◌++◌, ◌∷◌, ◌⊎◌, [], max, length, map, IfOk, IfErr, IfSome, OnOk, OnErr, None, Some};
 ghost use Rattle.sv8_bench.specs.Faults.{step_refusal, IsQueryFault};
 ghost use Rattle.sv8_phys.specs.Memory.{ram_size};
 ghost use Rattle.sv8_bench.specs.Alike.{AreAlikeUpTo};
@@ -83,15 +83,19 @@ impl<const NW: usize, const PAGES: usize> Both<NW, PAGES> {
         self.walk.machine().registers().cwp()
     }
 
-    /// Whether both machines have the same processor, behind a step in front of which they had. `window` was the current one
-    /// there. Where it still is, the step wrote no register outside it, and none is compared.
+    /// Whether both machines have the same processor, behind a step in front of which they had, where that is not known already.
+    /// `window` was the current one there. Where it still is, the step wrote no register outside it, and none is compared.
     #[inline(always)]
-    fn are_alike_after(&self, window: u32) -> bool
+    fn are_alike_after(&self, known: bool, window: u32) -> bool
         requires few_windows { NW ≤ 32 }
+        requires known { known ≡ true → IsSameProcessor (state_in self.now.other.place) (state_in self.now.walk.place) }
         ensures { MatchBool result
             (AreSameOutside NW window (state_in self.now.other.place) (state_in self.now.walk.place) → IsSameProcessor (state_in self.now.other.place) (state_in self.now.walk.place))
             (IsSameProcessor (state_in self.now.other.place) (state_in self.now.walk.place) → ⊥) }
     {
+        if known {
+            return true;
+        }
         let own = self.walk.machine();
         let other = self.other.machine();
         if own.registers().cwp() == window && other.registers().cwp() == window {
@@ -121,25 +125,31 @@ fn begin_both<const NW: usize, const PAGES: usize, const K: u32>(
     Ok(Both { walk, other })
 }
 
-/// Makes the next step of both.
+/// Makes the next step of both. Tells whether both steps are known to have carried out the same plain instruction, which makes
+/// the same of the same processor.
 #[inline(always)]
 fn step_both<const NW: usize, const PAGES: usize, const K: u32>(
     now: &mut Bench<NW, PAGES, K>,
     before: &mut Bench<NW, PAGES, K>,
     both: &mut Both<NW, PAGES>,
     watch: &mut Watch,
-) -> Result<(), AllocError>
+) -> Result<bool, AllocError>
     requires walks { AreWalks K now.old before.old both.old.walk.step both.old }
     requires within { both.old.walk.step < 1000000 }
     ensures walks { OnOk result (AreWalks K now.new before.new (both.old.walk.step + 1) both.new) }
+    ensures alike { IfOk result (λ known. known ≡ true → IsSameProcessor (state_in both.old.other.place) (state_in both.old.walk.place)
+        → IsSameProcessor (state_in both.new.other.place) (state_in both.new.walk.place)) }
     ensures now_made { OnOk result (IsMade K both.old.walk.step now.old now.new) }
     ensures before_made { OnOk result (IsMade K both.old.walk.step before.old before.new) }
     ensures now_tried { OnErr result (IsTried K both.old.walk.step now.old now.new) }
     ensures before_tried { OnErr result (IsTried K both.old.walk.step before.old before.new) }
 {
-    now.walk_past::<NOW>(&mut both.walk, watch)?;
-    before.walk_past::<BEFORE>(&mut both.other, watch)?;
-    Ok(())
+    let own = now.walk_past::<NOW>(&mut both.walk, watch)?;
+    let other = before.walk_past::<BEFORE>(&mut both.other, watch)?;
+    match (own, other) {
+        (Some(word), Some(same)) => Ok(word == same),
+        _ => Ok(false),
+    }
 }
 
 fn part_within<const NW: usize, const PAGES: usize, const K: u32>(
@@ -165,8 +175,8 @@ fn part_within<const NW: usize, const PAGES: usize, const K: u32>(
     }
     while both.walk.step() < to {
         let window = both.window();
-        step_both(now, before, &mut both, &mut watch)?;
-        if !both.are_alike_after(window) {
+        let known = step_both(now, before, &mut both, &mut watch)?;
+        if !both.are_alike_after(known, window) {
             return Ok(Some(both.walk.step()));
         }
     }

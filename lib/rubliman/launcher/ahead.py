@@ -4,10 +4,14 @@ One `rt ci` of all crates gives most proofs one processor, also while others hav
 tests that each crate might have. So crates are asked for one by one, those with the longest way above them first, two
 at a time on four processors: with three the longest way went slower. Each may use all processors, where the toolchain
 lets the launcher say so, and the one on the longest way has them first: the other goes on with what it leaves.
+
+A command takes some seconds before it proves anything, the more the more crates lie below. So the next crate is begun
+while the last of its libraries is under way: where commands share what they prove, its own then waits for that.
 """
 from __future__ import annotations
 
 import os
+import re
 import subprocess
 import tempfile
 import time
@@ -26,10 +30,16 @@ from .ways import Way
 _CHECK_BYTES, _JOB_BYTES = 5 << 30, 3 << 29
 _LOOK_SECONDS = 0.2
 _MOST_SAID = 1 << 20
+# What a command says while it waits for another one. It is read once both have ended.
+_WAITED = re.compile(r"rt: .*\bwaiting for it")
 # More jobs than this make no crate quicker.
 _MOST_JOBS = 4
 # How nice a crate is to one with a longer way above it.
 _NICENESS = 10
+# Behind so many seconds a command has begun its proof, so that another one waits for it and does not begin the same.
+_BEGUN_SECONDS = 20
+# A command counts the memory that is free when it begins, and with less it may give its crate one job.
+_AMPLE_BYTES = 16 << 30
 
 
 def lanes(cores: int, memory: int) -> int:
@@ -63,6 +73,7 @@ class _Begun:
     crate: str
     process: subprocess.Popen[bytes]
     said: IO[bytes]
+    since: float
 
 
 class Ahead:
@@ -100,18 +111,39 @@ class Ahead:
                 it.said.close()
 
     def _begin(self, number: int) -> bool:
-        """Begins crates whose libraries are proved. Gives whether one is under way."""
-        for crate in [it for it in self._left if self._below[it] <= self._proved]:
-            if len(self._under_way) < number:
-                self._left.remove(crate)
+        """Begins crates whose libraries are proved, and the one that comes next. Gives whether one is under way."""
+        for crate in [it for it in self._left if self._is_ready(it)]:
+            if len(self._at_work()) < number:
                 self._under_way.append(self._of(crate))
+        following = self._following()
+        if following:
+            self._under_way.append(self._of(following))
         return bool(self._under_way)
 
+    def _is_ready(self, crate: str) -> bool:
+        """Whether the libraries of a crate are proved."""
+        return self._below[crate] <= self._proved
+
+    def _at_work(self) -> list[str]:
+        """The crates under way that wait for no other one."""
+        return [it.crate for it in self._under_way if self._is_ready(it.crate)]
+
+    def _following(self) -> str | None:
+        """The crate that comes next, where it lacks libraries that are being proved, and no other crate waits so."""
+        if not self._way.waits or len(self._at_work()) < len(self._under_way) or free_memory() < _AMPLE_BYTES:
+            return None
+        since = {it.crate: it.since for it in self._under_way}
+        following = next((it for it in self._left if self._below[it] <= self._proved | since.keys()), None)
+        lacking = self._below[following] - self._proved if following else set()
+        have_begun = all(time.monotonic() - since[it] >= _BEGUN_SECONDS for it in lacking)
+        return following if lacking and have_begun else None
+
     def _of(self, crate: str) -> _Begun:
-        """The proof of a crate, begun."""
+        """The proof of a crate that is left, begun."""
+        self._left.remove(crate)
         words, folder = self._way.begin(crate, self._jobs)
-        gives_way = any(self._order.index(it.crate) < self._order.index(crate) for it in self._under_way)
-        if gives_way:
+        others = (it.crate for it in self._under_way if it.crate not in self._below[crate])
+        if any(self._order.index(it) < self._order.index(crate) for it in others):
             words = ["nice", "-n", str(_NICENESS), *words]
         said = tempfile.TemporaryFile()
         process = subprocess.Popen(
@@ -123,7 +155,7 @@ class Ahead:
             stderr=subprocess.STDOUT,
             start_new_session=True,
         )
-        return _Begun(crate, process, said)
+        return _Begun(crate, process, said, time.monotonic())
 
     def _look(self) -> None:
         """Notes which crates are proved. What is left of their commands holds no other crate back."""
@@ -144,6 +176,7 @@ class Ahead:
                     raise UnknownWay
                 return False
             for line in [*self.said, *self._way.end(it.crate)]:
-                self._progress.line(line)
+                if not _WAITED.fullmatch(line):
+                    self._progress.line(line)
             self._proved.add(it.crate)
         return True

@@ -16,8 +16,11 @@ _PARTS = ("src", "specs", "proofs", "stdin", "stdout", "args", "status", "data")
 class Way(Protocol):
     """One of the two ways."""
 
+    # Whether a command waits for a library that another one is proving.
+    waits: bool
+
     def begin(self, crate: str, jobs: int) -> tuple[list[str], Path]:
-        """The command that proves a crate whose libraries are proved, and the folder where it runs."""
+        """The command that proves a crate whose libraries are proved, or under way, and the folder where it runs."""
 
     def is_proved(self, crate: str, said: bytes) -> bool:
         """Whether the command, which is under way, has said that the crate is proved."""
@@ -30,7 +33,12 @@ class Way(Protocol):
 
 
 class ByName:
-    """By `rt ci NAME`, which takes what earlier runs kept and keeps what it proves. Early toolchains do not know it."""
+    """By `rt ci NAME`, which takes what earlier runs kept and keeps what it proves. Early toolchains do not know it.
+
+    Two commands that need the same proof do not both make it: the second waits for the first, and takes what that kept.
+    """
+
+    waits = True
 
     def __init__(self, rt: str, copy: Path) -> None:
         self._rt, self._copy = rt, copy
@@ -58,6 +66,8 @@ class InTrees:
     Two runs of `rt` never work in one crate at a time, and a crate's libraries count, so side by side they need folders
     of their own. Sources and proved libraries are hard links, so a tree costs next to nothing.
     """
+
+    waits = False
 
     def __init__(self, rt: str, copy: Path, room: Path, crates: Iterable[Crate], programs: Iterable[str]) -> None:
         self._rt, self._copy, self._room, self._programs = rt, copy, room, tuple(programs)

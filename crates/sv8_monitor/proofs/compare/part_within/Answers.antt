@@ -4,20 +4,30 @@ use Rattle.sv8_bench.specs.Workbench.{Workbench}
 use Rattle.sv8_monitor.specs.Search.{IsSearched}
 use Rattle.sv8_monitor.specs.Comparing.{AreWalks, AreAlike}
 use Rattle.sv8_monitor.proofs.Searching.{searched_more, searched_tried, searched_abandoned}
-use Rattle.sv8_monitor.proofs.Parting.{alike_at, unlike_at, below_more, same_outside, window_at}
+use Rattle.sv8_monitor.proofs.Parting.{alike_at, alike_in, unlike_at, below_more, same_outside, window_at}
 use Rattle.sv8_monitor.proofs.compare.part_within.Goals as goal
 
-pub returns-in_err-step_both-clause-now_given_up : goal.returns-in_err-step_both-clause-now_given_up
-returns-in_err-step_both-clause-now_given_up g c =
+pub returns-in_err-known-clause-now_given_up : goal.returns-in_err-known-clause-now_given_up
+returns-in_err-known-clause-now_given_up g c =
     let inv = c.loop-both.invariant in
     searched_tried g.row.K c.sizes.ensures.some_steps c.args.from c.loop-both.both.walk.step c.args.to c.args.now.now c.loop-both.now c.step_both.new.now inv.low
-    (omega (arith, c.loop-both-test.true, c.step-in-loop-both.ensures)) inv.now_searched c.in_err-step_both.ensures.now_tried
+    (omega (arith, c.loop-both-test.true, c.step-in-loop-both.ensures)) inv.now_searched c.in_err-known.ensures.now_tried
 
-pub returns-in_err-step_both-clause-before_given_up : goal.returns-in_err-step_both-clause-before_given_up
-returns-in_err-step_both-clause-before_given_up g c =
+pub returns-in_err-known-clause-before_given_up : goal.returns-in_err-known-clause-before_given_up
+returns-in_err-known-clause-before_given_up g c =
     let inv = c.loop-both.invariant in
     searched_tried g.row.K c.sizes.ensures.some_steps c.args.from c.loop-both.both.walk.step c.args.to c.args.before.now c.loop-both.before c.step_both.new.before inv.low
-    (omega (arith, c.loop-both-test.true, c.step-in-loop-both.ensures)) inv.before_searched c.in_err-step_both.ensures.before_tried
+    (omega (arith, c.loop-both-test.true, c.step-in-loop-both.ensures)) inv.before_searched c.in_err-known.ensures.before_tried
+
+pub are_alike_after-requires : goal.are_alike_after-requires
+are_alike_after-requires g c =
+    let k = g.row.K in
+    let n = c.loop-both.both.walk.step in
+    let now = c.args.now.now in
+    let before = c.args.before.now in
+    let inv = c.loop-both.invariant in
+    let here = alike_in k now before c.loop-both.now c.loop-both.before c.loop-both.both inv.walks inv.now_searched.kept inv.before_searched.kept (inv.alike n inv.low (omega arith)) in
+    (omega arith, (c.sizes.ensures.few_windows, λ is. c.in_ok-known.ensures.alike is here))
 
 pub loop-both-preserved : goal.loop-both-preserved
 loop-both-preserved g c =
@@ -27,7 +37,7 @@ loop-both-preserved g c =
     let now = c.args.now.now in
     let before = c.args.before.now in
     let inv = c.loop-both.invariant in
-    let made = c.in_ok-step_both.ensures in
+    let made = c.in_ok-known.ensures in
     let both = c.step_both.new.both in
     let next = made.walks.now_step in
     let pos = c.sizes.ensures.some_steps in
@@ -63,7 +73,7 @@ returns-then-not-are_alike_after-clause-parted g c =
     let now = c.args.now.now in
     let before = c.args.before.now in
     let inv = c.loop-both.invariant in
-    let made = c.in_ok-step_both.ensures in
+    let made = c.in_ok-known.ensures in
     let both = c.step_both.new.both in
     let next = made.walks.now_step in
     let told = c.step-then-not-are_alike_after.ensures in
@@ -79,14 +89,14 @@ returns-then-not-are_alike_after-clause-parted g c =
 pub returns-then-not-are_alike_after-clause-now_looked : goal.returns-then-not-are_alike_after-clause-now_looked
 returns-then-not-are_alike_after-clause-now_looked g c =
     let inv = c.loop-both.invariant in
-    let made = c.in_ok-step_both.ensures in
+    let made = c.in_ok-known.ensures in
     searched_to g.row.K c.sizes.ensures.some_steps c.args.from c.loop-both.both.walk.step _ c.args.now.now c.loop-both.now c.step_both.new.now inv.low
     (c.step-then-not-are_alike_after.ensures ∙ made.walks.now_step) inv.now_searched made.now_made
 
 pub returns-then-not-are_alike_after-clause-before_looked : goal.returns-then-not-are_alike_after-clause-before_looked
 returns-then-not-are_alike_after-clause-before_looked g c =
     let inv = c.loop-both.invariant in
-    let made = c.in_ok-step_both.ensures in
+    let made = c.in_ok-known.ensures in
     searched_to g.row.K c.sizes.ensures.some_steps c.args.from c.loop-both.both.walk.step _ c.args.before.now c.loop-both.before c.step_both.new.before inv.low
     (c.step-then-not-are_alike_after.ensures ∙ made.walks.now_step) inv.before_searched made.before_made
 
@@ -97,7 +107,7 @@ returns-then-not-are_alike_after-clause-now_given_up g c =
     let inv = c.loop-both.invariant in
     let pos = c.sizes.ensures.some_steps in
     searched_abandoned k pos c.args.from (n + 1) c.args.to c.args.now.now c.step_both.new.now (omega (arith, c.loop-both-test.true, c.step-in-loop-both.ensures))
-    (searched_more k pos c.args.from n c.args.now.now c.loop-both.now c.step_both.new.now inv.low inv.now_searched c.in_ok-step_both.ensures.now_made)
+    (searched_more k pos c.args.from n c.args.now.now c.loop-both.now c.step_both.new.now inv.low inv.now_searched c.in_ok-known.ensures.now_made)
 
 pub returns-then-not-are_alike_after-clause-before_given_up : goal.returns-then-not-are_alike_after-clause-before_given_up
 returns-then-not-are_alike_after-clause-before_given_up g c =
@@ -106,7 +116,7 @@ returns-then-not-are_alike_after-clause-before_given_up g c =
     let inv = c.loop-both.invariant in
     let pos = c.sizes.ensures.some_steps in
     searched_abandoned k pos c.args.from (n + 1) c.args.to c.args.before.now c.step_both.new.before (omega (arith, c.loop-both-test.true, c.step-in-loop-both.ensures))
-    (searched_more k pos c.args.from n c.args.before.now c.loop-both.before c.step_both.new.before inv.low inv.before_searched c.in_ok-step_both.ensures.before_made)
+    (searched_more k pos c.args.from n c.args.before.now c.loop-both.before c.step_both.new.before inv.low inv.before_searched c.in_ok-known.ensures.before_made)
 
 pub returns-clause-parted : goal.returns-clause-parted
 returns-clause-parted g c = λ m low high. c.loop-both.invariant.alike m low (omega (arith, high, c.loop-both-test.false, c.step-in-loop-both.ensures))
