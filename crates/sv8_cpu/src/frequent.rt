@@ -14,6 +14,7 @@ ghost use Rattle.sv8_time.specs.Schedule.{bytes_below};
 ghost use Rattle.sv8_memory.specs.Access.{access};
 ghost use Rattle.sv8_iu.specs.Instruction.{data_space};
 ghost use Rattle.sv8_iu.specs.Memory.{size_of, access_of};
+ghost use Rattle.sv8_iu.specs.Operands.{sum_of_sources};
 ghost use Rattle.sv8_cpu.specs.Step.{answered};
 ghost use Rattle.sv8_memory.specs.View.{MemoryDoes, units_of};
 ghost use Rattle.sv8_cpu.specs.Whole.{MayCarryOut};
@@ -94,29 +95,25 @@ fn finish<const NW: usize>(p: &mut Processor<NW>, op: MemoryOp, rd: u8, response
 }
 
 impl<const NW: usize, const PAGES: usize> Parts<NW, PAGES> {
-    /// Makes the access of a load or a store with these fields and completes it, if it is one of a word or a byte and raises no trap before its access.
+    /// Makes the access of a load or a store at an address and completes it, if it is one of a word or a byte and raises no trap before its access.
     #[inline(always)]
     #[tactic(auto, using(sv8_iu::proofs::Choices::aligned_access))]
     fn complete_transfer<const TRANSLATED: bool, T: Touches>(
         &mut self,
         op: MemoryOp,
         rd: u8,
-        rs1: u8,
-        operand: Operand,
+        at: u32,
         before: u32,
         timeline: &Timeline,
         notes: &mut T,
     ) -> Result<bool, AllocError>
         requires translated { translates self.old.memory.mmu ≡ TRANSLATED }
         requires rd { rd < 32 }
-        requires rs1 { rs1 < 32 }
-        requires operand { OperandHasRegister operand }
         requires delivered { self.old.memory.phys.taken ≤ bytes_below before timeline.now.inputs }
-        ensures ok { IfOk result (λ found. (word : ℕ) → Instr.Memory op rd rs1 operand ≡ meaning word
-            → MayCarryOut (keeping T.KEEPS T.OBSERVES) (arrived before timeline.now) word self.old self.new (T.noted notes.old) (T.noted notes.new) found) }
+        ensures ok { IfOk result (λ found. (word rs1 : ℕ) (operand : Operand) → Instr.Memory op rd rs1 operand ≡ meaning word
+            → at ≡ sum_of_sources NW self.old.processor rs1 operand → MayCarryOut (keeping T.KEEPS T.OBSERVES) (arrived before timeline.now) word self.old self.new (T.noted notes.old) (T.noted notes.new) found) }
         ensures taken { OnOk result (self.new.memory.phys.taken ≤ bytes_below before timeline.now.inputs) }
     {
-        let at = sum_of_sources(&self.processor, rs1, operand);
         match memory_trap(op, rd, at) {
             Some(_) => Ok(false),
             None => {
@@ -136,10 +133,12 @@ impl<const NW: usize, const PAGES: usize> Parts<NW, PAGES> {
         }
     }
 
-    /// The same, with an arm for each operation: so the built program asks once which one it is, and has code for each.
+    /// Carries out a load or a store with these fields, whose address is not translated: here where the address is one of RAM, so
+    /// that the built program has no device here, else elsewhere.
     #[inline(always)]
-    fn transfer<T: Touches>(
+    fn transfer_in_place<T: Touches>(
         &mut self,
+        word: u32,
         op: MemoryOp,
         rd: u8,
         rs1: u8,
@@ -149,46 +148,76 @@ impl<const NW: usize, const PAGES: usize> Parts<NW, PAGES> {
         notes: &mut T,
     ) -> Result<bool, AllocError>
         requires untranslated { translates self.old.memory.mmu ≡ false }
+        requires word { Instr.Memory op rd rs1 operand ≡ meaning word }
         requires rd { rd < 32 }
         requires rs1 { rs1 < 32 }
         requires operand { OperandHasRegister operand }
         requires delivered { self.old.memory.phys.taken ≤ bytes_below before timeline.now.inputs }
-        ensures ok { IfOk result (λ found. (word : ℕ) → Instr.Memory op rd rs1 operand ≡ meaning word
-            → MayCarryOut (keeping T.KEEPS T.OBSERVES) (arrived before timeline.now) word self.old self.new (T.noted notes.old) (T.noted notes.new) found) }
+        ensures ok { IfOk result (MayCarryOut (keeping T.KEEPS T.OBSERVES) (arrived before timeline.now) word self.old self.new (T.noted notes.old) (T.noted notes.new)) }
+        ensures taken { OnOk result (self.new.memory.phys.taken ≤ bytes_below before timeline.now.inputs) }
+    {
+        let at = sum_of_sources(&self.processor, rs1, operand);
+        if !self.memory.phys().is_ram(u64::from(at)) {
+            return self.carry_out_elsewhere::<false, T>(word, before, timeline, notes);
+        }
+        let found = self.complete_transfer::<false, T>(op, rd, at, before, timeline, notes)?;
+        Ok(found)
+    }
+
+    /// The same, with an arm for each operation: so the built program asks once which one it is, and has code for each.
+    #[inline(always)]
+    fn transfer<T: Touches>(
+        &mut self,
+        word: u32,
+        op: MemoryOp,
+        rd: u8,
+        rs1: u8,
+        operand: Operand,
+        before: u32,
+        timeline: &Timeline,
+        notes: &mut T,
+    ) -> Result<bool, AllocError>
+        requires untranslated { translates self.old.memory.mmu ≡ false }
+        requires word { Instr.Memory op rd rs1 operand ≡ meaning word }
+        requires rd { rd < 32 }
+        requires rs1 { rs1 < 32 }
+        requires operand { OperandHasRegister operand }
+        requires delivered { self.old.memory.phys.taken ≤ bytes_below before timeline.now.inputs }
+        ensures ok { IfOk result (MayCarryOut (keeping T.KEEPS T.OBSERVES) (arrived before timeline.now) word self.old self.new (T.noted notes.old) (T.noted notes.new)) }
         ensures taken { OnOk result (self.new.memory.phys.taken ≤ bytes_below before timeline.now.inputs) }
     {
         match op {
             MemoryOp::Ld => {
                 let op = MemoryOp::Ld;
-                self.complete_transfer::<false, T>(op, rd, rs1, operand, before, timeline, notes)
+                self.transfer_in_place(word, op, rd, rs1, operand, before, timeline, notes)
             }
             MemoryOp::Ldub => {
                 let op = MemoryOp::Ldub;
-                self.complete_transfer::<false, T>(op, rd, rs1, operand, before, timeline, notes)
+                self.transfer_in_place(word, op, rd, rs1, operand, before, timeline, notes)
             }
             MemoryOp::St => {
                 let op = MemoryOp::St;
-                self.complete_transfer::<false, T>(op, rd, rs1, operand, before, timeline, notes)
+                self.transfer_in_place(word, op, rd, rs1, operand, before, timeline, notes)
             }
             MemoryOp::Stb => {
                 let op = MemoryOp::Stb;
-                self.complete_transfer::<false, T>(op, rd, rs1, operand, before, timeline, notes)
+                self.transfer_in_place(word, op, rd, rs1, operand, before, timeline, notes)
             }
             _ => Ok(false),
         }
     }
 
-    /// Carries out a load or a store of a word or a byte that raises no trap before its access, where addresses are translated
-    /// (Appendices B.1 and B.4).
+    /// Carries out a load or a store as `carry_out_access` does, where addresses are translated, or where they are not. It is a
+    /// function of its own for addresses that are translated, and those of devices.
     #[inline(never)]
-    fn carry_out_translated<T: Touches>(
+    fn carry_out_elsewhere<const TRANSLATED: bool, T: Touches>(
         &mut self,
         word: u32,
         before: u32,
         timeline: &Timeline,
         notes: &mut T,
     ) -> Result<bool, AllocError>
-        requires translated { translates self.old.memory.mmu ≡ true }
+        requires translated { translates self.old.memory.mmu ≡ TRANSLATED }
         requires delivered { self.old.memory.phys.taken ≤ bytes_below before timeline.now.inputs }
         ensures ok { IfOk result (MayCarryOut (keeping T.KEEPS T.OBSERVES) (arrived before timeline.now) word self.old self.new (T.noted notes.old) (T.noted notes.new)) }
         ensures taken { OnOk result (self.new.memory.phys.taken ≤ bytes_below before timeline.now.inputs) }
@@ -202,8 +231,9 @@ impl<const NW: usize, const PAGES: usize> Parts<NW, PAGES> {
                     operand,
                 },
             ) => {
-                let found = self.complete_transfer::<true, T>(
-                    op, rd, rs1, operand, before, timeline, notes,
+                let at = sum_of_sources(&self.processor, rs1, operand);
+                let found = self.complete_transfer::<TRANSLATED, T>(
+                    op, rd, at, before, timeline, notes,
                 )?;
                 Ok(found)
             }
@@ -226,7 +256,7 @@ impl<const NW: usize, const PAGES: usize> Parts<NW, PAGES> {
         ensures taken { OnOk result (self.new.memory.phys.taken ≤ bytes_below before timeline.now.inputs) }
     {
         if self.memory.translates() {
-            return self.carry_out_translated(word, before, timeline, notes);
+            return self.carry_out_elsewhere::<true, T>(word, before, timeline, notes);
         }
         match decode_memory(word) {
             Some(
@@ -237,7 +267,7 @@ impl<const NW: usize, const PAGES: usize> Parts<NW, PAGES> {
                     operand,
                 },
             ) => {
-                let found = self.transfer(op, rd, rs1, operand, before, timeline, notes)?;
+                let found = self.transfer(word, op, rd, rs1, operand, before, timeline, notes)?;
                 Ok(found)
             }
             _ => Ok(false),

@@ -1,6 +1,6 @@
 //! Arithmetic and logic (Appendices B.9, B.11 to B.19).
 
-ghost use Rattle.std.specs.Prelude.{◌≡◌, ◌<◌, ◌≤◌, ◌*◌, ◌%◌, ◌^◌, [], true};
+ghost use Rattle.std.specs.Prelude.{◌≡◌, ◌<◌, ◌≤◌, ◌*◌, ◌%◌, ◌^◌, [], true, not, MatchBool};
 ghost use Rattle.sv8_isa.specs.Registers.{OperandHasRegister};
 ghost use Rattle.sv8_regs.specs.Ring.{read};
 ghost use Rattle.sv8_trap.specs.Table.{taken};
@@ -101,6 +101,22 @@ fn operate<const NW: usize>(p: &mut Processor<NW>, op: ArithOp, cc: bool, rd: u8
     }
 }
 
+/// The same, as a call.
+#[inline(never)]
+fn operate_apart<const NW: usize>(
+    p: &mut Processor<NW>,
+    op: ArithOp,
+    cc: bool,
+    rd: u8,
+    x: u32,
+    y: u32,
+)
+    requires { rd < 32 }
+    ensures { p.new ≡ operated NW p.old op cc rd x y }
+{
+    operate(p, op, cc, rd, x, y);
+}
+
 /// An operation that has a form which sets the condition codes.
 #[inline(always)]
 fn arithmetic_in_place<const NW: usize>(
@@ -121,8 +137,8 @@ fn arithmetic_in_place<const NW: usize>(
     operate(p, op, cc, rd, x, y);
 }
 
-/// The same, as a call.
-#[inline(never)]
+/// The same, with the operation as a call.
+#[inline(always)]
 pub fn arithmetic<const NW: usize>(
     p: &mut Processor<NW>,
     op: ArithOp,
@@ -136,10 +152,13 @@ pub fn arithmetic<const NW: usize>(
     requires operand { OperandHasRegister operand }
     ensures { p.new ≡ arithmetic NW p.old op cc rd rs1 operand }
 {
-    arithmetic_in_place(p, op, cc, rd, rs1, operand);
+    let x = p.registers().get(u32::from(rs1));
+    let y = operand_value(p, operand);
+    operate_apart(p, op, cc, rd, x, y);
 }
 
-/// The same, with an arm for each operation: so the built program asks once which one it is, and has code for each.
+/// Carries an operation out, unless it divides: then nothing is done. Tells whether it has. There is an arm for each operation, so
+/// the built program asks once which one it is, and has code for each.
 #[inline(always)]
 pub fn arithmetic_by_operation<const NW: usize>(
     p: &mut Processor<NW>,
@@ -148,11 +167,12 @@ pub fn arithmetic_by_operation<const NW: usize>(
     rd: u8,
     rs1: u8,
     operand: Operand,
-)
+) -> bool
     requires rd { rd < 32 }
     requires rs1 { rs1 < 32 }
     requires operand { OperandHasRegister operand }
-    ensures { p.new ≡ arithmetic NW p.old op cc rd rs1 operand }
+    ensures which { result ≡ not (divides op) }
+    ensures done { MatchBool result (p.new ≡ arithmetic NW p.old op cc rd rs1 operand) (p.new ≡ p.old) }
 {
     match op {
         ArithOp::Add => arithmetic_in_place(p, ArithOp::Add, cc, rd, rs1, operand),
@@ -165,10 +185,10 @@ pub fn arithmetic_by_operation<const NW: usize>(
         ArithOp::Orn => arithmetic_in_place(p, ArithOp::Orn, cc, rd, rs1, operand),
         ArithOp::Xor => arithmetic_in_place(p, ArithOp::Xor, cc, rd, rs1, operand),
         ArithOp::Xnor => arithmetic_in_place(p, ArithOp::Xnor, cc, rd, rs1, operand),
-        ArithOp::Umul | ArithOp::Smul | ArithOp::Udiv | ArithOp::Sdiv => {
-            arithmetic(p, op, cc, rd, rs1, operand)
-        }
+        ArithOp::Umul | ArithOp::Smul => arithmetic(p, op, cc, rd, rs1, operand),
+        ArithOp::Udiv | ArithOp::Sdiv => return false,
     }
+    true
 }
 
 #[inline(always)]

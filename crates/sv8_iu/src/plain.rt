@@ -8,7 +8,7 @@ ghost use Rattle.std.specs.Prelude.{◌≡◌, MatchBool};
 ghost use Rattle.sv8_isa.specs.Table.{meaning};
 ghost use Rattle.sv8_iu.specs.Instruction.{IsPlain};
 
-use crate::arithmetic::{arithmetic_by_operation, divides, set_upper, shift_by_operation};
+use crate::arithmetic::{arithmetic_by_operation, set_upper, shift_by_operation};
 use crate::control::{branch, call, jump, jump_trap};
 use crate::windows::{restore, restore_trap, save, save_trap};
 use sv8_isa::{
@@ -69,10 +69,7 @@ fn carry_out_arithmetic<const NW: usize>(p: &mut Processor<NW>, word: u32) -> bo
                 rs1,
                 operand,
             },
-        ) if !divides(op) => {
-            arithmetic_by_operation(p, op, cc, rd, rs1, operand);
-            true
-        }
+        ) => arithmetic_by_operation(p, op, cc, rd, rs1, operand),
         _ => false,
     }
 }

@@ -1,5 +1,6 @@
 -- What an access does, from what physical memory did.
 use Rattle.std.proofs.Common.{◌≡◌, ◌∙◌, ◌<◌, ◌≤◌, ◌==◌, ◌&&◌, ℕ, true, false, nat_lt, List, [], ◌∷◌, Result, Ok, Err, refl, sym, ap, subst, arith}
+use Rattle.std.proofs.lemmas.Bool.{lt-ltb}
 use Rattle.std.proofs.lemmas.Bool.Decides.{nat_tests}
 use Rattle.sv8_model.specs.Outside.{Outside}
 use Rattle.sv8_model.specs.declared.observation.AccessKind.TheVariants as kind
@@ -98,6 +99,14 @@ module _ (keeps : Keeps) (limit : ℕ) (u : Units) (o o1 : Outside) (ns ns1 : No
   plain_store size asi value va pa r s o2 ns2 same h see e =
       rw same (does_then keeps (store limit u.timer size pa value) (λ z. observed z.answer (access_seen kind.Store size va pa) (done (store_answer u asi va z))) o o1 o1 r s ns ns1 ns2 h
       (does_observed keeps r.answer (access_seen kind.Store size va pa) (done (store_answer u asi va r)) o1 o1 s ns1 ns2 ns2 see (does_done keeps (store_answer u asi va r) s o1 ns2 e)))
+
+-- RAM answers a load
+pub loaded_word : (keeps : Keeps) (limit : ℕ) (u : Units) (o : Outside) (ns ns1 ns2 : Notes) (size : Size) (asi va pa value : ℕ) (s : Served) → pa < limit
+    → Does keeps (ram_load size pa) o o value ns ns1 → ns2 ≡ noting keeps ns1 [] (access_seen kind.Load size va pa ∷ []) → s ≡ served u value
+    → Does keeps (plainly_loaded limit u size asi va pa) o o s ns ns2
+loaded_word keeps limit u o ns ns1 ns2 size asi va pa value s inside h see e =
+    plain_load keeps limit u o o ns ns1 size asi va pa (Ok value) s o ns2 refl
+    (does_if_true keeps (nat_lt pa limit) _ _ o o (Ok value) ns ns1 (lt-ltb pa limit inside) (does_map keeps (ram_load size pa) (λ w. Ok w) o o value (Ok value) ns ns1 h refl)) see e
 
 -- what a store to RAM leads to is of no matter to the store
 store_then : {A B : Type 0} (size : Size) (at value : ℕ) (x : A) (y : B) → (ram_store size at value x >>= λ z. done y) ≡ ram_store size at value y

@@ -257,6 +257,25 @@ impl<const PAGES: usize> Physical<PAGES> {
         Ok(self.load_answer(asi, va, answer))
     }
 
+    /// Loads from RAM. The address space is of no matter there.
+    #[inline(always)]
+    fn load_ram<T: Touches>(
+        &self,
+        size: Size,
+        va: u32,
+        pa: u64,
+        notes: &mut T,
+    ) -> Result<Response, AllocError>
+        requires within { pa < ram_size PAGES }
+        requires aligned { pa % bytes_in size ≡ 0 }
+        ensures ok { IfOk result (λ r. (asi : ℕ) (bytes : List ℕ) → MemoryDoes (keeping T.KEEPS T.OBSERVES) bytes (plainly_loaded (ram_size PAGES) (units_of self.now) size asi va pa)
+            self.now self.now r (T.noted notes.old) (T.noted notes.new)) }
+    {
+        let value = self.phys.read_ram(pa, size, notes)?;
+        notes.observe(seen(AccessKind::Load, size, va, pa))?;
+        Ok(Response::Value(value))
+    }
+
     /// Loads from what is not RAM: the console's input, or another device.
     #[cold]
     #[tactic(auto, unfolding(crate::specs::Access::loaded_from))]
@@ -313,7 +332,7 @@ impl<const PAGES: usize> Physical<PAGES> {
         ensures taken { OnOk result (self.new.phys.taken ≤ bytes_below before timeline.now.inputs) }
     {
         if pa < self.phys.ram_size() {
-            let response = self.load_plain(size, asi, va, pa, notes)?;
+            let response = self.load_ram(size, va, pa, notes)?;
             return Ok(response);
         }
         let response = self.load_device(size, asi, va, pa, before, timeline, notes)?;

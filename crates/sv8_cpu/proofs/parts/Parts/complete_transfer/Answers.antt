@@ -3,6 +3,6 @@ use Rattle.sv8_cpu.proofs.Steps.{transferred}
 use Rattle.sv8_cpu.proofs.parts.Parts.complete_transfer.Goals as goal
 
 pub returns-in_ok-show_refusal-in-Some-2-clause-ok : goal.returns-in_ok-show_refusal-in-Some-2-clause-ok
-returns-in_ok-show_refusal-in-Some-2-clause-ok g c =
-    transferred _ _ _ _ _ _ _ _ _ _ _ _ _ _ _ _ _ _ _ c.sum_of_sources-at.ensures (sym c.memory_trap.ensures ∙ c.in-None.is) c.in-Some-2.is
-    c.in_ok-make_access-in-None.ensures.ok (search rules) (rw (c.finish.ensures c.args.rs1 c.args.operand) refl)
+returns-in_ok-show_refusal-in-Some-2-clause-ok g c = λ word rs1 operand is place.
+    transferred _ _ _ _ _ _ _ _ _ _ _ _ _ _ _ _ _ _ _ place (sym c.memory_trap.ensures ∙ c.in-None.is) c.in-Some-2.is
+    c.in_ok-make_access-in-None.ensures.ok (search rules) (rw (c.finish.ensures rs1 operand) refl) word is
