@@ -133,12 +133,32 @@ impl<const NW: usize, const PAGES: usize> Parts<NW, PAGES> {
         }
     }
 
-    /// Carries out a load or a store with these fields, whose address is not translated: here where the address is one of RAM, so
-    /// that the built program has no device here, else elsewhere.
+    /// `complete_transfer` as a call, where addresses are not translated: for those that are not of RAM.
+    #[inline(never)]
+    fn complete_outside_ram<T: Touches>(
+        &mut self,
+        op: MemoryOp,
+        rd: u8,
+        at: u32,
+        before: u32,
+        timeline: &Timeline,
+        notes: &mut T,
+    ) -> Result<bool, AllocError>
+        requires untranslated { translates self.old.memory.mmu ≡ false }
+        requires rd { rd < 32 }
+        requires delivered { self.old.memory.phys.taken ≤ bytes_below before timeline.now.inputs }
+        ensures ok { IfOk result (λ found. (word rs1 : ℕ) (operand : Operand) → Instr.Memory op rd rs1 operand ≡ meaning word
+            → at ≡ sum_of_sources NW self.old.processor rs1 operand → MayCarryOut (keeping T.KEEPS T.OBSERVES) (arrived before timeline.now) word self.old self.new (T.noted notes.old) (T.noted notes.new) found) }
+        ensures taken { OnOk result (self.new.memory.phys.taken ≤ bytes_below before timeline.now.inputs) }
+    {
+        self.complete_transfer::<false, T>(op, rd, at, before, timeline, notes)
+    }
+
+    /// Makes the access of a load or a store with these fields and completes it, as `complete_transfer` does, where addresses are
+    /// not translated. In the built program an address of RAM has no device in its way.
     #[inline(always)]
     fn transfer_in_place<T: Touches>(
         &mut self,
-        word: u32,
         op: MemoryOp,
         rd: u8,
         rs1: u8,
@@ -148,19 +168,20 @@ impl<const NW: usize, const PAGES: usize> Parts<NW, PAGES> {
         notes: &mut T,
     ) -> Result<bool, AllocError>
         requires untranslated { translates self.old.memory.mmu ≡ false }
-        requires word { Instr.Memory op rd rs1 operand ≡ meaning word }
         requires rd { rd < 32 }
         requires rs1 { rs1 < 32 }
         requires operand { OperandHasRegister operand }
         requires delivered { self.old.memory.phys.taken ≤ bytes_below before timeline.now.inputs }
-        ensures ok { IfOk result (MayCarryOut (keeping T.KEEPS T.OBSERVES) (arrived before timeline.now) word self.old self.new (T.noted notes.old) (T.noted notes.new)) }
+        ensures ok { IfOk result (λ found. (word : ℕ) → Instr.Memory op rd rs1 operand ≡ meaning word
+            → MayCarryOut (keeping T.KEEPS T.OBSERVES) (arrived before timeline.now) word self.old self.new (T.noted notes.old) (T.noted notes.new) found) }
         ensures taken { OnOk result (self.new.memory.phys.taken ≤ bytes_below before timeline.now.inputs) }
     {
         let at = sum_of_sources(&self.processor, rs1, operand);
-        if !self.memory.phys().is_ram(u64::from(at)) {
-            return self.carry_out_elsewhere::<false, T>(word, before, timeline, notes);
+        if self.memory.phys().is_ram(u64::from(at)) {
+            let found = self.complete_transfer::<false, T>(op, rd, at, before, timeline, notes)?;
+            return Ok(found);
         }
-        let found = self.complete_transfer::<false, T>(op, rd, at, before, timeline, notes)?;
+        let found = self.complete_outside_ram(op, rd, at, before, timeline, notes)?;
         Ok(found)
     }
 
@@ -168,7 +189,6 @@ impl<const NW: usize, const PAGES: usize> Parts<NW, PAGES> {
     #[inline(always)]
     fn transfer<T: Touches>(
         &mut self,
-        word: u32,
         op: MemoryOp,
         rd: u8,
         rs1: u8,
@@ -178,46 +198,46 @@ impl<const NW: usize, const PAGES: usize> Parts<NW, PAGES> {
         notes: &mut T,
     ) -> Result<bool, AllocError>
         requires untranslated { translates self.old.memory.mmu ≡ false }
-        requires word { Instr.Memory op rd rs1 operand ≡ meaning word }
         requires rd { rd < 32 }
         requires rs1 { rs1 < 32 }
         requires operand { OperandHasRegister operand }
         requires delivered { self.old.memory.phys.taken ≤ bytes_below before timeline.now.inputs }
-        ensures ok { IfOk result (MayCarryOut (keeping T.KEEPS T.OBSERVES) (arrived before timeline.now) word self.old self.new (T.noted notes.old) (T.noted notes.new)) }
+        ensures ok { IfOk result (λ found. (word : ℕ) → Instr.Memory op rd rs1 operand ≡ meaning word
+            → MayCarryOut (keeping T.KEEPS T.OBSERVES) (arrived before timeline.now) word self.old self.new (T.noted notes.old) (T.noted notes.new) found) }
         ensures taken { OnOk result (self.new.memory.phys.taken ≤ bytes_below before timeline.now.inputs) }
     {
         match op {
             MemoryOp::Ld => {
                 let op = MemoryOp::Ld;
-                self.transfer_in_place(word, op, rd, rs1, operand, before, timeline, notes)
+                self.transfer_in_place(op, rd, rs1, operand, before, timeline, notes)
             }
             MemoryOp::Ldub => {
                 let op = MemoryOp::Ldub;
-                self.transfer_in_place(word, op, rd, rs1, operand, before, timeline, notes)
+                self.transfer_in_place(op, rd, rs1, operand, before, timeline, notes)
             }
             MemoryOp::St => {
                 let op = MemoryOp::St;
-                self.transfer_in_place(word, op, rd, rs1, operand, before, timeline, notes)
+                self.transfer_in_place(op, rd, rs1, operand, before, timeline, notes)
             }
             MemoryOp::Stb => {
                 let op = MemoryOp::Stb;
-                self.transfer_in_place(word, op, rd, rs1, operand, before, timeline, notes)
+                self.transfer_in_place(op, rd, rs1, operand, before, timeline, notes)
             }
             _ => Ok(false),
         }
     }
 
-    /// Carries out a load or a store as `carry_out_access` does, where addresses are translated, or where they are not. It is a
-    /// function of its own for addresses that are translated, and those of devices.
+    /// Carries out a load or a store of a word or a byte that raises no trap before its access, where addresses are translated
+    /// (Appendices B.1 and B.4).
     #[inline(never)]
-    fn carry_out_elsewhere<const TRANSLATED: bool, T: Touches>(
+    fn carry_out_translated<T: Touches>(
         &mut self,
         word: u32,
         before: u32,
         timeline: &Timeline,
         notes: &mut T,
     ) -> Result<bool, AllocError>
-        requires translated { translates self.old.memory.mmu ≡ TRANSLATED }
+        requires translated { translates self.old.memory.mmu ≡ true }
         requires delivered { self.old.memory.phys.taken ≤ bytes_below before timeline.now.inputs }
         ensures ok { IfOk result (MayCarryOut (keeping T.KEEPS T.OBSERVES) (arrived before timeline.now) word self.old self.new (T.noted notes.old) (T.noted notes.new)) }
         ensures taken { OnOk result (self.new.memory.phys.taken ≤ bytes_below before timeline.now.inputs) }
@@ -232,9 +252,7 @@ impl<const NW: usize, const PAGES: usize> Parts<NW, PAGES> {
                 },
             ) => {
                 let at = sum_of_sources(&self.processor, rs1, operand);
-                let found = self.complete_transfer::<TRANSLATED, T>(
-                    op, rd, at, before, timeline, notes,
-                )?;
+                let found = self.complete_transfer::<true, T>(op, rd, at, before, timeline, notes)?;
                 Ok(found)
             }
             _ => Ok(false),
@@ -256,7 +274,7 @@ impl<const NW: usize, const PAGES: usize> Parts<NW, PAGES> {
         ensures taken { OnOk result (self.new.memory.phys.taken ≤ bytes_below before timeline.now.inputs) }
     {
         if self.memory.translates() {
-            return self.carry_out_elsewhere::<true, T>(word, before, timeline, notes);
+            return self.carry_out_translated(word, before, timeline, notes);
         }
         match decode_memory(word) {
             Some(
@@ -267,7 +285,7 @@ impl<const NW: usize, const PAGES: usize> Parts<NW, PAGES> {
                     operand,
                 },
             ) => {
-                let found = self.transfer(word, op, rd, rs1, operand, before, timeline, notes)?;
+                let found = self.transfer(op, rd, rs1, operand, before, timeline, notes)?;
                 Ok(found)
             }
             _ => Ok(false),
