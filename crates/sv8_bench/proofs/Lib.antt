@@ -4,4 +4,5 @@ pub mod Queried
 pub mod Alike
 pub mod Edited
 pub mod Walking
+pub mod Together
 pub mod Untouched

@@ -15,6 +15,7 @@ ghost use Rattle.sv8_bench.specs.Workbench.{IsRun, IsNew, IsEdited, IsSized};
 mod affected;
 mod copies;
 mod edits;
+mod lockstep;
 mod patches;
 mod queries;
 mod touching;

@@ -1,7 +1,5 @@
 //! A walk through the steps of a workbench's run.
 
-ghost use Rattle.std.specs.Prelude.{◌<◌};
-
 use std::alloc::{AllocError, Global};
 use std::test::Fail;
 use sv8_bench::Bench;
@@ -12,9 +10,6 @@ type Small = Bench<8, 1, 256>;
 
 /// A loop of two steps that counts in %g1, the second of them at address 4.
 const COUNT: &[&[u8]] = &[b"again: ba again", b"inc %g1"];
-
-/// The same, but the second step loads into %g1.
-const LOAD: &[&[u8]] = &[b"again: ba again", b"ld [%g0], %g1"];
 
 /// How many steps are recorded, and how many were made.
 fn steps(bench: &Small) -> (u32, u64) {
@@ -56,26 +51,83 @@ fn a_walk_is_recorded_as_it_goes(rt: HostRuntime) -> Result<(), Fail> {
     Ok(())
 }
 
-/// The word that a step gives.
-fn word_of(alloc: Global, bench: &mut Small, step: u32) -> Result<Option<u32>, AllocError>
-    requires { step < 1000000 }
-{
+/// Where a walk over each of two workbenches comes to, which go on together from step 0 as long as they can, below step 600.
+fn together(alloc: Global, bench: &mut Small, other: &mut Small) -> Result<u32, AllocError> {
     let mut watch = Watch::new(alloc);
-    let mut walk = bench.walk(step, &mut watch)?;
-    let word = bench.walk_past::<0>(&mut walk, &mut watch)?;
-    Ok(word)
+    let mut walk = bench.walk(0, &mut watch)?;
+    let mut other_walk = other.walk(0, &mut watch)?;
+    if !other_walk.machine().has_same_processor(walk.machine()) {
+        return Ok(600);
+    }
+    bench.walk_in_lockstep(other, &mut walk, &mut other_walk, 600)?;
+    if !other_walk.machine().has_same_processor(walk.machine()) {
+        return Ok(600);
+    }
+    Ok(other_walk.step())
 }
 
-/// The words of a branch and of an addition are given where the steps are recorded, and not above the record. That of a load
-/// is not given.
+/// The same of a workbench over some lines and of another one over others, of which 512 steps are recorded; and how many steps
+/// were made for the second one.
+fn come_to(alloc: Global, own: &[&[u8]], others: &[&[u8]]) -> Result<(u32, u64), Fail> {
+    let mut bench = with_lines(alloc, own)?;
+    let mut other = with_lines(alloc, others)?;
+    let mut watch = Watch::new(alloc);
+    let _ = bench.walk(512, &mut watch)?;
+    let _ = other.walk(512, &mut watch)?;
+    let step = together(alloc, &mut bench, &mut other)?;
+    Ok((step, other.worked()))
+}
+
+/// Walks go on together up to the end of the record.
 #[test]
-fn a_recorded_step_gives_the_word_of_a_plain_instruction(rt: HostRuntime) -> Result<(), Fail> {
-    let mut counting = with_lines(rt.alloc(), COUNT)?;
-    let mut loading = with_lines(rt.alloc(), LOAD)?;
-    assert!(rt; word_of(rt.alloc(), &mut counting, 256)? == None);
-    assert!(rt; word_of(rt.alloc(), &mut counting, 254)? == Some(0x1080_0000));
-    assert!(rt; word_of(rt.alloc(), &mut counting, 255)? == Some(0x8200_6001));
-    assert!(rt; word_of(rt.alloc(), &mut loading, 256)? == None);
-    assert!(rt; word_of(rt.alloc(), &mut loading, 255)? == None);
+fn walks_go_on_together(rt: HostRuntime) -> Result<(), Fail> {
+    assert!(rt; come_to(rt.alloc(), COUNT, COUNT)? == (512, 1_024));
+    Ok(())
+}
+
+/// They stop in front of a load of another word, but not where it goes to %g0, nor where a byte is loaded that is the same.
+#[test]
+fn walks_part_in_front_of_another_loaded_word(rt: HostRuntime) -> Result<(), Fail> {
+    let alloc = rt.alloc();
+    let five: &[&[u8]] = &[b"again: ba again", b"ld [%g0+8], %g1", b".word 5"];
+    let six: &[&[u8]] = &[b"again: ba again", b"ld [%g0+8], %g1", b".word 6"];
+    assert!(rt; come_to(alloc, five, six)? == (1, 513));
+    assert!(rt; come_to(alloc, five, five)? == (512, 1_024));
+    let five: &[&[u8]] = &[b"again: ba again", b"ld [%g0+8], %g0", b".word 5"];
+    let six: &[&[u8]] = &[b"again: ba again", b"ld [%g0+8], %g0", b".word 6"];
+    assert!(rt; come_to(alloc, five, six)? == (512, 1_024));
+    let five: &[&[u8]] = &[b"again: ba again", b"ldub [%g0+8], %g1", b".word 5"];
+    let six: &[&[u8]] = &[b"again: ba again", b"ldub [%g0+8], %g1", b".word 6"];
+    assert!(rt; come_to(alloc, five, six)? == (512, 1_024));
+    Ok(())
+}
+
+/// They stop in front of another instruction, of one that is not frequent, and of an annulled slot; a store goes to both
+/// memories.
+#[test]
+fn walks_part_in_front_of_other_steps(rt: HostRuntime) -> Result<(), Fail> {
+    let alloc = rt.alloc();
+    let other: &[&[u8]] = &[b"again: ba again", b"inc %g2"];
+    assert!(rt; come_to(alloc, COUNT, other)? == (1, 513));
+    let rare: &[&[u8]] = &[b"again: ba again", b"wr %g0, 0, %y"];
+    assert!(rt; come_to(alloc, rare, rare)? == (1, 513));
+    let annulled: &[&[u8]] = &[b"again: ba,a again", b"nop"];
+    assert!(rt; come_to(alloc, annulled, annulled)? == (1, 513));
+    let storing: &[&[u8]] = &[b"again: st %g1, [%g0+64]", b"ba again", b"inc %g1"];
+    assert!(rt; come_to(alloc, storing, storing)? == (512, 1_024));
+    Ok(())
+}
+
+/// They stop in front of a step at which something stands in the timeline of one of them.
+#[test]
+fn walks_part_in_front_of_an_event(rt: HostRuntime) -> Result<(), Fail> {
+    let alloc = rt.alloc();
+    let mut bench = with_lines(alloc, COUNT)?;
+    let mut other = with_lines(alloc, COUNT)?;
+    let mut watch = Watch::new(alloc);
+    let _ = bench.walk(512, &mut watch)?;
+    let _ = other.walk(512, &mut watch)?;
+    other.set_poke(100, 0x100, 7)?;
+    assert!(rt; together(alloc, &mut bench, &mut other)? == 100);
     Ok(())
 }

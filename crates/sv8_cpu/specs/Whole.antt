@@ -1,11 +1,9 @@
 -- What the parts of a machine stand for, and what it means that they did an action.
 use Rattle.std.specs.Prelude.{◌≡◌, ℕ, Bool, true, false, List}
-use Rattle.sv8_isa.specs.Table.{meaning}
 use Rattle.sv8_model.specs.Action.{Action}
 use Rattle.sv8_model.specs.Does.{Does, Keeps, Notes}
 use Rattle.sv8_phys.specs.Memory.{ram_size}
 use Rattle.sv8_phys.specs.Contents.{outside_of}
-use Rattle.sv8_iu.specs.Instruction.{IsPlain}
 use Rattle.sv8_cpu.specs.declared.parts.Parts.{Parts}
 use Rattle.sv8_cpu.specs.Step.{Inner, carried_out}
 use Rattle.sv8_cpu.specs.State.{State}
@@ -27,7 +25,3 @@ MachineDoes keeps bytes a p p' ns ns' = Does keeps a (outside_of p.memory.phys b
 abbrev pub MayCarryOut : {windows pages : ℕ} → Keeps → List ℕ → ℕ → Parts windows pages → Parts windows pages → Notes → Notes → Bool → Type 0
 MayCarryOut {windows} {pages} keeps bytes word p p' ns ns' true = MachineDoes keeps bytes (carried_out windows (ram_size pages) (inner_of_parts p) word) p p' ns ns'
 MayCarryOut keeps bytes word p p' ns ns' false = (p' ≡ p) × (ns' ≡ ns)
-
--- the instruction of a word raised no trap and made no access, and made of the processor of one state that of another
-abbrev pub IsByWord : ℕ → ℕ → State → State → Type 0
-IsByWord windows word s t = IsPlain windows s.processor (meaning word) t.processor × (t.mmu ≡ s.mmu)

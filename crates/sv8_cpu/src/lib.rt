@@ -2,6 +2,7 @@
 #![tactic(auto)]
 
 mod frequent;
+mod lockstep;
 mod machine;
 mod parts;
 mod readers;

@@ -1,6 +1,6 @@
 //! The machine, one step at a time.
 
-ghost use Rattle.std.specs.Prelude.{◌≡◌, ◌+◌, ◌<◌, ◌≤◌, ◌/◌, [], IfOk, IfSome, OnOk, OnErr};
+ghost use Rattle.std.specs.Prelude.{◌≡◌, ◌+◌, ◌<◌, ◌≤◌, ◌/◌, [], IfOk, OnOk, OnErr};
 ghost use Rattle.sv8_model.specs.Does.{noting, keeping};
 ghost use Rattle.sv8_phys.specs.Notes.{told};
 ghost use Rattle.sv8_cpu.specs.Run.{acted_on, eventful, step_action, touched, seen, step, footprint, observed};
@@ -11,7 +11,7 @@ ghost use Rattle.sv8_phys.specs.Contents.{arrived};
 ghost use Rattle.sv8_cpu.specs.Step.{instruction};
 ghost use Rattle.sv8_cpu.specs.State.{reset_over};
 ghost use Rattle.sv8_cpu.specs.Work.{counted};
-ghost use Rattle.sv8_cpu.specs.Whole.{state_of, IsByWord};
+ghost use Rattle.sv8_cpu.specs.Whole.{state_of};
 
 use crate::parts::Parts;
 use crate::work::Work;
@@ -28,15 +28,14 @@ fn act_unnoted<const NW: usize, const PAGES: usize>(
     parts: &mut Parts<NW, PAGES>,
     before: u32,
     timeline: &Timeline,
-) -> Result<Option<u32>, AllocError>
+) -> Result<(), AllocError>
     requires few_windows { NW ≤ 32 }
     requires delivered { parts.old.memory.phys.taken ≤ bytes_below before timeline.now.inputs }
     ensures ok { OnOk result (state_of parts.new ≡ acted_on (arrived before timeline.now) (state_of parts.old) (step_action NW PAGES (state_of parts.old))) }
     ensures taken { OnOk result (parts.new.memory.phys.taken ≤ bytes_below before timeline.now.inputs) }
-    ensures by_word { IfOk result (λ word. IfSome word (λ w. IsByWord NW w (state_of parts.old) (state_of parts.new))) }
 {
-    let word = parts.act(before, timeline, &mut NoTouches)?;
-    Ok(word)
+    parts.act(before, timeline, &mut NoTouches)?;
+    Ok(())
 }
 
 /// What a step does behind its events; then its notes are told.
@@ -105,17 +104,16 @@ fn step_unnoted<const NW: usize, const PAGES: usize>(
     parts: &mut Parts<NW, PAGES>,
     n: u32,
     timeline: &Timeline,
-) -> Result<Option<u32>, AllocError>
+) -> Result<(), AllocError>
     requires few_windows { NW ≤ 32 }
     requires limit { timeline.now.limit ≡ ram_size PAGES }
     requires delivered { parts.old.memory.phys.taken ≤ bytes_below n timeline.now.inputs }
     ensures ok { OnOk result (state_of parts.new ≡ step NW PAGES timeline.now n (state_of parts.old)) }
     ensures taken { OnOk result (parts.new.memory.phys.taken ≤ bytes_below (n + 1) timeline.now.inputs) }
-    ensures by_word { IfOk result (λ word. IfSome word (λ w. IsByWord NW w (state_of parts.old) (state_of parts.new))) }
 {
     let before = begin(parts, n, timeline)?;
-    let word = act_unnoted(parts, before, timeline)?;
-    Ok(word)
+    act_unnoted(parts, before, timeline)?;
+    Ok(())
 }
 
 /// Step n; its notes are told.
@@ -278,30 +276,23 @@ impl<const NW: usize, const PAGES: usize> Machine<NW, PAGES> {
         Ok(())
     }
 
-    /// The same with no notes. Gives the word of the instruction that was carried out, where it is a frequent one that made no
-    /// access and raised no trap: so two machines with the same processor have the same one behind steps that give the same word.
+    /// The same with no notes.
     ///
     /// # Errors
     ///
     /// Those of `watch`.
     #[inline(always)]
-    pub fn pass(
-        &mut self,
-        n: u32,
-        timeline: &Timeline,
-        work: &mut Work,
-    ) -> Result<Option<u32>, AllocError>
+    pub fn pass(&mut self, n: u32, timeline: &Timeline, work: &mut Work) -> Result<(), AllocError>
         requires limit { timeline.now.limit ≡ ram_size PAGES }
         requires delivered { self.old.memory.taken ≤ bytes_below n timeline.now.inputs }
         ensures ok { OnOk result (self.new ≡ step NW PAGES timeline.now n self.old) }
         ensures delivered { OnOk result (self.new.memory.taken ≤ bytes_below (n + 1) timeline.now.inputs) }
-        ensures by_word { IfOk result (λ word. IfSome word (λ w. IsByWord NW w self.old self.new)) }
         ensures counted { OnOk result (work.new ≡ counted work.old) }
         ensures uncounted { OnErr result (work.new ≡ work.old) }
     {
-        let word = step_unnoted(&mut self.parts, n, timeline)?;
+        step_unnoted(&mut self.parts, n, timeline)?;
         work.raise();
-        Ok(word)
+        Ok(())
     }
 
     /// Step n, as `step` makes it. The machine is changed where it stands.

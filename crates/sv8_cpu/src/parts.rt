@@ -1,6 +1,6 @@
 //! The parts of a machine, and what a step does with them behind its events.
 
-ghost use Rattle.std.specs.Prelude.{◌≡◌, ◌<◌, ◌≤◌, ◌/◌, [], None, IfOk, IfSome, OnOk};
+ghost use Rattle.std.specs.Prelude.{◌≡◌, ◌<◌, ◌≤◌, ◌/◌, [], None, IfOk, OnOk};
 ghost use Rattle.sv8_isa.specs.Registers.{HasRegisters};
 ghost use Rattle.sv8_model.specs.Does.{kept, noting, keeping};
 ghost use Rattle.sv8_cpu.specs.Run.{step};
@@ -11,7 +11,7 @@ ghost use Rattle.sv8_phys.specs.Contents.{arrived};
 ghost use Rattle.sv8_iu.specs.Instruction.{raised};
 ghost use Rattle.sv8_cpu.specs.Step.{trap_seen, refusal_seen, answered, executed, carried_out, fetched, instruction, continued, requested, interruptible, awake, action};
 ghost use Rattle.sv8_memory.specs.View.{units_of};
-ghost use Rattle.sv8_cpu.specs.Whole.{inner_of_parts, state_of, IsByWord, MachineDoes};
+ghost use Rattle.sv8_cpu.specs.Whole.{inner_of_parts, MachineDoes};
 
 use std::alloc::AllocError;
 use sv8_isa::{Group, Instr, decode, group};
@@ -135,8 +135,7 @@ impl<const NW: usize, const PAGES: usize> Parts<NW, PAGES> {
         Ok(())
     }
 
-    /// Carries out a word that was fetched, by a way of its own where it has one. Gives the word where its instruction raised no
-    /// trap and made no access, and where it had such a way.
+    /// Carries out a word that was fetched, by a way of its own where it has one.
     #[inline(always)]
     fn carry_out_fetched<T: Touches>(
         &mut self,
@@ -144,26 +143,24 @@ impl<const NW: usize, const PAGES: usize> Parts<NW, PAGES> {
         before: u32,
         timeline: &Timeline,
         notes: &mut T,
-    ) -> Result<Option<u32>, AllocError>
+    ) -> Result<(), AllocError>
         requires delivered { self.old.memory.phys.taken ≤ bytes_below before timeline.now.inputs }
         ensures ok { OnOk result (MachineDoes (keeping T.KEEPS T.OBSERVES) (arrived before timeline.now) (carried_out NW (ram_size PAGES) (inner_of_parts self.old) word)
             self.old self.new (T.noted notes.old) (T.noted notes.new)) }
         ensures taken { OnOk result (self.new.memory.phys.taken ≤ bytes_below before timeline.now.inputs) }
-        ensures by_word { IfOk result (λ word. IfSome word (λ w. IsByWord NW w (state_of self.old) (state_of self.new))) }
     {
         match group(word) {
             Group::Memory => {
                 if !self.carry_out_access(word, before, timeline, notes)? {
                     self.carry_out_word(word, before, timeline, notes)?;
                 }
-                Ok(None)
+                Ok(())
             }
             _ => {
-                if carry_out_plainly(&mut self.processor, word) {
-                    return Ok(Some(word));
+                if !carry_out_plainly(&mut self.processor, word) {
+                    self.carry_out_word(word, before, timeline, notes)?;
                 }
-                self.carry_out_word(word, before, timeline, notes)?;
-                Ok(None)
+                Ok(())
             }
         }
     }
@@ -218,31 +215,29 @@ impl<const NW: usize, const PAGES: usize> Parts<NW, PAGES> {
         Ok(())
     }
 
-    /// Fetches the instruction at PC and carries it out. Gives what `carry_out_fetched` does, where it was fetched from RAM and is
-    /// not translated.
+    /// Fetches the instruction at PC and carries it out.
     #[inline(always)]
     fn run_instruction<T: Touches>(
         &mut self,
         before: u32,
         timeline: &Timeline,
         notes: &mut T,
-    ) -> Result<Option<u32>, AllocError>
+    ) -> Result<(), AllocError>
         requires delivered { self.old.memory.phys.taken ≤ bytes_below before timeline.now.inputs }
         ensures ok { OnOk result (MachineDoes (keeping T.KEEPS T.OBSERVES) (arrived before timeline.now) (instruction NW (ram_size PAGES) (inner_of_parts self.old))
             self.old self.new (T.noted notes.old) (T.noted notes.new)) }
         ensures taken { OnOk result (self.new.memory.phys.taken ≤ bytes_below before timeline.now.inputs) }
-        ensures by_word { IfOk result (λ word. IfSome word (λ w. IsByWord NW w (state_of self.old) (state_of self.new))) }
     {
         let supervisor = self.processor.registers().psr().s;
         let at = self.processor.pc();
         match self.memory.fetch_in_place(supervisor, at, notes)? {
             Some(value) => {
-                let word = self.carry_out_fetched(low_word(value), before, timeline, notes)?;
-                Ok(word)
+                self.carry_out_fetched(low_word(value), before, timeline, notes)?;
+                Ok(())
             }
             None => {
                 self.run_any_instruction(before, timeline, notes)?;
-                Ok(None)
+                Ok(())
             }
         }
     }
@@ -255,20 +250,18 @@ impl<const NW: usize, const PAGES: usize> Parts<NW, PAGES> {
         before: u32,
         timeline: &Timeline,
         notes: &mut T,
-    ) -> Result<Option<u32>, AllocError>
+    ) -> Result<(), AllocError>
         requires delivered { self.old.memory.phys.taken ≤ bytes_below before timeline.now.inputs }
         ensures ok { OnOk result (MachineDoes (keeping T.KEEPS T.OBSERVES) (arrived before timeline.now) (continued NW (ram_size PAGES) (inner_of_parts self.old))
             self.old self.new (T.noted notes.old) (T.noted notes.new)) }
         ensures taken { OnOk result (self.new.memory.phys.taken ≤ bytes_below before timeline.now.inputs) }
-        ensures by_word { IfOk result (λ word. IfSome word (λ w. IsByWord NW w (state_of self.old) (state_of self.new))) }
     {
         if self.processor.annul() {
             self.processor.skip_slot();
-            Ok(None)
         } else {
-            let word = self.run_instruction(before, timeline, notes)?;
-            Ok(word)
+            self.run_instruction(before, timeline, notes)?;
         }
+        Ok(())
     }
 
     /// Enters the handler of the highest of these levels; where there is none, the program goes on.
@@ -280,22 +273,21 @@ impl<const NW: usize, const PAGES: usize> Parts<NW, PAGES> {
         before: u32,
         timeline: &Timeline,
         notes: &mut T,
-    ) -> Result<Option<u32>, AllocError>
+    ) -> Result<(), AllocError>
         requires delivered { self.old.memory.phys.taken ≤ bytes_below before timeline.now.inputs }
         ensures ok { OnOk result (MachineDoes (keeping T.KEEPS T.OBSERVES) (arrived before timeline.now) (requested NW (ram_size PAGES) (inner_of_parts self.old) levels)
             self.old self.new (T.noted notes.old) (T.noted notes.new)) }
         ensures taken { OnOk result (self.new.memory.phys.taken ≤ bytes_below before timeline.now.inputs) }
-        ensures by_word { IfOk result (λ word. IfSome word (λ w. IsByWord NW w (state_of self.old) (state_of self.new))) }
     {
         match highest_level(levels) {
             None => {
-                let word = self.go_on(before, timeline, notes)?;
-                Ok(word)
+                self.go_on(before, timeline, notes)?;
+                Ok(())
             }
             Some(level) => {
                 notes.observe(seen(Trap::Interrupt(level.number() as u8)))?;
                 self.processor.interrupt(level);
-                Ok(None)
+                Ok(())
             }
         }
     }
@@ -308,22 +300,20 @@ impl<const NW: usize, const PAGES: usize> Parts<NW, PAGES> {
         before: u32,
         timeline: &Timeline,
         notes: &mut T,
-    ) -> Result<Option<u32>, AllocError>
+    ) -> Result<(), AllocError>
         requires delivered { self.old.memory.phys.taken ≤ bytes_below before timeline.now.inputs }
         ensures ok { OnOk result (MachineDoes (keeping T.KEEPS T.OBSERVES) (arrived before timeline.now) (interruptible NW (ram_size PAGES) (inner_of_parts self.old))
             self.old self.new (T.noted notes.old) (T.noted notes.new)) }
         ensures taken { OnOk result (self.new.memory.phys.taken ≤ bytes_below before timeline.now.inputs) }
-        ensures by_word { IfOk result (λ word. IfSome word (λ w. IsByWord NW w (state_of self.old) (state_of self.new))) }
     {
         if self.processor.registers().psr().et {
             let levels = self.processor.unmasked_levels();
             let pending = self.memory.pending_among(levels, notes)?;
-            let word = self.serve(pending, before, timeline, notes)?;
-            Ok(word)
+            self.serve(pending, before, timeline, notes)?;
         } else {
-            let word = self.go_on(before, timeline, notes)?;
-            Ok(word)
+            self.go_on(before, timeline, notes)?;
         }
+        Ok(())
     }
 
     /// The timer's step, and then the rest.
@@ -334,20 +324,18 @@ impl<const NW: usize, const PAGES: usize> Parts<NW, PAGES> {
         before: u32,
         timeline: &Timeline,
         notes: &mut T,
-    ) -> Result<Option<u32>, AllocError>
+    ) -> Result<(), AllocError>
         requires delivered { self.old.memory.phys.taken ≤ bytes_below before timeline.now.inputs }
         ensures ok { OnOk result (MachineDoes (keeping T.KEEPS T.OBSERVES) (arrived before timeline.now) (awake NW (ram_size PAGES) (inner_of_parts self.old))
             self.old self.new (T.noted notes.old) (T.noted notes.new)) }
         ensures taken { OnOk result (self.new.memory.phys.taken ≤ bytes_below before timeline.now.inputs) }
-        ensures by_word { IfOk result (λ word. IfSome word (λ w. IsByWord NW w (state_of self.old) (state_of self.new))) }
     {
         self.memory.tick(notes)?;
-        let word = self.go_on_or_interrupt(before, timeline, notes)?;
-        Ok(word)
+        self.go_on_or_interrupt(before, timeline, notes)?;
+        Ok(())
     }
 
-    /// What a step does behind its events: in error mode nothing. Gives what `run_instruction` does, where an instruction was
-    /// fetched.
+    /// What a step does behind its events: in error mode nothing.
     #[inline(always)]
     #[tactic(auto, unfolding(crate::specs::Step::action))]
     pub fn act<T: Touches>(
@@ -355,17 +343,16 @@ impl<const NW: usize, const PAGES: usize> Parts<NW, PAGES> {
         before: u32,
         timeline: &Timeline,
         notes: &mut T,
-    ) -> Result<Option<u32>, AllocError>
+    ) -> Result<(), AllocError>
         requires delivered { self.old.memory.phys.taken ≤ bytes_below before timeline.now.inputs }
         ensures ok { OnOk result (MachineDoes (keeping T.KEEPS T.OBSERVES) (arrived before timeline.now) (action NW (ram_size PAGES) (inner_of_parts self.old))
             self.old self.new (T.noted notes.old) (T.noted notes.new)) }
         ensures taken { OnOk result (self.new.memory.phys.taken ≤ bytes_below before timeline.now.inputs) }
-        ensures by_word { IfOk result (λ word. IfSome word (λ w. IsByWord NW w (state_of self.old) (state_of self.new))) }
     {
         if !self.processor.is_running() {
-            return Ok(None);
+            return Ok(());
         }
-        let word = self.tick_and_go_on(before, timeline, notes)?;
-        Ok(word)
+        self.tick_and_go_on(before, timeline, notes)?;
+        Ok(())
     }
 }

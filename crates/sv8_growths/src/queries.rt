@@ -214,6 +214,34 @@ fn is_walked(alloc: Global, bench: &mut Small) -> bool {
     }
 }
 
+/// Whether a walk of a workbench and one of another go on together over a store.
+fn walked_together(
+    alloc: Global,
+    bench: &mut Small,
+    other: &mut Small,
+) -> Result<bool, AllocError> {
+    let mut watch = Watch::new(alloc);
+    let mut walk = bench.walk(3, &mut watch)?;
+    let mut other_walk = other.walk(3, &mut watch)?;
+    if !other_walk.machine().has_same_processor(walk.machine()) {
+        return Ok(false);
+    }
+    bench.walk_in_lockstep(other, &mut walk, &mut other_walk, 5)?;
+    let stored = walk.machine().word(0x100);
+    Ok(walk.step() == 5 && stored != 0 && other_walk.machine().word(0x100) == stored)
+}
+
+/// The same of a workbench and its copy, at the second try where memory was refused at the first.
+fn are_walked(alloc: Global, bench: &mut Small) -> bool {
+    match copied(alloc, bench) {
+        Ok(mut other) => match walked_together(alloc, bench, &mut other) {
+            Ok(led) => led,
+            Err(_) => matches!(walked_together(alloc, bench, &mut other), Ok(true)),
+        },
+        Err(_) => false,
+    }
+}
+
 /// Whether the names are told, at the second try where memory was refused at the first.
 fn is_named(bench: &Small) -> bool {
     match bench.names() {
@@ -247,5 +275,6 @@ pub fn keeps(alloc: Global) -> Result<bool, AllocError> {
         kept = is_done(alloc, &mut bench, *deed) && kept;
     }
     let copied = is_copied(alloc, &bench) && is_named(&bench);
-    Ok(kept && copied && is_walked(alloc, &mut bench))
+    let walked = is_walked(alloc, &mut bench);
+    Ok(kept && copied && walked && are_walked(alloc, &mut bench))
 }

@@ -78,6 +78,24 @@ pub window_at : {windows pages : ℕ} (k w : ℕ) (first second now before : Wor
 window_at k w first second now before both walks same_now same_before is =
     sym (is ∙ ap (λ (x : State). x.processor.registers.cwp) (now_is k first second now before both walks same_now same_before))
 
+-- ---- several steps
+
+module _ (first second now before : Kept) (same_now : now ≡ first) (same_before : before ≡ second) where
+  -- what is so of workbenches that keep the same
+  pub alike_kept : (n : ℕ) → AreAlike before now n → AreAlike second first n
+  alike_kept n alike = subst (λ (k : Kept). AreAlike second k n) same_now (subst (λ (k : Kept). AreAlike k now n) same_before alike)
+
+  pub unlike_kept : (n : ℕ) → (AreAlike before now n → ⊥) → AreAlike second first n → ⊥
+  unlike_kept n unlike alike = unlike (subst (λ (k : Kept). AreAlike before k n) (sym same_now) (subst (λ (k : Kept). AreAlike k first n) (sym same_before) alike))
+
+  -- the steps behind some others
+  pub alike_further : (from n next : ℕ) → ((m : ℕ) → from ≤ m → m < n + 1 → AreAlike second first m) → ((m : ℕ) → n ≤ m → m < next → AreAlike before now m)
+      → (m : ℕ) → from ≤ m → m < next → AreAlike second first m
+  alike_further from n next alike more m low high = go (ltb m n) refl where
+    go : (b : Bool) → ltb m n ≡ b → AreAlike second first m
+    go true e = let below : m < n = search (arith, tests) in alike m low (omega (arith, below))
+    go false e = let above : n ≤ m = search (arith, tests) in alike_kept m (more m above high)
+
 -- one step more at which something holds
 pub below_more : (P : ℕ → Type 0) (from n : ℕ) → ((m : ℕ) → from ≤ m → m < n → P m) → P n → (m : ℕ) → from ≤ m → m < n + 1 → P m
 below_more P from n below here m low high = elim (cases_eq m n) [

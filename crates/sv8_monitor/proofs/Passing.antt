@@ -1,12 +1,13 @@
 -- Steps of a rising search that are passed over: none of them is wanted, so what is left to tell is what was left before them.
 use Rattle.std.proofs.Common.{◌≡◌, ◌∙◌, inl, ℕ, zero, suc, ◌+◌, ◌-◌, ◌/◌, ◌<◌, ◌≤◌, Bool, false, List, ◌++◌, map, Result, Ok, Err, OnErr, refl, sym, ap, subst, arith}
-use Rattle.sv8_trace.specs.Recorder.{counted_by}
+use Rattle.sv8_trace.specs.Recorder.{counted_by, RaisedUpTo}
 use Rattle.sv8_bench.specs.Kept.{Kept}
-use Rattle.sv8_bench.specs.Workbench.{Workbench}
-use Rattle.sv8_bench.proofs.Walking.{raised_tried}
+use Rattle.sv8_bench.specs.Walks.{IsMade}
+use Rattle.sv8_bench.specs.Workbench.{Workbench, checkpoints}
+use Rattle.sv8_bench.proofs.Walking.{raised_tried, step_counted}
 use Rattle.sv8_watch.specs.declared.condition.Condition.{Condition}
 use Rattle.sv8_monitor.specs.declared.found.Found.{Found}
-use Rattle.sv8_monitor.specs.Search.{found_at, is_wanted, rising, looked_to, IsTried, IsStopped}
+use Rattle.sv8_monitor.specs.Search.{found_at, is_wanted, rising, looked_to, IsTried, IsWalked, IsStopped}
 use Rattle.sv8_monitor.proofs.Sought.{divided}
 
 -- ---- what is told
@@ -86,6 +87,42 @@ tried_stopped k n to old new pos high t =
 -- or no step was tried
 pub untried_stopped : (k n to : ℕ) (w : Workbench) → 0 < k → n < to → IsStopped k n to w w
 untried_stopped k n to w pos high = tried_stopped k n to w w pos high (record { kept = refl; fewest = omega arith; most = omega arith; worked = inl refl })
+
+-- recorded steps were made
+pub walked_recorded : (k n m : ℕ) (old new : Workbench) → new.kept ≡ old.kept → checkpoints new ≡ checkpoints old → m / k ≤ checkpoints old → new.worked ≡ counted_by (m - n) old.worked
+    → IsWalked k n m old new
+walked_recorded k n m old new kept same within counted = record { kept = kept; recorded = omega (arith, same, within); worked = counted }
+
+-- .. or some of them
+pub stopped_recorded : (k n to : ℕ) (old new : Workbench) → new.kept ≡ old.kept → checkpoints new ≡ checkpoints old → RaisedUpTo (to - n) old.worked new.worked → IsStopped k n to old new
+stopped_recorded k n to old new kept same raised = record { kept = kept; fewest = omega (arith, same); most = omega (arith, same); worked = raised }
+
+-- one step more
+pub walked_more : (k n m : ℕ) (old now new : Workbench) → 0 < k → n ≤ m → IsWalked k n m old now → IsMade k m now new → IsWalked k n (m + 1) old new
+walked_more k n m old now new pos low w made =
+    let below : m / k ≤ (m + 1) / k = divided k m (m + 1) pos (omega arith) in
+    let before = w.recorded in
+    let after = made.recorded in
+    record {
+      kept = made.kept ∙ w.kept;
+      recorded = omega (arith, before, after, below);
+      worked = step_counted m n old.worked now.worked new.worked low w.worked made.worked;
+    }
+
+-- .. was tried
+pub walked_tried : (k n m to : ℕ) (old now new : Workbench) → 0 < k → n ≤ m → m < to → IsWalked k n m old now → IsTried k m now new → IsStopped k n to old new
+walked_tried k n m to old now new pos low high w t =
+    let below : m / k ≤ to / k = divided k m to pos (omega (arith, high)) in
+    let below_next : (m + 1) / k ≤ to / k = divided k (m + 1) to pos (omega (arith, high)) in
+    let before = w.recorded in
+    let fewest = t.fewest in
+    let most = t.most in
+    record {
+      kept = t.kept ∙ w.kept;
+      fewest = omega (arith, before, fewest);
+      most = omega (arith, before, most, below, below_next);
+      worked = raised_tried m n to old.worked now.worked new.worked low high w.worked t.worked;
+    }
 
 -- where there is an error, as where there is none
 pub on_any_err : {A E P : Type 0} (r : Result A E) → P → OnErr r P

@@ -5,11 +5,11 @@ ghost use Rattle.sv8_bench.specs.Faults.{step_refusal, IsQueryFault};
 ghost use Rattle.sv8_phys.specs.Memory.{ram_size};
 ghost use Rattle.sv8_bench.specs.Alike.{AreAlikeUpTo};
 ghost use Rattle.sv8_bench.specs.Shown.{machine_state};
-ghost use Rattle.sv8_bench.specs.Workbench.{IsAnswered, IsGivenUp};
+ghost use Rattle.sv8_bench.specs.Workbench.{checkpoints, IsAnswered, IsGivenUp};
 ghost use Rattle.sv8_cpu.specs.Sameness.{IsSameProcessor};
 ghost use Rattle.sv8_bench.specs.Walks.{IsMade, state_in};
-ghost use Rattle.sv8_monitor.specs.Search.{IsSearched, IsTried, IsAbandoned};
-ghost use Rattle.sv8_monitor.specs.Comparing.{range_refusal, AreSameOutside, AreWalks, IsParted, parting, difference_at, differences};
+ghost use Rattle.sv8_monitor.specs.Search.{IsSearched, IsTried, IsWalked, IsStopped, IsAbandoned};
+ghost use Rattle.sv8_monitor.specs.Comparing.{range_refusal, AreAlike, AreSameOutside, AreWalks, IsParted, parting, difference_at, differences};
 
 use crate::difference::Difference;
 use std::alloc::{AllocError, Global};
@@ -83,19 +83,15 @@ impl<const NW: usize, const PAGES: usize> Both<NW, PAGES> {
         self.walk.machine().registers().cwp()
     }
 
-    /// Whether both machines have the same processor, behind a step in front of which they had, where that is not known already.
-    /// `window` was the current one there. Where it still is, the step wrote no register outside it, and none is compared.
+    /// Whether both machines have the same processor, behind a step in front of which they had. `window` was the current one
+    /// there. Where it still is, the step wrote no register outside it, and none is compared.
     #[inline(always)]
-    fn are_alike_after(&self, known: bool, window: u32) -> bool
+    fn are_alike_after(&self, window: u32) -> bool
         requires few_windows { NW ≤ 32 }
-        requires known { known ≡ true → IsSameProcessor (state_in self.now.other.place) (state_in self.now.walk.place) }
         ensures { MatchBool result
             (AreSameOutside NW window (state_in self.now.other.place) (state_in self.now.walk.place) → IsSameProcessor (state_in self.now.other.place) (state_in self.now.walk.place))
             (IsSameProcessor (state_in self.now.other.place) (state_in self.now.walk.place) → ⊥) }
     {
-        if known {
-            return true;
-        }
         let own = self.walk.machine();
         let other = self.other.machine();
         if own.registers().cwp() == window && other.registers().cwp() == window {
@@ -125,31 +121,62 @@ fn begin_both<const NW: usize, const PAGES: usize, const K: u32>(
     Ok(Both { walk, other })
 }
 
-/// Makes the next step of both. Tells whether both steps are known to have carried out the same plain instruction, which makes
-/// the same of the same processor.
+/// Makes the next step of both.
 #[inline(always)]
 fn step_both<const NW: usize, const PAGES: usize, const K: u32>(
     now: &mut Bench<NW, PAGES, K>,
     before: &mut Bench<NW, PAGES, K>,
     both: &mut Both<NW, PAGES>,
     watch: &mut Watch,
-) -> Result<bool, AllocError>
+) -> Result<(), AllocError>
     requires walks { AreWalks K now.old before.old both.old.walk.step both.old }
     requires within { both.old.walk.step < 1000000 }
     ensures walks { OnOk result (AreWalks K now.new before.new (both.old.walk.step + 1) both.new) }
-    ensures alike { IfOk result (λ known. known ≡ true → IsSameProcessor (state_in both.old.other.place) (state_in both.old.walk.place)
-        → IsSameProcessor (state_in both.new.other.place) (state_in both.new.walk.place)) }
     ensures now_made { OnOk result (IsMade K both.old.walk.step now.old now.new) }
     ensures before_made { OnOk result (IsMade K both.old.walk.step before.old before.new) }
     ensures now_tried { OnErr result (IsTried K both.old.walk.step now.old now.new) }
     ensures before_tried { OnErr result (IsTried K both.old.walk.step before.old before.new) }
 {
-    let own = now.walk_past::<NOW>(&mut both.walk, watch)?;
-    let other = before.walk_past::<BEFORE>(&mut both.other, watch)?;
-    match (own, other) {
-        (Some(word), Some(same)) => Ok(word == same),
-        _ => Ok(false),
+    now.walk_past::<NOW>(&mut both.walk, watch)?;
+    before.walk_past::<BEFORE>(&mut both.other, watch)?;
+    Ok(())
+}
+
+/// Goes on with both walks, below another step: together, as long as they can, and then by one step of each. Tells whether
+/// both machines have the same processor at the step that they come to; at those in front of it they have.
+#[inline(always)]
+fn go_on<const NW: usize, const PAGES: usize, const K: u32>(
+    now: &mut Bench<NW, PAGES, K>,
+    before: &mut Bench<NW, PAGES, K>,
+    both: &mut Both<NW, PAGES>,
+    to: u32,
+    watch: &mut Watch,
+) -> Result<bool, AllocError>
+    requires walks { AreWalks K now.old before.old both.old.walk.step both.old }
+    requires below { both.old.walk.step < to }
+    requires within { to ≤ 1000000 }
+    requires alike { AreAlike before.old.kept now.old.kept both.old.walk.step }
+    requires now_recorded { both.old.walk.step / K ≤ checkpoints now.old }
+    requires before_recorded { both.old.walk.step / K ≤ checkpoints before.old }
+    ensures walks { OnOk result (AreWalks K now.new before.new both.new.walk.step both.new) }
+    ensures further { OnOk result (both.old.walk.step < both.new.walk.step) }
+    ensures ended { OnOk result (both.new.walk.step ≤ to) }
+    ensures front { OnOk result ((m : ℕ) → both.old.walk.step ≤ m → m < both.new.walk.step → AreAlike before.old.kept now.old.kept m) }
+    ensures alike { IfOk result (λ same. MatchBool same (AreAlike before.old.kept now.old.kept both.new.walk.step) (AreAlike before.old.kept now.old.kept both.new.walk.step → ⊥)) }
+    ensures now_walked { OnOk result (IsWalked K both.old.walk.step both.new.walk.step now.old now.new) }
+    ensures before_walked { OnOk result (IsWalked K both.old.walk.step both.new.walk.step before.old before.new) }
+    ensures now_stopped { OnErr result (IsStopped K both.old.walk.step to now.old now.new) }
+    ensures before_stopped { OnErr result (IsStopped K both.old.walk.step to before.old before.new) }
+{
+    now.sizes();
+    before.sizes();
+    now.walk_in_lockstep(before, &mut both.walk, &mut both.other, to)?;
+    if to <= both.walk.step() {
+        return Ok(true);
     }
+    let window = both.window();
+    step_both(now, before, both, watch)?;
+    Ok(both.are_alike_after(window))
 }
 
 fn part_within<const NW: usize, const PAGES: usize, const K: u32>(
@@ -174,9 +201,8 @@ fn part_within<const NW: usize, const PAGES: usize, const K: u32>(
         return Ok(Some(both.walk.step()));
     }
     while both.walk.step() < to {
-        let window = both.window();
-        let known = step_both(now, before, &mut both, &mut watch)?;
-        if !both.are_alike_after(known, window) {
+        let alike = go_on(now, before, &mut both, to, &mut watch)?;
+        if !alike {
             return Ok(Some(both.walk.step()));
         }
     }

@@ -1,13 +1,12 @@
 //! Walks through the steps of the run, one by one, so that each can be watched.
 
-ghost use Rattle.std.specs.Prelude.{◌≡◌, ℕ, ◌+◌, ◌-◌, ◌*◌, ◌/◌, ◌%◌, ◌<◌, ◌≤◌, ◌⊎◌, true, max, IfOk, IfSome, OnOk, OnErr};
+ghost use Rattle.std.specs.Prelude.{◌≡◌, ℕ, ◌+◌, ◌-◌, ◌*◌, ◌/◌, ◌%◌, ◌<◌, ◌≤◌, ◌⊎◌, true, max, IfOk, OnOk, OnErr};
 ghost use Rattle.sv8_cpu.specs.Run.{footprint, observed};
-ghost use Rattle.sv8_cpu.specs.Whole.{IsByWord};
 ghost use Rattle.sv8_trace.specs.Drafts.{IsDraft};
 ghost use Rattle.sv8_trace.specs.Recorder.{counted_by, RaisedUpTo};
 ghost use Rattle.sv8_trace.specs.Recording.{recorded};
 ghost use Rattle.sv8_bench.specs.Shown.{machine_state};
-ghost use Rattle.sv8_bench.specs.Walks.{HasRoom, IsReady, IsWalk, IsMade, IsUnmade, state_in};
+ghost use Rattle.sv8_bench.specs.Walks.{HasRoom, IsReady, IsWalk, IsMade, IsUnmade};
 ghost use Rattle.sv8_bench.specs.Workbench.{checkpoints, IsAnswered, IsGivenUp};
 
 use crate::bench::Bench;
@@ -64,12 +63,11 @@ impl<const NW: usize, const PAGES: usize, const K: u32> Bench<NW, PAGES, K> {
         ensures unmade { OnErr result (IsUnmade self.old self.new) }
     {
         self.make_ready(walk)?;
-        self.make_next::<true, 0>(walk, watch)?;
-        Ok(())
+        self.make_next::<true, 0>(walk, watch)
     }
 
     /// The same with nothing seen of the step, which takes less time. `watch` is a place for notes, which mean nothing
-    /// afterwards. Gives the word that `Machine::pass` gives, where the step was recorded already.
+    /// afterwards.
     ///
     /// `SITE` tells the places apart that make steps in a loop, and means nothing but to the built program: a site has a
     /// step of its own, which the compiler puts into the loop, since nothing else calls it. 0 stands for all other places,
@@ -83,12 +81,11 @@ impl<const NW: usize, const PAGES: usize, const K: u32> Bench<NW, PAGES, K> {
         &mut self,
         walk: &mut Walk<NW, PAGES>,
         watch: &mut Watch,
-    ) -> Result<Option<u32>, AllocError>
+    ) -> Result<(), AllocError>
         requires walk { IsWalk K self.old walk.old }
         requires within { walk.old.step < 1000000 }
         ensures walk { OnOk result (IsWalk K self.new walk.new) }
         ensures step { OnOk result (walk.new.step ≡ walk.old.step + 1) }
-        ensures by_word { IfOk result (λ word. IfSome word (λ w. IsByWord NW w (state_in walk.old.place) (state_in walk.new.place))) }
         ensures made { OnOk result (IsMade K walk.old.step self.old self.new) }
         ensures unmade { OnErr result (IsUnmade self.old self.new) }
     {
@@ -161,7 +158,7 @@ impl<const NW: usize, const PAGES: usize, const K: u32> Bench<NW, PAGES, K> {
         &mut self,
         walk: &mut Walk<NW, PAGES>,
         watch: &mut Watch,
-    ) -> Result<Option<u32>, AllocError>
+    ) -> Result<(), AllocError>
         requires walk { IsWalk K self.old walk.old }
         requires within { walk.old.step < 1000000 }
         requires ready { IsReady K self.old walk.old.step walk.old.place }
@@ -171,20 +168,18 @@ impl<const NW: usize, const PAGES: usize, const K: u32> Bench<NW, PAGES, K> {
             ≡ footprint self.old.kept.windows self.old.kept.pages self.old.kept.timeline walk.old.step (machine_state self.old.kept walk.old.step)) }
         ensures observations { OnOk result (SEEN ≡ true → watch.new.observations
             ≡ observed self.old.kept.windows self.old.kept.pages self.old.kept.timeline walk.old.step (machine_state self.old.kept walk.old.step)) }
-        ensures by_word { IfOk result (λ word. IfSome word (λ w. IsByWord NW w (state_in walk.old.place) (state_in walk.new.place))) }
         ensures made { OnOk result (IsMade K walk.old.step self.old self.new) }
         ensures unmade { OnErr result (IsUnmade self.old self.new) }
     {
         let step = walk.step;
-        let word = match &mut walk.place {
-            Place::Restored(machine) => self.step_restored::<SEEN, SITE>(machine, step, watch)?,
-            Place::Drafted(draft) => {
-                self.step_drafted(draft, step, watch)?;
-                None
+        match &mut walk.place {
+            Place::Restored(machine) => {
+                self.step_restored::<SEEN, SITE>(machine, step, watch)?;
             }
-        };
+            Place::Drafted(draft) => self.step_drafted(draft, step, watch)?,
+        }
         walk.step = step + 1;
-        Ok(word)
+        Ok(())
     }
 
     /// Makes the steps of a walk up to another one, which is recorded up to its last checkpoint, with nothing seen of
@@ -296,7 +291,7 @@ impl<const NW: usize, const PAGES: usize, const K: u32> Bench<NW, PAGES, K> {
         machine: &mut Machine<NW, PAGES>,
         step: u32,
         watch: &mut Watch,
-    ) -> Result<Option<u32>, AllocError>
+    ) -> Result<(), AllocError>
         requires within { step < 1000000 }
         requires state { machine.old ≡ machine_state self.old.kept step }
         requires placed { (step < recorded K self.old.recording) ⊎ (1000000 < recorded K self.old.recording + K) }
@@ -306,18 +301,16 @@ impl<const NW: usize, const PAGES: usize, const K: u32> Bench<NW, PAGES, K> {
             ≡ footprint self.old.kept.windows self.old.kept.pages self.old.kept.timeline step (machine_state self.old.kept step)) }
         ensures observations { OnOk result (SEEN ≡ true → watch.new.observations
             ≡ observed self.old.kept.windows self.old.kept.pages self.old.kept.timeline step (machine_state self.old.kept step)) }
-        ensures by_word { IfOk result (λ word. IfSome word (λ w. IsByWord NW w machine.old machine.new)) }
         ensures made { OnOk result (IsMade K step self.old self.new) }
         ensures unmade { OnErr result (IsUnmade self.old self.new) }
     {
         if SEEN {
             watch.clear();
             machine.watch(step, &self.timeline, watch, &mut self.work)?;
-            Ok(None)
         } else {
-            let word = machine.pass(step, &self.timeline, &mut self.work)?;
-            Ok(word)
+            machine.pass(step, &self.timeline, &mut self.work)?;
         }
+        Ok(())
     }
 
     /// Makes a step above the last checkpoint. If it leads to the next one, it is recorded with those since the last one.

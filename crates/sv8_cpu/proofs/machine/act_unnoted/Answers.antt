@@ -6,4 +6,4 @@ use Rattle.sv8_cpu.proofs.machine.act_unnoted.Goals as goal
 
 pub returns-clause-ok : goal.returns-clause-ok
 returns-clause-ok g c =
-    left _ _ _ c.args.parts.now.memory.phys c.act.new.self.memory.phys (inner_of_parts c.act.new.self) _ _ _ (rw (length-arrived _ _) c.requires.delivered) (rw (length-arrived _ _) c.in_ok-word.ensures.taken) c.in_ok-word.ensures.ok refl refl refl refl
+    left _ _ _ c.args.parts.now.memory.phys c.act.new.self.memory.phys (inner_of_parts c.act.new.self) _ _ _ (rw (length-arrived _ _) c.requires.delivered) (rw (length-arrived _ _) c.in_ok-act.ensures.taken) c.in_ok-act.ensures.ok refl refl refl refl

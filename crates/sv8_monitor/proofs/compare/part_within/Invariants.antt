@@ -3,8 +3,8 @@ use Rattle.sv8_monitor.specs.Search.{IsSearched}
 use Rattle.sv8_monitor.specs.Comparing.{AreWalks, AreAlike}
 use Rattle.sv8_monitor.proofs.compare.part_within.Given as goal
 
-abbrev pub invariant-loop-both : goal.invariant-loop-both
-invariant-loop-both g l = record {
+abbrev pub invariant-loop-now : goal.invariant-loop-now
+invariant-loop-now g l = record {
   walks : AreWalks g.row.K l.now l.before l.both.walk.step l.both;
   low : l.from ≤ l.both.walk.step;
   high : l.both.walk.step ≤ l.to;
@@ -14,5 +14,5 @@ invariant-loop-both g l = record {
 }
 
 -- the steps that are left
-abbrev pub decreases-loop-both : goal.decreases-loop-both
-decreases-loop-both g l = l.to - l.both.walk.step
+abbrev pub decreases-loop-now : goal.decreases-loop-now
+decreases-loop-now g l = l.to - l.both.walk.step

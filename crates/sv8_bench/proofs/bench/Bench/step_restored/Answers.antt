@@ -29,15 +29,15 @@ returns-in_ok-watch-clause-state g c =
     let state : c.args.machine.now ≡ machine_state kept n = c.requires.state ∙ sym (ap (λ (w : Workbench). machine_state w.kept n) c.self.view_is) in
     state_next kept n c.args.machine.now c.watch.new.self state c.in_ok-watch.ensures.ok
 
-pub returns-in_ok-word-clause-state : goal.returns-in_ok-word-clause-state
-returns-in_ok-word-clause-state g c =
+pub returns-in_ok-pass-clause-state : goal.returns-in_ok-pass-clause-state
+returns-in_ok-pass-clause-state g c =
     let kept : Kept = record { windows = g.row.NW; pages = g.row.PAGES; source = c.self.inside.source; timeline = c.self.inside.timeline } in
     let n = c.args.step in
     let state : c.args.machine.now ≡ machine_state kept n = c.requires.state ∙ sym (ap (λ (w : Workbench). machine_state w.kept n) c.self.view_is) in
-    state_next kept n c.args.machine.now c.pass.new.self state c.in_ok-word.ensures.ok
+    state_next kept n c.args.machine.now c.pass.new.self state c.in_ok-pass.ensures.ok
 
-pub returns-in_ok-word-clause-made : goal.returns-in_ok-word-clause-made
-returns-in_ok-word-clause-made g c =
+pub returns-in_ok-pass-clause-made : goal.returns-in_ok-pass-clause-made
+returns-in_ok-pass-clause-made g c =
     let k = g.row.K in
     let kept : Kept = record { windows = g.row.NW; pages = g.row.PAGES; source = c.self.inside.source; timeline = c.self.inside.timeline } in
     let placed : (c.args.step < recorded k c.self.inside.trace) ⊎ (1000000 < recorded k c.self.inside.trace + k) =
@@ -47,5 +47,5 @@ returns-in_ok-word-clause-made g c =
     (record {
       kept = refl;
       recorded = no_more k (length c.self.inside.trace.intervals) c.args.step c.self.invariant.4 c.requires.within placed;
-      worked = c.in_ok-word.ensures.counted;
+      worked = c.in_ok-pass.ensures.counted;
     })

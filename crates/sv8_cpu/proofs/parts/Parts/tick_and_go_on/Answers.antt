@@ -6,4 +6,4 @@ pub returns-clause-ok : goal.returns-clause-ok
 returns-clause-ok g c =
     awake_by _ _ _ _ _ _ _ _ _ _ _ _ _
     (ap (λ u. record { processor = c.args.self.now.processor; units = record { mmu = u; timer = c.tick.new.self.phys.timer } }) c.tick.ensures.mmu)
-    (c.in_ok-tick.ensures.ok _) c.in_ok-word.ensures.ok
+    (c.in_ok-tick.ensures.ok _) c.in_ok-go_on_or_interrupt.ensures.ok

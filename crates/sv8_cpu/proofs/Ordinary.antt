@@ -1,0 +1,221 @@
+-- An ordinary step, and what is carried out in it over two memories.
+use Rattle.std.proofs.Common.{◌≡◌, ◌≢◌, ◌∙◌, ◌⊎◌, inl, inr, ◌+◌, ◌-◌, ◌<◌, ◌≤◌, ◌==◌, ℕ, zero, suc, Bool, true, false, nat_lt, None, List, [], if◌then◌else◌, refl, sym, ap, arith}
+use Rattle.std.proofs.lemmas.Bool.Decides.{nat_tests}
+use Rattle.sv8_isa.specs.declared.instr.Instr.TheVariants.{Memory}
+use Rattle.sv8_isa.specs.declared.instr.MemoryOp.{MemoryOp}
+use Rattle.sv8_isa.specs.declared.instr.Operand.{Operand}
+use Rattle.sv8_isa.specs.Table.{meaning}
+use Rattle.sv8_model.specs.Action.{done, result_of, after, ◌>>=◌}
+use Rattle.sv8_model.proofs.Common.{does_if_true, does_if_false}
+use Rattle.sv8_model.specs.Does.{DoesUnnoted, keeping, no_notes}
+use Rattle.sv8_model.specs.Outside.{Outside}
+use Rattle.sv8_model.specs.Levels.{asked}
+use Rattle.sv8_time.specs.Schedule.{Schedule}
+use Rattle.sv8_time.specs.Schedule.{pokes_of_step, requests_of_step}
+use Rattle.sv8_phys.specs.declared.timer.Timer.{Timer}
+use Rattle.sv8_phys.specs.declared.size.Size.{Size}
+use Rattle.sv8_phys.specs.declared.size.Size.TheVariants.{Byte, Half, Word, Double}
+use Rattle.sv8_phys.specs.Devices.{ram_load, tick}
+use Rattle.sv8_phys.specs.Memory.{ram_size}
+use Rattle.sv8_phys.specs.Contents.{Contents, arrived, outside_of}
+use Rattle.sv8_mmu.specs.declared.registers.Mmu.{Mmu}
+use Rattle.sv8_mmu.specs.declared.translation.Reach.TheVariants.{Ram}
+use Rattle.sv8_mmu.specs.Registers.{translates}
+use Rattle.sv8_mmu.specs.Translation.{translate}
+use Rattle.sv8_trap.specs.declared.table.Trap.TheVariants.{InstructionAccessException, DataAccessException}
+use Rattle.sv8_trap.specs.Table.{taken}
+use Rattle.sv8_trap.specs.Processor.{Processor, with_result}
+use Rattle.sv8_trap.specs.Interrupt.{unmasked}
+use Rattle.sv8_iu.specs.declared.request.AccessRequest.TheVariants.{Fetch, Load, Store}
+use Rattle.sv8_iu.specs.declared.request.Response.{Response}
+use Rattle.sv8_iu.specs.declared.request.Response.TheVariants.{Value}
+use Rattle.sv8_iu.specs.declared.request.AccessRequest.{AccessRequest}
+use Rattle.sv8_iu.specs.declared.request.Space.TheVariants.{Virtual}
+use Rattle.sv8_iu.specs.Requests.{space_of}
+use Rattle.sv8_iu.specs.Operands.{sum_of_sources}
+use Rattle.sv8_iu.specs.Instruction.{data_space, IsPlain}
+use Rattle.sv8_iu.specs.Memory.{low_word, access_of, memory_traps, transferred_data}
+use Rattle.sv8_memory.specs.declared.physical.Physical.{Physical}
+use Rattle.sv8_memory.specs.Units.{Units, Served, served}
+use Rattle.sv8_memory.specs.Access.{access, instruction_space, load_type, fetched_from, loaded_from, stored_at, reach_of, at_virtual}
+use Rattle.sv8_memory.proofs.Accesses.{fetched_word, loaded_from_ram, loaded_word, made_untranslated}
+use Rattle.sv8_memory.proofs.Poking.{quiet}
+use Rattle.sv8_cpu.specs.Step.{Inner, carried_out, instruction, continued, requested, interruptible, action}
+use Rattle.sv8_cpu.specs.State.{inner_of, left_by}
+use Rattle.sv8_cpu.specs.Run.{step}
+use Rattle.sv8_cpu.proofs.Steps.{carried_out_by, carried_out_plainly, instruction_by, interruptible_by, awake_by}
+use Rattle.sv8_memory.specs.View.{units_of}
+use Rattle.sv8_cpu.specs.Lockstep.{state_over, counted_down, timed, CountsDown, IsPlaced, IsCarriedOut, IsOrdinary}
+
+-- ---- the timer
+
+-- a timer that does not expire
+falls : (count reload : ℕ) → count ≢ 1 → tick (record { count = count; reload = reload }) ≡ done (record { count = count - 1; reload = reload })
+unfolding tick
+falls zero reload h = refl
+falls (suc count) reload h =
+    let some : (suc count == 0) ≡ false = grind (arith, nat_tests) in
+    let others : (suc count == 1) ≡ false = grind (arith, nat_tests, h) in
+    rw some (rw others refl)
+
+contents_are : (m : Contents) (ram : List ℕ) (taken : ℕ) (output : List ℕ) (pending : List Bool) (timer : Timer) → m.ram ≡ ram → m.taken ≡ taken → m.output ≡ output
+    → m.pending ≡ pending → m.timer ≡ timer → m ≡ record { ram = ram; taken = taken; output = output; pending = pending; timer = timer }
+contents_are m ram taken output pending timer a b c d e =
+    ap {A = List ℕ} {B = Contents} (λ x. record m { ram = x }) a ∙ ap {A = ℕ} {B = Contents} (λ x. record m { ram = ram; taken = x }) b
+    ∙ ap {A = List ℕ} {B = Contents} (λ x. record m { ram = ram; taken = taken; output = x }) c
+    ∙ ap {A = List Bool} {B = Contents} (λ x. record m { ram = ram; taken = taken; output = output; pending = x }) d
+    ∙ ap {A = Timer} {B = Contents} (λ x. record { ram = ram; taken = taken; output = output; pending = pending; timer = x }) e
+
+counts : (m n : Contents) → m.timer.count ≢ 1 → DoesUnnoted (tick m.timer) (outside_of m []) (outside_of n []) n.timer → n.taken ≡ m.taken → n ≡ counted_down m
+counts m n h d same =
+    let is = falls m.timer.count m.timer.reload h in
+    let result = d.result ∙ ap (λ a. result_of a (outside_of m [])) is in
+    let outside = d.outside ∙ ap (λ a. after a (outside_of m [])) is in
+    contents_are n _ _ _ _ _ (ap (λ (o : Outside). o.ram) outside) same (ap (λ (o : Outside). o.output) outside) (ap (λ (o : Outside). o.pending) outside) result
+
+pub memory_counts : {pages : ℕ} (m n : Physical pages) → CountsDown m → ((bytes : List ℕ) → DoesUnnoted (tick m.phys.timer) (outside_of m.phys bytes) (outside_of n.phys bytes) n.phys.timer)
+    → n.phys.taken ≡ m.phys.taken → n.mmu ≡ m.mmu → n ≡ record m { phys = counted_down m.phys }
+memory_counts {pages} m n h d same mmu =
+    ap {A = Contents} {B = Physical pages} (λ x. record n { phys = x }) (counts m.phys n.phys h (d []) same) ∙ ap {A = Mmu} {B = Physical pages} (λ x. record { phys = counted_down m.phys; mmu = x }) mmu
+
+-- ---- an ordinary step
+
+-- a word of RAM is fetched at an address that is not translated
+fetch : (limit : ℕ) (u : Units) (o : Outside) (supervisor : Bool) (at value : ℕ) → translates u.mmu ≡ false → nat_lt at limit ≡ true → DoesUnnoted (ram_load Word at) o o value
+    → DoesUnnoted (access limit u (Fetch supervisor at)) o o (served u value)
+unfolding access
+fetch limit u o supervisor at value off inside d =
+    let asi = instruction_space supervisor in
+    made_untranslated (keeping false false) limit u InstructionAccessException asi (load_type asi) Ram at (λ v. fetched_from limit v asi at) o o (served u value) no_notes no_notes off
+    (fetched_word (keeping false false) limit u o o no_notes no_notes asi at at value (served u value) no_notes inside d refl refl)
+
+data_is_virtual : (supervisor : Bool) → space_of (if supervisor then 0x0b else 0x0a) ≡ Virtual
+unfolding space_of
+data_is_virtual true = refl
+data_is_virtual false = refl
+
+-- a load from RAM at an address that is not translated
+load : (limit : ℕ) (u : Units) (o : Outside) (size : Size) (p : Processor) (at value : ℕ) → translates u.mmu ≡ false → at < limit → limit ≤ 0x1000_0000 → DoesUnnoted (ram_load size at) o o value
+    → DoesUnnoted (access limit u (Load size (data_space p) at)) o o (served u value)
+unfolding access
+load limit u o size p at value off inside small d =
+    let asi = data_space p in
+    rw (data_is_virtual p.registers.psr.s)
+    (made_untranslated (keeping false false) limit u DataAccessException asi (load_type asi) (reach_of size) at (λ v. loaded_from limit v size asi at) o o (served u value) no_notes no_notes off
+    (loaded_from_ram (keeping false false) limit u o o no_notes no_notes size asi at at (served u value) inside small
+    (loaded_word (keeping false false) limit u o no_notes no_notes no_notes size asi at at value (served u value) inside d refl refl)))
+
+-- RAM answers a store
+ram_stores : (limit : ℕ) (u : Units) (o : Outside) (size : Size) (asi va at value : ℕ) → nat_lt at limit ≡ true → result_of (stored_at limit u size asi value va at) o ≡ served u 0
+unfolding stored_at ◌>>=◌
+ram_stores limit u o Byte asi va at value inside = rw inside refl
+ram_stores limit u o Half asi va at value inside = rw inside refl
+ram_stores limit u o Word asi va at value inside = rw inside refl
+ram_stores limit u o Double asi va at value inside = rw inside refl
+
+-- .. at an address that is not translated
+stores : (limit : ℕ) (u : Units) (o : Outside) (size : Size) (p : Processor) (at value : ℕ) → translates u.mmu ≡ false → nat_lt at limit ≡ true
+    → result_of (access limit u (Store size (data_space p) at value)) o ≡ served u 0
+unfolding access at_virtual translate ◌>>=◌
+stores limit u o size p at value off inside = rw (data_is_virtual p.registers.psr.s, off) (ram_stores limit u o size (data_space p) at at value inside)
+
+module _ (windows limit : ℕ) (m : Inner) (o : Outside) where
+  -- no interrupt is taken, and no slot is annulled
+  uninterrupted : (et : Bool) (y : Inner) (o1 : Outside) → m.processor.registers.psr.et ≡ et → m.processor.annul ≡ false
+      → (m.processor.registers.psr.et ≡ true → asked (unmasked m.processor.registers.psr.pil) o.pending ≡ 0)
+      → DoesUnnoted (instruction windows limit m) o o1 y → DoesUnnoted (interruptible windows limit m) o o1 y
+  unfolding interruptible requested continued
+  uninterrupted true y o1 on unannulled unasked d =
+      interruptible_by (keeping false false) windows limit m o o o1 no_notes no_notes no_notes y (unmasked m.processor.registers.psr.pil) 0 on refl
+      (record { result = sym (unasked on); outside = refl; noted = refl })
+      (does_if_false (keeping false false) m.processor.annul _ _ o o1 y no_notes no_notes unannulled d)
+  uninterrupted false y o1 off unannulled unasked d =
+      does_if_false (keeping false false) m.processor.registers.psr.et _ _ o o1 y no_notes no_notes off
+      (does_if_false (keeping false false) m.processor.annul _ _ o o1 y no_notes no_notes unannulled d)
+
+module _ (windows pages : ℕ) (schedule : Schedule) (n : ℕ) (p : Processor) (m : Physical pages) where
+  -- a word is fetched, and nothing else happens
+  pub ordinary : (value word : ℕ) → pokes_of_step n schedule.pokes ≡ [] → requests_of_step n schedule.requests ≡ [] → p.running ≡ true → p.annul ≡ false → CountsDown m
+      → (p.registers.psr.et ≡ true → asked (unmasked p.registers.psr.pil) m.phys.pending ≡ 0) → translates m.mmu ≡ false → nat_lt p.pc (ram_size pages) ≡ true
+      → ((bytes : List ℕ) → DoesUnnoted (ram_load Word p.pc) (outside_of m.phys bytes) (outside_of m.phys bytes) value)
+      → word ≡ low_word value → IsOrdinary windows pages schedule n (state_over p m) word
+  unfolding step action
+  ordinary value word pokes requests runs unannulled counting unasked off inside loaded is =
+      let bytes = arrived (n + 1) schedule in
+      let limit = ram_size pages in
+      let o = outside_of m.phys bytes in
+      let now = inner_of (timed (state_over p m)) in
+      let a = carried_out windows limit now (low_word value) in
+      let y = result_of a o in
+      let o1 = after a o in
+      let made : DoesUnnoted a o o1 y = record { result = refl; outside = refl; noted = refl } in
+      let instruction = instruction_by (keeping false false) windows limit now o o o1 no_notes no_notes no_notes y (Fetch p.registers.psr.s p.pc) (served now.units value) refl
+      (fetch limit now.units o p.registers.psr.s p.pc value off inside (loaded bytes)) made in
+      let timer : DoesUnnoted (tick m.phys.timer) o o now.units.timer =
+      rw (falls m.phys.timer.count m.phys.timer.reload counting) (record { result = refl; outside = refl; noted = refl }) in
+      let awake = awake_by (keeping false false) windows limit (inner_of (state_over p m)) o o o1 no_notes no_notes no_notes y now.units.timer now refl timer
+      (uninterrupted windows limit now o p.registers.psr.et y o1 refl unannulled unasked instruction) in
+      let all = does_if_true (keeping false false) p.running _ _ o o1 y no_notes no_notes runs awake in
+      rw (is, sym (quiet schedule n m.phys pokes requests))
+      (ap (λ z. left_by z m.phys o (after (action windows limit (inner_of (state_over p m))) o)) (sym all.result) ∙ ap (λ w. left_by y m.phys o w) (sym all.outside))
+
+-- ---- what is carried out
+
+module _ (windows : ℕ) {pages : ℕ} (word : ℕ) (p q : Processor) (m : Physical pages) where
+  abbrev later : Physical pages
+  later = record m { phys = counted_down m.phys }
+
+  -- an instruction that makes no access
+  pub plainly_carried_out : (m' : Physical pages) → IsPlain windows p (meaning word) q → m' ≡ record m { phys = counted_down m.phys } → IsCarriedOut windows word p m q m'
+  plainly_carried_out m' plain is = rw is (record {
+    done = λ bytes. carried_out_plainly (keeping false false) windows (ram_size pages) (inner_of (timed (state_over p m))) (outside_of m.phys bytes) no_notes word q (inner_of (state_over q later)) plain refl;
+    taken = refl;
+    mmu = refl;
+  })
+
+  module _ (op : MemoryOp) (size : Size) (rd rs1 : ℕ) (operand : Operand) (at value : ℕ) (word_is : Memory op rd rs1 operand ≡ meaning word) (place : at ≡ sum_of_sources windows p rs1 operand)
+      (untrapped : taken (memory_traps op rd at) ≡ None) (placed : IsPlaced m) (is : q ≡ transferred_data windows p op rd value) where
+    -- an access that is answered with a value
+    answers : (o o1 : Outside) (a : AccessRequest) (m' : Physical pages) → access_of windows p op (data_space p) rd at ≡ a
+        → DoesUnnoted (access (ram_size pages) (units_of later) a) o o1 (record { response = Value value; units = units_of m' })
+        → DoesUnnoted (carried_out windows (ram_size pages) (inner_of (timed (state_over p m))) word) o o1 (inner_of (state_over q m'))
+    answers o o1 a m' asks d =
+        carried_out_by (keeping false false) windows (ram_size pages) (inner_of (timed (state_over p m))) o o1 no_notes no_notes no_notes word (Memory op rd rs1 operand) a
+        (record { response = Value value; units = units_of m' }) (inner_of (state_over q m')) word_is (rw (← place) untrapped) (rw (← place) (sym asks)) d refl (rw is refl)
+
+    -- a load from RAM
+    pub load_carried_out : (m' : Physical pages) → access_of windows p op (data_space p) rd at ≡ Load size (data_space p) at → at < ram_size pages → ram_size pages ≤ 0x1000_0000
+        → ((bytes : List ℕ) → DoesUnnoted (ram_load size at) (outside_of m.phys bytes) (outside_of m.phys bytes) value) → m' ≡ record m { phys = counted_down m.phys } → IsCarriedOut windows word p m q m'
+    load_carried_out m' asks inside small loaded next = rw next (record {
+      done = λ bytes. answers (outside_of m.phys bytes) (outside_of m.phys bytes) (Load size (data_space p) at) later asks
+          (load (ram_size pages) (units_of later) (outside_of m.phys bytes) size p at value placed.untranslated inside small (loaded bytes));
+      taken = refl;
+      mmu = refl;
+    })
+
+    -- a store to RAM
+    pub store_carried_out : (m' : Physical pages) (stored : ℕ) (r : Response) → access_of windows p op (data_space p) rd at ≡ Store size (data_space p) at stored → nat_lt at (ram_size pages) ≡ true
+        → value ≡ 0
+        → ((bytes : List ℕ) → DoesUnnoted (access (ram_size pages) (units_of later) (Store size (data_space p) at stored)) (outside_of m.phys bytes) (outside_of m'.phys bytes) (record { response = r; units = units_of m' }))
+        → m'.phys.taken ≡ m.phys.taken → IsCarriedOut windows word p m q m'
+    store_carried_out m' stored r asks inside none d same =
+        let answer : (bytes : List ℕ) → record { response = r; units = units_of m' } ≡ served (units_of later) value =
+        λ bytes. (d bytes).result ∙ stores (ram_size pages) (units_of later) (outside_of m.phys bytes) size p at stored placed.untranslated inside ∙ ap (served (units_of later)) (sym none) in
+        record {
+          done = λ bytes. answers (outside_of m.phys bytes) (outside_of m'.phys bytes) (Store size (data_space p) at stored) m' asks (record {
+            result = ap (λ x. record { response = x; units = units_of m' }) (sym (ap (λ (s : Served). s.response) (answer bytes))) ∙ (d bytes).result;
+            outside = (d bytes).outside;
+            noted = (d bytes).noted;
+          });
+          taken = same;
+          mmu = ap (λ (s : Served). s.units.mmu) (answer []);
+        }
+
+-- ---- the register that a load leaves
+
+-- both values leave the same, which %g0 always is
+pub left_the_same : (windows rd a b : ℕ) (op : MemoryOp) (p : Processor) → ((value : ℕ) → transferred_data windows p op rd value ≡ with_result windows p rd (low_word value)) → (rd ≡ 0) ⊎ (a ≡ b)
+    → transferred_data windows p op rd a ≡ transferred_data windows p op rd b
+unfolding with_result
+left_the_same windows rd a b op p low (inl none) = low a ∙ rw none refl ∙ sym (low b)
+left_the_same windows rd a b op p low (inr same) = ap (transferred_data windows p op rd) same

@@ -1,0 +1,53 @@
+-- Steps of two machines with the same processor, made as one.
+use Rattle.std.specs.Prelude.{◌≡◌, ◌≢◌, ℕ, ◌+◌, ◌-◌, Bool, true, false, List}
+use Rattle.sv8_model.specs.Does.{DoesUnnoted}
+use Rattle.sv8_time.specs.Schedule.{Schedule}
+use Rattle.sv8_phys.specs.Contents.{Contents, arrived, outside_of}
+use Rattle.sv8_phys.specs.Memory.{ram_size}
+use Rattle.sv8_mmu.specs.Registers.{translates}
+use Rattle.sv8_trap.specs.Processor.{Processor}
+use Rattle.sv8_memory.specs.declared.physical.Physical.{Physical}
+use Rattle.sv8_cpu.specs.Step.{carried_out}
+use Rattle.sv8_cpu.specs.State.{State, inner_of}
+use Rattle.sv8_cpu.specs.Run.{acted_on, step}
+
+-- the state of a processor over a memory
+abbrev pub state_over : {pages : ℕ} → Processor → Physical pages → State
+state_over p m = record { processor = p; mmu = m.mmu; memory = m.phys }
+
+-- a state with the processor of another one
+abbrev pub lent : State → State → State
+lent s t = record t { processor = s.processor }
+
+-- the timer a step on, where that is no expiry: a count of 0 stays
+abbrev pub counted_down : Contents → Contents
+counted_down m = record m { timer = record m.timer { count = m.timer.count - 1 } }
+
+abbrev pub timed : State → State
+timed s = record s { memory = counted_down s.memory }
+
+-- step n is an ORDINARY one: the timer is a step on, the instruction of a word is carried out, and nothing else happens
+abbrev pub IsOrdinary : ℕ → ℕ → Schedule → ℕ → State → ℕ → Type 0
+IsOrdinary windows pages schedule n s word =
+    step windows pages schedule n s ≡ acted_on (arrived (n + 1) schedule) (timed s) (carried_out windows (ram_size pages) (inner_of (timed s)) word)
+
+-- the timer does not expire in the next step
+abbrev pub CountsDown : {pages : ℕ} → Physical pages → Type 0
+CountsDown m = m.phys.timer.count ≢ 1
+
+-- ordinary steps can be made of a memory: its timer does not expire, and addresses are not translated
+pub record IsPlaced {pages : ℕ} (m : Physical pages) : Type 0 where
+  pub counting : CountsDown m
+  pub untranslated : translates m.mmu ≡ false
+
+-- a word was carried out, which made of a processor and a memory whose timer is a step on others
+pub record IsCarriedOut (windows : ℕ) {pages : ℕ} (word : ℕ) (p : Processor) (m : Physical pages) (q : Processor) (m' : Physical pages) : Type 0 where
+  pub done : (bytes : List ℕ) → DoesUnnoted (carried_out windows (ram_size pages) (inner_of (timed (state_over p m))) word)
+      (outside_of m.phys bytes) (outside_of m'.phys bytes) (inner_of (state_over q m'))
+  pub taken : m'.phys.taken ≡ m.phys.taken
+  pub mmu : m'.mmu ≡ m.mmu
+
+-- .. or nothing was done
+abbrev pub MayBeCarriedOut : ℕ → {pages : ℕ} → ℕ → Processor → Physical pages → Processor → Physical pages → Bool → Type 0
+MayBeCarriedOut windows word p m q m' true = IsCarriedOut windows word p m q m'
+MayBeCarriedOut windows word p m q m' false = (q ≡ p) × (m' ≡ m)

@@ -1,0 +1,317 @@
+//! A step of two machines that have the same processor, made as one where both carry out the same instruction and nothing else
+//! happens.
+
+ghost use Rattle.std.specs.Prelude.{◌≡◌, ℕ, ◌+◌, ◌%◌, ◌<◌, ◌≤◌, ◌⊎◌, nat_lt, true, false, None, MatchBool, IfOk, IfSome, OnOk, OnErr};
+ghost use Rattle.sv8_model.specs.Levels.{asked};
+ghost use Rattle.sv8_time.specs.Schedule.{bytes_below};
+ghost use Rattle.sv8_phys.specs.Memory.{bytes_in, ram_size};
+ghost use Rattle.sv8_isa.specs.Table.{meaning};
+ghost use Rattle.sv8_trap.specs.Interrupt.{unmasked};
+ghost use Rattle.sv8_trap.specs.Table.{taken};
+ghost use Rattle.sv8_regs.specs.Ring.{read};
+ghost use Rattle.sv8_iu.specs.Instruction.{data_space};
+ghost use Rattle.sv8_trap.specs.Processor.{advanced, with_result};
+ghost use Rattle.sv8_iu.specs.Memory.{access_of, low_word, memory_traps, transferred_data};
+ghost use Rattle.sv8_iu.specs.Operands.{sum_of_sources};
+ghost use Rattle.sv8_cpu.specs.Run.{step};
+ghost use Rattle.sv8_cpu.specs.Work.{counted};
+ghost use Rattle.sv8_cpu.specs.Whole.{state_of};
+ghost use Rattle.sv8_cpu.specs.Lockstep.{state_over, counted_down, lent, CountsDown, IsOrdinary, IsPlaced, MayBeCarriedOut};
+
+use crate::machine::Machine;
+use crate::parts::Parts;
+use crate::work::Work;
+use std::alloc::AllocError;
+use sv8_isa::{Group, Instr, MemoryOp, Operand, decode_memory, group};
+use sv8_iu::{
+    AccessRequest, carry_out_plainly, data_space, finish_access, low_word, memory_trap,
+    sum_of_sources,
+};
+use sv8_memory::Memory;
+use sv8_phys::{NoTouches, Size};
+use sv8_time::Timeline;
+use sv8_trap::Processor;
+
+/// Whether an interrupt may be taken: traps are enabled, and a level is pending that is not masked (section 7.5).
+#[inline(always)]
+fn may_be_interrupted<const NW: usize, const PAGES: usize>(
+    p: &Processor<NW>,
+    memory: &Memory<PAGES>,
+) -> Result<bool, AllocError>
+    ensures { IfOk result (λ may. may ≡ false → p.now.registers.psr.et ≡ true → asked (unmasked p.now.registers.psr.pil) memory.now.phys.pending ≡ 0) }
+{
+    if !p.registers().psr().et {
+        return Ok(false);
+    }
+    let pending = memory.pending_among(p.unmasked_levels(), &mut NoTouches)?;
+    if pending == 0 { Ok(false) } else { Ok(true) }
+}
+
+/// The word of the instruction that step n carries out, where nothing else happens in it (no event, expiry, interrupt or annulled
+/// slot), and it is fetched from RAM by an address that is not translated.
+#[inline(always)]
+fn ordinary_word<const NW: usize, const PAGES: usize>(
+    p: &Processor<NW>,
+    memory: &Memory<PAGES>,
+    n: u32,
+    timeline: &Timeline,
+) -> Result<Option<u32>, AllocError>
+    ensures ordinary { IfOk result (λ found. IfSome found (λ word. IsOrdinary NW PAGES timeline.now n (state_over p.now memory.now) word)) }
+    ensures placed { IfOk result (λ found. IfSome found (λ word. IsPlaced memory.now)) }
+{
+    if timeline.may_have_events(n) || memory.translates() {
+        return Ok(None);
+    }
+    if !p.is_running() || p.annul() || memory.phys().timer().count == 1 {
+        return Ok(None);
+    }
+    if may_be_interrupted(p, memory)? {
+        return Ok(None);
+    }
+    let at = u64::from(p.pc());
+    if !memory.phys().is_ram(at) {
+        return Ok(None);
+    }
+    let value = memory.phys().read_ram(at, Size::Word, &mut NoTouches)?;
+    Ok(Some(low_word(value)))
+}
+
+/// A step of a timer that does not expire.
+#[inline(always)]
+fn count_down<const PAGES: usize>(memory: &mut Memory<PAGES>) -> Result<(), AllocError>
+    requires { CountsDown memory.old }
+    ensures { OnOk result (memory.new ≡ record memory.old { phys = counted_down memory.old.phys }) }
+{
+    memory.tick(&mut NoTouches)?;
+    Ok(())
+}
+
+/// Whether a register is the same behind both loaded values: %g0 always is.
+#[inline(always)]
+fn leave_the_same(rd: u8, value: u64, other_value: u64) -> bool
+    ensures { result ≡ true → (rd ≡ 0) ⊎ (value ≡ other_value) }
+{
+    rd == 0 || value == other_value
+}
+
+/// Loads from both memories and completes a load of a word or a byte, where both give the same or it goes to %g0.
+#[inline(always)]
+fn load_both<const NW: usize, const PAGES: usize>(
+    p: &mut Processor<NW>,
+    memory: &mut Memory<PAGES>,
+    other: &mut Memory<PAGES>,
+    op: MemoryOp,
+    size: Size,
+    rd: u8,
+    at: u32,
+) -> Result<bool, AllocError>
+    requires load { access_of NW p.old op (data_space p.old) rd at ≡ AccessRequest.Load size (data_space p.old) at }
+    requires low { (value : ℕ) → transferred_data NW p.old op rd value ≡ with_result NW p.old rd (low_word value) }
+    requires rd { rd < 32 }
+    requires aligned { at % bytes_in size ≡ 0 }
+    requires within { at < ram_size PAGES }
+    requires small { ram_size PAGES ≤ 0x1000_0000 }
+    requires no_trap { taken (memory_traps op rd at) ≡ None }
+    requires placed { IsPlaced memory.old }
+    requires other_placed { IsPlaced other.old }
+    ensures own { IfOk result (λ done. (word rs1 : ℕ) (operand : Operand) → Instr.Memory op rd rs1 operand ≡ meaning word
+        → at ≡ sum_of_sources NW p.old rs1 operand → MayBeCarriedOut NW word p.old memory.old p.new memory.new done) }
+    ensures others { IfOk result (λ done. (word rs1 : ℕ) (operand : Operand) → Instr.Memory op rd rs1 operand ≡ meaning word
+        → at ≡ sum_of_sources NW p.old rs1 operand → MayBeCarriedOut NW word p.old other.old p.new other.new done) }
+{
+    let pa = u64::from(at);
+    let value = memory.phys().read_ram(pa, size, &mut NoTouches)?;
+    let other_value = other.phys().read_ram(pa, size, &mut NoTouches)?;
+    if !leave_the_same(rd, value, other_value) {
+        return Ok(false);
+    }
+    count_down(memory)?;
+    count_down(other)?;
+    finish_access(p, op, rd, value);
+    Ok(true)
+}
+
+/// Stores to both memories and completes a store of a word or a byte.
+#[inline(always)]
+fn store_both<const NW: usize, const PAGES: usize>(
+    p: &mut Processor<NW>,
+    memory: &mut Memory<PAGES>,
+    other: &mut Memory<PAGES>,
+    op: MemoryOp,
+    size: Size,
+    rd: u8,
+    at: u32,
+) -> Result<bool, AllocError>
+    requires store { access_of NW p.old op (data_space p.old) rd at ≡ AccessRequest.Store size (data_space p.old) at (read NW p.old.registers rd) }
+    requires simple { (value : ℕ) → transferred_data NW p.old op rd value ≡ advanced p.old }
+    requires rd { rd < 32 }
+    requires aligned { at % bytes_in size ≡ 0 }
+    requires within { nat_lt at (ram_size PAGES) ≡ true }
+    requires no_trap { taken (memory_traps op rd at) ≡ None }
+    requires placed { IsPlaced memory.old }
+    requires other_placed { IsPlaced other.old }
+    ensures own { IfOk result (λ done. (word rs1 : ℕ) (operand : Operand) → Instr.Memory op rd rs1 operand ≡ meaning word
+        → at ≡ sum_of_sources NW p.old rs1 operand → MayBeCarriedOut NW word p.old memory.old p.new memory.new done) }
+    ensures others { IfOk result (λ done. (word rs1 : ℕ) (operand : Operand) → Instr.Memory op rd rs1 operand ≡ meaning word
+        → at ≡ sum_of_sources NW p.old rs1 operand → MayBeCarriedOut NW word p.old other.old p.new other.new done) }
+{
+    count_down(memory)?;
+    count_down(other)?;
+    let asi = data_space(p);
+    let value = u64::from(p.registers().get(u32::from(rd)));
+    memory.store_data::<false, NoTouches>(size, asi, at, value, &mut NoTouches)?;
+    other.store_data::<false, NoTouches>(size, asi, at, value, &mut NoTouches)?;
+    finish_access(p, op, rd, 0);
+    Ok(true)
+}
+
+/// Carries a load or a store of a word or a byte out in both memories, if it raises no trap before its access and is one of RAM.
+#[inline(always)]
+#[tactic(auto, using(sv8_iu::proofs::Choices::aligned_access), unfolding(sv8_iu::specs::Memory::access_of, sv8_iu::specs::Memory::transferred_data))]
+fn transfer_both<const NW: usize, const PAGES: usize>(
+    p: &mut Processor<NW>,
+    memory: &mut Memory<PAGES>,
+    other: &mut Memory<PAGES>,
+    word: u32,
+) -> Result<bool, AllocError>
+    requires placed { IsPlaced memory.old }
+    requires other_placed { IsPlaced other.old }
+    ensures own { IfOk result (MayBeCarriedOut NW word p.old memory.old p.new memory.new) }
+    ensures others { IfOk result (MayBeCarriedOut NW word p.old other.old p.new other.new) }
+{
+    match decode_memory(word) {
+        Some(
+            Instr::Memory {
+                op,
+                rd,
+                rs1,
+                operand,
+            },
+        ) => {
+            let at = sum_of_sources(p, rs1, operand);
+            if memory_trap(op, rd, at).is_some() || memory.phys().ram_size() <= u64::from(at) {
+                return Ok(false);
+            }
+            match op {
+                MemoryOp::Ld => load_both(p, memory, other, MemoryOp::Ld, Size::Word, rd, at),
+                MemoryOp::Ldub => load_both(p, memory, other, MemoryOp::Ldub, Size::Byte, rd, at),
+                MemoryOp::St => store_both(p, memory, other, MemoryOp::St, Size::Word, rd, at),
+                MemoryOp::Stb => store_both(p, memory, other, MemoryOp::Stb, Size::Byte, rd, at),
+                _ => Ok(false),
+            }
+        }
+        _ => Ok(false),
+    }
+}
+
+/// Carries a word out over both memories, if its instruction is a frequent one and does the same to the processor. Tells
+/// whether it has; where it has not, nothing has changed.
+#[inline(always)]
+fn carry_out_both<const NW: usize, const PAGES: usize>(
+    p: &mut Processor<NW>,
+    memory: &mut Memory<PAGES>,
+    other: &mut Memory<PAGES>,
+    word: u32,
+) -> Result<bool, AllocError>
+    requires placed { IsPlaced memory.old }
+    requires other_placed { IsPlaced other.old }
+    ensures own { IfOk result (MayBeCarriedOut NW word p.old memory.old p.new memory.new) }
+    ensures others { IfOk result (MayBeCarriedOut NW word p.old other.old p.new other.new) }
+{
+    match group(word) {
+        Group::Memory => {
+            let done = transfer_both(p, memory, other, word)?;
+            Ok(done)
+        }
+        _ => {
+            if !carry_out_plainly(p, word) {
+                return Ok(false);
+            }
+            count_down(memory)?;
+            count_down(other)?;
+            Ok(true)
+        }
+    }
+}
+
+/// Makes step n of two machines, where both are ordinary steps that carry out the same frequent instruction. The second machine
+/// is taken to have the processor of the first. Tells whether it has; where it has not, nothing has changed.
+#[inline(always)]
+fn step_both<const NW: usize, const PAGES: usize>(
+    parts: &mut Parts<NW, PAGES>,
+    other: &mut Parts<NW, PAGES>,
+    n: u32,
+    timeline: &Timeline,
+    other_timeline: &Timeline,
+) -> Result<bool, AllocError>
+    requires delivered { parts.old.memory.phys.taken ≤ bytes_below n timeline.now.inputs }
+    requires other_delivered { other.old.memory.phys.taken ≤ bytes_below n other_timeline.now.inputs }
+    ensures own { IfOk result (λ made. MatchBool made (state_of parts.new ≡ step NW PAGES timeline.now n (state_of parts.old)) (parts.new ≡ parts.old)) }
+    ensures others { IfOk result (λ made. MatchBool made
+        (state_over parts.new.processor other.new.memory ≡ step NW PAGES other_timeline.now n (state_over parts.old.processor other.old.memory)) (other.new ≡ other.old)) }
+    ensures units { OnOk result ((parts.new.memory.mmu ≡ parts.old.memory.mmu) × (other.new.memory.mmu ≡ other.old.memory.mmu)) }
+{
+    let p = &mut parts.processor;
+    let memory = &mut parts.memory;
+    let found = ordinary_word(p, memory, n, timeline)?;
+    let also = ordinary_word(p, &other.memory, n, other_timeline)?;
+    match (found, also) {
+        (Some(word), Some(same)) => {
+            if word != same {
+                return Ok(false);
+            }
+            let made = carry_out_both(p, memory, &mut other.memory, word)?;
+            Ok(made)
+        }
+        _ => Ok(false),
+    }
+}
+
+impl<const NW: usize, const PAGES: usize> Machine<NW, PAGES> {
+    /// Makes step n of this machine and of another one as one, where both are ordinary steps that carry out the same frequent
+    /// instruction. The other machine is taken to have the processor of this one, which it does not look at and does not
+    /// change: `copy_processor` gives it to it. Tells whether the steps were made; where they were not, nothing has changed.
+    ///
+    /// # Errors
+    ///
+    /// `AllocError` where memory for a page that is shared cannot be had. What both machines are then is not said.
+    #[inline(always)]
+    pub fn pass_in_lockstep(
+        &mut self,
+        other: &mut Machine<NW, PAGES>,
+        n: u32,
+        timeline: &Timeline,
+        other_timeline: &Timeline,
+        work: &mut Work,
+        other_work: &mut Work,
+    ) -> Result<bool, AllocError>
+        requires delivered { self.old.memory.taken ≤ bytes_below n timeline.now.inputs }
+        requires other_delivered { other.old.memory.taken ≤ bytes_below n other_timeline.now.inputs }
+        ensures made { IfOk result (λ made. MatchBool made (self.new ≡ step NW PAGES timeline.now n self.old) (self.new ≡ self.old)) }
+        ensures others_made { IfOk result (λ made. MatchBool made (lent self.new other.new ≡ step NW PAGES other_timeline.now n (lent self.old other.old)) (other.new ≡ other.old)) }
+        ensures units { OnOk result ((self.new.mmu ≡ self.old.mmu) × (other.new.mmu ≡ other.old.mmu)) }
+        ensures counted { IfOk result (λ made. MatchBool made (work.new ≡ counted work.old) (work.new ≡ work.old)) }
+        ensures others_counted { IfOk result (λ made. MatchBool made (other_work.new ≡ counted other_work.old) (other_work.new ≡ other_work.old)) }
+        ensures uncounted { OnErr result ((work.new ≡ work.old) × (other_work.new ≡ other_work.old)) }
+    {
+        let made = step_both(
+            &mut self.parts,
+            &mut other.parts,
+            n,
+            timeline,
+            other_timeline,
+        )?;
+        if made {
+            work.raise();
+            other_work.raise();
+        }
+        Ok(made)
+    }
+
+    /// Takes the processor of another machine over.
+    pub fn copy_processor(&mut self, other: &Machine<NW, PAGES>)
+        ensures { self.new ≡ lent other.now self.old }
+    {
+        self.parts.processor = other.parts.processor.copy();
+    }
+}
