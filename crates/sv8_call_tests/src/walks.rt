@@ -1,5 +1,7 @@
 //! A walk through the steps of a workbench's run.
 
+ghost use Rattle.std.specs.Prelude.{◌<◌};
+
 use std::alloc::{AllocError, Global};
 use std::test::Fail;
 use sv8_bench::Bench;
@@ -51,11 +53,18 @@ fn a_walk_is_recorded_as_it_goes(rt: HostRuntime) -> Result<(), Fail> {
     Ok(())
 }
 
-/// Where a walk over each of two workbenches comes to, which go on together from step 0 as long as they can, below step 600.
-fn together(alloc: Global, bench: &mut Small, other: &mut Small) -> Result<u32, AllocError> {
+/// Where a walk over each of two workbenches comes to, which go on together from a step as long as they can, below step 600.
+fn together(
+    alloc: Global,
+    bench: &mut Small,
+    other: &mut Small,
+    from: u32,
+) -> Result<u32, AllocError>
+    requires { from < 600 }
+{
     let mut watch = Watch::new(alloc);
-    let mut walk = bench.walk(0, &mut watch)?;
-    let mut other_walk = other.walk(0, &mut watch)?;
+    let mut walk = bench.walk(from, &mut watch)?;
+    let mut other_walk = other.walk(from, &mut watch)?;
     if !other_walk.machine().has_same_processor(walk.machine()) {
         return Ok(600);
     }
@@ -66,15 +75,15 @@ fn together(alloc: Global, bench: &mut Small, other: &mut Small) -> Result<u32, 
     Ok(other_walk.step())
 }
 
-/// The same of a workbench over some lines and of another one over others, of which 512 steps are recorded; and how many steps
-/// were made for the second one.
+/// The same from step 0 on, of a workbench over some lines and of another one over others, of which 512 steps are recorded; and
+/// how many steps were made for the second one.
 fn come_to(alloc: Global, own: &[&[u8]], others: &[&[u8]]) -> Result<(u32, u64), Fail> {
     let mut bench = with_lines(alloc, own)?;
     let mut other = with_lines(alloc, others)?;
     let mut watch = Watch::new(alloc);
     let _ = bench.walk(512, &mut watch)?;
     let _ = other.walk(512, &mut watch)?;
-    let step = together(alloc, &mut bench, &mut other)?;
+    let step = together(alloc, &mut bench, &mut other, 0)?;
     Ok((step, other.worked()))
 }
 
@@ -128,6 +137,36 @@ fn walks_part_in_front_of_an_event(rt: HostRuntime) -> Result<(), Fail> {
     let _ = bench.walk(512, &mut watch)?;
     let _ = other.walk(512, &mut watch)?;
     other.set_poke(100, 0x100, 7)?;
-    assert!(rt; together(alloc, &mut bench, &mut other)? == 100);
+    assert!(rt; together(alloc, &mut bench, &mut other, 0)? == 100);
+    Ok(())
+}
+
+/// Lines that map all addresses to themselves by a page of 16 MiB, turn translation on, and store again and again.
+const MAPPED: &[&[u8]] = &[
+    b"mov 0x100, %g1",
+    b"mov 0x80, %g3",
+    b"sta %g3, [%g1]4",
+    b"mov 1, %g2",
+    b"sta %g2, [%g0]4",
+    b"loop: st %g4, [%g0+0x400]",
+    b"ba loop",
+    b"inc %g4",
+    b".org 0x800",
+    b".word 0xc1",
+    b".org 0xc00",
+    b".word 0x1e",
+];
+
+/// Where addresses are translated, walks go on together once the pages are known and no mark is to be set.
+#[test]
+fn translated_walks_go_on_together(rt: HostRuntime) -> Result<(), Fail> {
+    let alloc = rt.alloc();
+    let mut bench = with_lines(alloc, MAPPED)?;
+    let mut other = with_lines(alloc, MAPPED)?;
+    let mut watch = Watch::new(alloc);
+    let _ = bench.walk(512, &mut watch)?;
+    let _ = other.walk(512, &mut watch)?;
+    assert!(rt; together(alloc, &mut bench, &mut other, 0)? == 2);
+    assert!(rt; together(alloc, &mut bench, &mut other, 20)? == 512);
     Ok(())
 }

@@ -1,11 +1,11 @@
 -- An ordinary step, and what is carried out in it over two memories.
-use Rattle.std.proofs.Common.{◌≡◌, ◌≢◌, ◌∙◌, ◌⊎◌, inl, inr, ◌+◌, ◌-◌, ◌<◌, ◌≤◌, ◌==◌, ℕ, zero, suc, Bool, true, false, nat_lt, None, List, [], if◌then◌else◌, refl, sym, ap, arith}
+use Rattle.std.proofs.Common.{◌≡◌, ◌≢◌, ◌∙◌, ◌⊎◌, inl, inr, ◌+◌, ◌-◌, ◌==◌, ℕ, zero, suc, Bool, true, false, None, List, [], refl, sym, ap, arith}
 use Rattle.std.proofs.lemmas.Bool.Decides.{nat_tests}
 use Rattle.sv8_isa.specs.declared.instr.Instr.TheVariants.{Memory}
 use Rattle.sv8_isa.specs.declared.instr.MemoryOp.{MemoryOp}
 use Rattle.sv8_isa.specs.declared.instr.Operand.{Operand}
 use Rattle.sv8_isa.specs.Table.{meaning}
-use Rattle.sv8_model.specs.Action.{done, result_of, after, ◌>>=◌}
+use Rattle.sv8_model.specs.Action.{done, result_of, after}
 use Rattle.sv8_model.proofs.Common.{does_if_true, does_if_false}
 use Rattle.sv8_model.specs.Does.{DoesUnnoted, keeping, no_notes}
 use Rattle.sv8_model.specs.Outside.{Outside}
@@ -14,15 +14,10 @@ use Rattle.sv8_time.specs.Schedule.{Schedule}
 use Rattle.sv8_time.specs.Schedule.{pokes_of_step, requests_of_step}
 use Rattle.sv8_phys.specs.declared.timer.Timer.{Timer}
 use Rattle.sv8_phys.specs.declared.size.Size.{Size}
-use Rattle.sv8_phys.specs.declared.size.Size.TheVariants.{Byte, Half, Word, Double}
-use Rattle.sv8_phys.specs.Devices.{ram_load, tick}
+use Rattle.sv8_phys.specs.Devices.{tick}
 use Rattle.sv8_phys.specs.Memory.{ram_size}
 use Rattle.sv8_phys.specs.Contents.{Contents, arrived, outside_of}
 use Rattle.sv8_mmu.specs.declared.registers.Mmu.{Mmu}
-use Rattle.sv8_mmu.specs.declared.translation.Reach.TheVariants.{Ram}
-use Rattle.sv8_mmu.specs.Registers.{translates}
-use Rattle.sv8_mmu.specs.Translation.{translate}
-use Rattle.sv8_trap.specs.declared.table.Trap.TheVariants.{InstructionAccessException, DataAccessException}
 use Rattle.sv8_trap.specs.Table.{taken}
 use Rattle.sv8_trap.specs.Processor.{Processor, with_result}
 use Rattle.sv8_trap.specs.Interrupt.{unmasked}
@@ -30,22 +25,19 @@ use Rattle.sv8_iu.specs.declared.request.AccessRequest.TheVariants.{Fetch, Load,
 use Rattle.sv8_iu.specs.declared.request.Response.{Response}
 use Rattle.sv8_iu.specs.declared.request.Response.TheVariants.{Value}
 use Rattle.sv8_iu.specs.declared.request.AccessRequest.{AccessRequest}
-use Rattle.sv8_iu.specs.declared.request.Space.TheVariants.{Virtual}
-use Rattle.sv8_iu.specs.Requests.{space_of}
 use Rattle.sv8_iu.specs.Operands.{sum_of_sources}
 use Rattle.sv8_iu.specs.Instruction.{data_space, IsPlain}
 use Rattle.sv8_iu.specs.Memory.{low_word, access_of, memory_traps, transferred_data}
 use Rattle.sv8_memory.specs.declared.physical.Physical.{Physical}
-use Rattle.sv8_memory.specs.Units.{Units, Served, served}
-use Rattle.sv8_memory.specs.Access.{access, instruction_space, load_type, fetched_from, loaded_from, stored_at, reach_of, at_virtual}
-use Rattle.sv8_memory.proofs.Accesses.{fetched_word, loaded_from_ram, loaded_word, made_untranslated}
+use Rattle.sv8_memory.specs.Units.{Served, served}
+use Rattle.sv8_memory.specs.Access.{access}
 use Rattle.sv8_memory.proofs.Poking.{quiet}
 use Rattle.sv8_cpu.specs.Step.{Inner, carried_out, instruction, continued, requested, interruptible, action}
 use Rattle.sv8_cpu.specs.State.{inner_of, left_by}
 use Rattle.sv8_cpu.specs.Run.{step}
 use Rattle.sv8_cpu.proofs.Steps.{carried_out_by, carried_out_plainly, instruction_by, interruptible_by, awake_by}
-use Rattle.sv8_memory.specs.View.{units_of}
-use Rattle.sv8_cpu.specs.Lockstep.{state_over, counted_down, timed, CountsDown, IsPlaced, IsCarriedOut, IsOrdinary}
+use Rattle.sv8_memory.specs.View.{timed_units, units_of}
+use Rattle.sv8_cpu.specs.Lockstep.{state_over, counted_down, timed, CountsDown, IsCarriedOut, IsOrdinary}
 
 -- ---- the timer
 
@@ -80,45 +72,6 @@ memory_counts {pages} m n h d same mmu =
 
 -- ---- an ordinary step
 
--- a word of RAM is fetched at an address that is not translated
-fetch : (limit : ℕ) (u : Units) (o : Outside) (supervisor : Bool) (at value : ℕ) → translates u.mmu ≡ false → nat_lt at limit ≡ true → DoesUnnoted (ram_load Word at) o o value
-    → DoesUnnoted (access limit u (Fetch supervisor at)) o o (served u value)
-unfolding access
-fetch limit u o supervisor at value off inside d =
-    let asi = instruction_space supervisor in
-    made_untranslated (keeping false false) limit u InstructionAccessException asi (load_type asi) Ram at (λ v. fetched_from limit v asi at) o o (served u value) no_notes no_notes off
-    (fetched_word (keeping false false) limit u o o no_notes no_notes asi at at value (served u value) no_notes inside d refl refl)
-
-data_is_virtual : (supervisor : Bool) → space_of (if supervisor then 0x0b else 0x0a) ≡ Virtual
-unfolding space_of
-data_is_virtual true = refl
-data_is_virtual false = refl
-
--- a load from RAM at an address that is not translated
-load : (limit : ℕ) (u : Units) (o : Outside) (size : Size) (p : Processor) (at value : ℕ) → translates u.mmu ≡ false → at < limit → limit ≤ 0x1000_0000 → DoesUnnoted (ram_load size at) o o value
-    → DoesUnnoted (access limit u (Load size (data_space p) at)) o o (served u value)
-unfolding access
-load limit u o size p at value off inside small d =
-    let asi = data_space p in
-    rw (data_is_virtual p.registers.psr.s)
-    (made_untranslated (keeping false false) limit u DataAccessException asi (load_type asi) (reach_of size) at (λ v. loaded_from limit v size asi at) o o (served u value) no_notes no_notes off
-    (loaded_from_ram (keeping false false) limit u o o no_notes no_notes size asi at at (served u value) inside small
-    (loaded_word (keeping false false) limit u o no_notes no_notes no_notes size asi at at value (served u value) inside d refl refl)))
-
--- RAM answers a store
-ram_stores : (limit : ℕ) (u : Units) (o : Outside) (size : Size) (asi va at value : ℕ) → nat_lt at limit ≡ true → result_of (stored_at limit u size asi value va at) o ≡ served u 0
-unfolding stored_at ◌>>=◌
-ram_stores limit u o Byte asi va at value inside = rw inside refl
-ram_stores limit u o Half asi va at value inside = rw inside refl
-ram_stores limit u o Word asi va at value inside = rw inside refl
-ram_stores limit u o Double asi va at value inside = rw inside refl
-
--- .. at an address that is not translated
-stores : (limit : ℕ) (u : Units) (o : Outside) (size : Size) (p : Processor) (at value : ℕ) → translates u.mmu ≡ false → nat_lt at limit ≡ true
-    → result_of (access limit u (Store size (data_space p) at value)) o ≡ served u 0
-unfolding access at_virtual translate ◌>>=◌
-stores limit u o size p at value off inside = rw (data_is_virtual p.registers.psr.s, off) (ram_stores limit u o size (data_space p) at at value inside)
-
 module _ (windows limit : ℕ) (m : Inner) (o : Outside) where
   -- no interrupt is taken, and no slot is annulled
   uninterrupted : (et : Bool) (y : Inner) (o1 : Outside) → m.processor.registers.psr.et ≡ et → m.processor.annul ≡ false
@@ -136,11 +89,12 @@ module _ (windows limit : ℕ) (m : Inner) (o : Outside) where
 module _ (windows pages : ℕ) (schedule : Schedule) (n : ℕ) (p : Processor) (m : Physical pages) where
   -- a word is fetched, and nothing else happens
   pub ordinary : (value word : ℕ) → pokes_of_step n schedule.pokes ≡ [] → requests_of_step n schedule.requests ≡ [] → p.running ≡ true → p.annul ≡ false → CountsDown m
-      → (p.registers.psr.et ≡ true → asked (unmasked p.registers.psr.pil) m.phys.pending ≡ 0) → translates m.mmu ≡ false → nat_lt p.pc (ram_size pages) ≡ true
-      → ((bytes : List ℕ) → DoesUnnoted (ram_load Word p.pc) (outside_of m.phys bytes) (outside_of m.phys bytes) value)
+      → (p.registers.psr.et ≡ true → asked (unmasked p.registers.psr.pil) m.phys.pending ≡ 0)
+      → ((timer : Timer) (bytes : List ℕ) → DoesUnnoted (access (ram_size pages) (timed_units m timer) (Fetch p.registers.psr.s p.pc)) (outside_of m.phys bytes) (outside_of m.phys bytes)
+      (served (timed_units m timer) value))
       → word ≡ low_word value → IsOrdinary windows pages schedule n (state_over p m) word
   unfolding step action
-  ordinary value word pokes requests runs unannulled counting unasked off inside loaded is =
+  ordinary value word pokes requests runs unannulled counting unasked fetched is =
       let bytes = arrived (n + 1) schedule in
       let limit = ram_size pages in
       let o = outside_of m.phys bytes in
@@ -150,7 +104,7 @@ module _ (windows pages : ℕ) (schedule : Schedule) (n : ℕ) (p : Processor) (
       let o1 = after a o in
       let made : DoesUnnoted a o o1 y = record { result = refl; outside = refl; noted = refl } in
       let instruction = instruction_by (keeping false false) windows limit now o o o1 no_notes no_notes no_notes y (Fetch p.registers.psr.s p.pc) (served now.units value) refl
-      (fetch limit now.units o p.registers.psr.s p.pc value off inside (loaded bytes)) made in
+      (fetched now.units.timer bytes) made in
       let timer : DoesUnnoted (tick m.phys.timer) o o now.units.timer =
       rw (falls m.phys.timer.count m.phys.timer.reload counting) (record { result = refl; outside = refl; noted = refl }) in
       let awake = awake_by (keeping false false) windows limit (inner_of (state_over p m)) o o o1 no_notes no_notes no_notes y now.units.timer now refl timer
@@ -174,7 +128,7 @@ module _ (windows : ℕ) {pages : ℕ} (word : ℕ) (p q : Processor) (m : Physi
   })
 
   module _ (op : MemoryOp) (size : Size) (rd rs1 : ℕ) (operand : Operand) (at value : ℕ) (word_is : Memory op rd rs1 operand ≡ meaning word) (place : at ≡ sum_of_sources windows p rs1 operand)
-      (untrapped : taken (memory_traps op rd at) ≡ None) (placed : IsPlaced m) (is : q ≡ transferred_data windows p op rd value) where
+      (untrapped : taken (memory_traps op rd at) ≡ None) (is : q ≡ transferred_data windows p op rd value) where
     -- an access that is answered with a value
     answers : (o o1 : Outside) (a : AccessRequest) (m' : Physical pages) → access_of windows p op (data_space p) rd at ≡ a
         → DoesUnnoted (access (ram_size pages) (units_of later) a) o o1 (record { response = Value value; units = units_of m' })
@@ -184,23 +138,24 @@ module _ (windows : ℕ) {pages : ℕ} (word : ℕ) (p q : Processor) (m : Physi
         (record { response = Value value; units = units_of m' }) (inner_of (state_over q m')) word_is (rw (← place) untrapped) (rw (← place) (sym asks)) d refl (rw is refl)
 
     -- a load from RAM
-    pub load_carried_out : (m' : Physical pages) → access_of windows p op (data_space p) rd at ≡ Load size (data_space p) at → at < ram_size pages → ram_size pages ≤ 0x1000_0000
-        → ((bytes : List ℕ) → DoesUnnoted (ram_load size at) (outside_of m.phys bytes) (outside_of m.phys bytes) value) → m' ≡ record m { phys = counted_down m.phys } → IsCarriedOut windows word p m q m'
-    load_carried_out m' asks inside small loaded next = rw next (record {
-      done = λ bytes. answers (outside_of m.phys bytes) (outside_of m.phys bytes) (Load size (data_space p) at) later asks
-          (load (ram_size pages) (units_of later) (outside_of m.phys bytes) size p at value placed.untranslated inside small (loaded bytes));
+    pub load_carried_out : (m' : Physical pages) → access_of windows p op (data_space p) rd at ≡ Load size (data_space p) at
+        → ((timer : Timer) (bytes : List ℕ) → DoesUnnoted (access (ram_size pages) (timed_units m timer) (Load size (data_space p) at)) (outside_of m.phys bytes) (outside_of m.phys bytes)
+        (served (timed_units m timer) value)) → m' ≡ record m { phys = counted_down m.phys } → IsCarriedOut windows word p m q m'
+    load_carried_out m' asks loaded next = rw next (record {
+      done = λ bytes. answers (outside_of m.phys bytes) (outside_of m.phys bytes) (Load size (data_space p) at) later asks (loaded later.phys.timer bytes);
       taken = refl;
       mmu = refl;
     })
 
     -- a store to RAM
-    pub store_carried_out : (m' : Physical pages) (stored : ℕ) (r : Response) → access_of windows p op (data_space p) rd at ≡ Store size (data_space p) at stored → nat_lt at (ram_size pages) ≡ true
-        → value ≡ 0
+    pub store_carried_out : (m' : Physical pages) (stored : ℕ) (r : Response) → access_of windows p op (data_space p) rd at ≡ Store size (data_space p) at stored → value ≡ 0
+        → ((value : ℕ) (timer : Timer) (bytes : List ℕ) → result_of (access (ram_size pages) (timed_units m timer) (Store size (data_space p) at value)) (outside_of m.phys bytes)
+        ≡ served (timed_units m timer) 0)
         → ((bytes : List ℕ) → DoesUnnoted (access (ram_size pages) (units_of later) (Store size (data_space p) at stored)) (outside_of m.phys bytes) (outside_of m'.phys bytes) (record { response = r; units = units_of m' }))
         → m'.phys.taken ≡ m.phys.taken → IsCarriedOut windows word p m q m'
-    store_carried_out m' stored r asks inside none d same =
+    store_carried_out m' stored r asks none answered d same =
         let answer : (bytes : List ℕ) → record { response = r; units = units_of m' } ≡ served (units_of later) value =
-        λ bytes. (d bytes).result ∙ stores (ram_size pages) (units_of later) (outside_of m.phys bytes) size p at stored placed.untranslated inside ∙ ap (served (units_of later)) (sym none) in
+        λ bytes. (d bytes).result ∙ answered stored later.phys.timer bytes ∙ ap (served (units_of later)) (sym none) in
         record {
           done = λ bytes. answers (outside_of m.phys bytes) (outside_of m'.phys bytes) (Store size (data_space p) at stored) m' asks (record {
             result = ap (λ x. record { response = x; units = units_of m' }) (sym (ap (λ (s : Served). s.response) (answer bytes))) ∙ (d bytes).result;

@@ -4,7 +4,6 @@ use Rattle.sv8_model.specs.Does.{DoesUnnoted}
 use Rattle.sv8_time.specs.Schedule.{Schedule}
 use Rattle.sv8_phys.specs.Contents.{Contents, arrived, outside_of}
 use Rattle.sv8_phys.specs.Memory.{ram_size}
-use Rattle.sv8_mmu.specs.Registers.{translates}
 use Rattle.sv8_trap.specs.Processor.{Processor}
 use Rattle.sv8_memory.specs.declared.physical.Physical.{Physical}
 use Rattle.sv8_cpu.specs.Step.{carried_out}
@@ -34,11 +33,6 @@ IsOrdinary windows pages schedule n s word =
 -- the timer does not expire in the next step
 abbrev pub CountsDown : {pages : ℕ} → Physical pages → Type 0
 CountsDown m = m.phys.timer.count ≢ 1
-
--- ordinary steps can be made of a memory: its timer does not expire, and addresses are not translated
-pub record IsPlaced {pages : ℕ} (m : Physical pages) : Type 0 where
-  pub counting : CountsDown m
-  pub untranslated : translates m.mmu ≡ false
 
 -- a word was carried out, which made of a processor and a memory whose timer is a step on others
 pub record IsCarriedOut (windows : ℕ) {pages : ℕ} (word : ℕ) (p : Processor) (m : Physical pages) (q : Processor) (m' : Physical pages) : Type 0 where

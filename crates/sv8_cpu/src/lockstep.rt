@@ -1,10 +1,12 @@
 //! A step of two machines that have the same processor, made as one where both carry out the same instruction and nothing else
 //! happens.
 
-ghost use Rattle.std.specs.Prelude.{◌≡◌, ℕ, ◌+◌, ◌%◌, ◌<◌, ◌≤◌, ◌⊎◌, nat_lt, true, false, None, MatchBool, IfOk, IfSome, OnOk, OnErr};
+ghost use Rattle.std.specs.Prelude.{◌≡◌, ℕ, ◌+◌, ◌%◌, ◌<◌, ◌≤◌, ◌⊎◌, List, true, false, None, MatchBool, IfOk, IfSome, OnOk, OnErr};
 ghost use Rattle.sv8_model.specs.Levels.{asked};
+ghost use Rattle.sv8_model.specs.Does.{DoesUnnoted};
 ghost use Rattle.sv8_time.specs.Schedule.{bytes_below};
 ghost use Rattle.sv8_phys.specs.Memory.{bytes_in, ram_size};
+ghost use Rattle.sv8_phys.specs.Contents.{outside_of};
 ghost use Rattle.sv8_isa.specs.Table.{meaning};
 ghost use Rattle.sv8_trap.specs.Interrupt.{unmasked};
 ghost use Rattle.sv8_trap.specs.Table.{taken};
@@ -13,10 +15,13 @@ ghost use Rattle.sv8_iu.specs.Instruction.{data_space};
 ghost use Rattle.sv8_trap.specs.Processor.{advanced, with_result};
 ghost use Rattle.sv8_iu.specs.Memory.{access_of, low_word, memory_traps, transferred_data};
 ghost use Rattle.sv8_iu.specs.Operands.{sum_of_sources};
+ghost use Rattle.sv8_iu.specs.Requests.{space_of};
+ghost use Rattle.sv8_memory.specs.Access.{access};
+ghost use Rattle.sv8_memory.specs.View.{units_of};
 ghost use Rattle.sv8_cpu.specs.Run.{step};
 ghost use Rattle.sv8_cpu.specs.Work.{counted};
 ghost use Rattle.sv8_cpu.specs.Whole.{state_of};
-ghost use Rattle.sv8_cpu.specs.Lockstep.{state_over, counted_down, lent, CountsDown, IsOrdinary, IsPlaced, MayBeCarriedOut};
+ghost use Rattle.sv8_cpu.specs.Lockstep.{state_over, counted_down, lent, CountsDown, IsOrdinary, MayBeCarriedOut};
 
 use crate::machine::Machine;
 use crate::parts::Parts;
@@ -24,8 +29,8 @@ use crate::work::Work;
 use std::alloc::AllocError;
 use sv8_isa::{Group, Instr, MemoryOp, Operand, decode_memory, group};
 use sv8_iu::{
-    AccessRequest, carry_out_plainly, data_space, finish_access, low_word, memory_trap,
-    sum_of_sources,
+    AccessRequest, Response, Space, carry_out_plainly, data_space, finish_access, low_word,
+    memory_trap, sum_of_sources,
 };
 use sv8_memory::Memory;
 use sv8_phys::{NoTouches, Size};
@@ -48,7 +53,7 @@ fn may_be_interrupted<const NW: usize, const PAGES: usize>(
 }
 
 /// The word of the instruction that step n carries out, where nothing else happens in it (no event, expiry, interrupt or annulled
-/// slot), and it is fetched from RAM by an address that is not translated.
+/// slot), and its fetch is one that is known at once (`Memory::fetched_at_once`).
 #[inline(always)]
 fn ordinary_word<const NW: usize, const PAGES: usize>(
     p: &Processor<NW>,
@@ -57,23 +62,18 @@ fn ordinary_word<const NW: usize, const PAGES: usize>(
     timeline: &Timeline,
 ) -> Result<Option<u32>, AllocError>
     ensures ordinary { IfOk result (λ found. IfSome found (λ word. IsOrdinary NW PAGES timeline.now n (state_over p.now memory.now) word)) }
-    ensures placed { IfOk result (λ found. IfSome found (λ word. IsPlaced memory.now)) }
+    ensures counting { IfOk result (λ found. IfSome found (λ word. CountsDown memory.now)) }
 {
-    if timeline.may_have_events(n) || memory.translates() {
+    if timeline.may_have_events(n) || memory.phys().timer().count == 1 {
         return Ok(None);
     }
-    if !p.is_running() || p.annul() || memory.phys().timer().count == 1 {
+    if !p.is_running() || p.annul() || may_be_interrupted(p, memory)? {
         return Ok(None);
     }
-    if may_be_interrupted(p, memory)? {
-        return Ok(None);
+    match memory.fetched_at_once(p.registers().psr().s, p.pc())? {
+        Some(value) => Ok(Some(low_word(value))),
+        None => Ok(None),
     }
-    let at = u64::from(p.pc());
-    if !memory.phys().is_ram(at) {
-        return Ok(None);
-    }
-    let value = memory.phys().read_ram(at, Size::Word, &mut NoTouches)?;
-    Ok(Some(low_word(value)))
 }
 
 /// A step of a timer that does not expire.
@@ -94,7 +94,8 @@ fn leave_the_same(rd: u8, value: u64, other_value: u64) -> bool
     rd == 0 || value == other_value
 }
 
-/// Loads from both memories and completes a load of a word or a byte, where both give the same or it goes to %g0.
+/// Loads from both memories and completes a load of a word or a byte, where both values are known at once, and are the same or go
+/// to %g0.
 #[inline(always)]
 fn load_both<const NW: usize, const PAGES: usize>(
     p: &mut Processor<NW>,
@@ -109,19 +110,21 @@ fn load_both<const NW: usize, const PAGES: usize>(
     requires low { (value : ℕ) → transferred_data NW p.old op rd value ≡ with_result NW p.old rd (low_word value) }
     requires rd { rd < 32 }
     requires aligned { at % bytes_in size ≡ 0 }
-    requires within { at < ram_size PAGES }
-    requires small { ram_size PAGES ≤ 0x1000_0000 }
     requires no_trap { taken (memory_traps op rd at) ≡ None }
-    requires placed { IsPlaced memory.old }
-    requires other_placed { IsPlaced other.old }
+    requires counting { CountsDown memory.old }
+    requires others_counting { CountsDown other.old }
     ensures own { IfOk result (λ done. (word rs1 : ℕ) (operand : Operand) → Instr.Memory op rd rs1 operand ≡ meaning word
         → at ≡ sum_of_sources NW p.old rs1 operand → MayBeCarriedOut NW word p.old memory.old p.new memory.new done) }
     ensures others { IfOk result (λ done. (word rs1 : ℕ) (operand : Operand) → Instr.Memory op rd rs1 operand ≡ meaning word
         → at ≡ sum_of_sources NW p.old rs1 operand → MayBeCarriedOut NW word p.old other.old p.new other.new done) }
 {
-    let pa = u64::from(at);
-    let value = memory.phys().read_ram(pa, size, &mut NoTouches)?;
-    let other_value = other.phys().read_ram(pa, size, &mut NoTouches)?;
+    let asi = data_space(p);
+    let Some(value) = memory.loaded_at_once(size, asi, at)? else {
+        return Ok(false);
+    };
+    let Some(other_value) = other.loaded_at_once(size, asi, at)? else {
+        return Ok(false);
+    };
     if !leave_the_same(rd, value, other_value) {
         return Ok(false);
     }
@@ -131,7 +134,30 @@ fn load_both<const NW: usize, const PAGES: usize>(
     Ok(true)
 }
 
-/// Stores to both memories and completes a store of a word or a byte.
+/// Stores to user or supervisor data of a memory.
+#[inline(always)]
+fn store<const PAGES: usize>(
+    memory: &mut Memory<PAGES>,
+    size: Size,
+    asi: u8,
+    at: u32,
+    value: u64,
+) -> Result<Response, AllocError>
+    requires space { space_of asi ≡ Space.Virtual }
+    requires aligned { at % bytes_in size ≡ 0 }
+    ensures ok { IfOk result (λ r. (bytes : List ℕ) → DoesUnnoted (access (ram_size PAGES) (units_of memory.old) (AccessRequest.Store size asi at value))
+        (outside_of memory.old.phys bytes) (outside_of memory.new.phys bytes) (record { response = r; units = units_of memory.new })) }
+    ensures taken { OnOk result (memory.new.phys.taken ≡ memory.old.phys.taken) }
+{
+    if memory.translates() {
+        let response = memory.store_data::<true, NoTouches>(size, asi, at, value, &mut NoTouches)?;
+        return Ok(response);
+    }
+    let response = memory.store_data::<false, NoTouches>(size, asi, at, value, &mut NoTouches)?;
+    Ok(response)
+}
+
+/// Stores to both memories and completes a store of a word or a byte, where it is known at once that both answer it.
 #[inline(always)]
 fn store_both<const NW: usize, const PAGES: usize>(
     p: &mut Processor<NW>,
@@ -146,26 +172,29 @@ fn store_both<const NW: usize, const PAGES: usize>(
     requires simple { (value : ℕ) → transferred_data NW p.old op rd value ≡ advanced p.old }
     requires rd { rd < 32 }
     requires aligned { at % bytes_in size ≡ 0 }
-    requires within { nat_lt at (ram_size PAGES) ≡ true }
     requires no_trap { taken (memory_traps op rd at) ≡ None }
-    requires placed { IsPlaced memory.old }
-    requires other_placed { IsPlaced other.old }
+    requires counting { CountsDown memory.old }
+    requires others_counting { CountsDown other.old }
     ensures own { IfOk result (λ done. (word rs1 : ℕ) (operand : Operand) → Instr.Memory op rd rs1 operand ≡ meaning word
         → at ≡ sum_of_sources NW p.old rs1 operand → MayBeCarriedOut NW word p.old memory.old p.new memory.new done) }
     ensures others { IfOk result (λ done. (word rs1 : ℕ) (operand : Operand) → Instr.Memory op rd rs1 operand ≡ meaning word
         → at ≡ sum_of_sources NW p.old rs1 operand → MayBeCarriedOut NW word p.old other.old p.new other.new done) }
 {
+    let asi = data_space(p);
+    if !memory.is_stored_at_once(size, asi, at) || !other.is_stored_at_once(size, asi, at) {
+        return Ok(false);
+    }
     count_down(memory)?;
     count_down(other)?;
-    let asi = data_space(p);
     let value = u64::from(p.registers().get(u32::from(rd)));
-    memory.store_data::<false, NoTouches>(size, asi, at, value, &mut NoTouches)?;
-    other.store_data::<false, NoTouches>(size, asi, at, value, &mut NoTouches)?;
+    store(memory, size, asi, at, value)?;
+    store(other, size, asi, at, value)?;
     finish_access(p, op, rd, 0);
     Ok(true)
 }
 
-/// Carries a load or a store of a word or a byte out in both memories, if it raises no trap before its access and is one of RAM.
+/// Carries a load or a store of a word or a byte out in both memories, if it raises no trap and is one of RAM that is known at
+/// once.
 #[inline(always)]
 #[tactic(auto, using(sv8_iu::proofs::Choices::aligned_access), unfolding(sv8_iu::specs::Memory::access_of, sv8_iu::specs::Memory::transferred_data))]
 fn transfer_both<const NW: usize, const PAGES: usize>(
@@ -174,8 +203,8 @@ fn transfer_both<const NW: usize, const PAGES: usize>(
     other: &mut Memory<PAGES>,
     word: u32,
 ) -> Result<bool, AllocError>
-    requires placed { IsPlaced memory.old }
-    requires other_placed { IsPlaced other.old }
+    requires counting { CountsDown memory.old }
+    requires others_counting { CountsDown other.old }
     ensures own { IfOk result (MayBeCarriedOut NW word p.old memory.old p.new memory.new) }
     ensures others { IfOk result (MayBeCarriedOut NW word p.old other.old p.new other.new) }
 {
@@ -189,7 +218,7 @@ fn transfer_both<const NW: usize, const PAGES: usize>(
             },
         ) => {
             let at = sum_of_sources(p, rs1, operand);
-            if memory_trap(op, rd, at).is_some() || memory.phys().ram_size() <= u64::from(at) {
+            if memory_trap(op, rd, at).is_some() {
                 return Ok(false);
             }
             match op {
@@ -213,8 +242,8 @@ fn carry_out_both<const NW: usize, const PAGES: usize>(
     other: &mut Memory<PAGES>,
     word: u32,
 ) -> Result<bool, AllocError>
-    requires placed { IsPlaced memory.old }
-    requires other_placed { IsPlaced other.old }
+    requires counting { CountsDown memory.old }
+    requires others_counting { CountsDown other.old }
     ensures own { IfOk result (MayBeCarriedOut NW word p.old memory.old p.new memory.new) }
     ensures others { IfOk result (MayBeCarriedOut NW word p.old other.old p.new other.new) }
 {

@@ -1,5 +1,6 @@
 pub mod Accesses
 pub mod Poking
 pub mod Late
+pub mod Known
 pub mod Pages
 pub mod ServedPlaces

@@ -2,6 +2,7 @@
 use Rattle.std.specs.Prelude.{ℕ, List}
 use Rattle.sv8_model.specs.Action.{Action}
 use Rattle.sv8_model.specs.Does.{Does, Keeps, Notes}
+use Rattle.sv8_phys.specs.declared.timer.Timer.{Timer}
 use Rattle.sv8_phys.specs.Memory.{ram_size}
 use Rattle.sv8_phys.specs.Contents.{outside_of}
 use Rattle.sv8_mmu.specs.Kept.{Kept, AllStand}
@@ -12,6 +13,10 @@ use Rattle.sv8_memory.specs.Units.{Units, Served}
 -- the units of a memory
 abbrev pub units_of : {pages : ℕ} → Physical pages → Units
 units_of m = record { mmu = m.mmu; timer = m.phys.timer }
+
+-- the same with another timer
+abbrev pub timed_units : {pages : ℕ} → Physical pages → Timer → Units
+timed_units m timer = record { mmu = m.mmu; timer = timer }
 
 -- what the lookaside buffer keeps stands in that memory
 abbrev pub Serves : {pages : ℕ} → Physical pages → List Kept → Type 0

@@ -2,6 +2,7 @@
 //! management unit; and the events of a step that write memory.
 #![tactic(auto)]
 
+mod at_once;
 mod events;
 pub mod laws;
 mod locating;

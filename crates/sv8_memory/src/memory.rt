@@ -1,8 +1,10 @@
 //! Memory as the processor reaches it.
 
-ghost use Rattle.std.specs.Prelude.{◌≡◌, ℕ, ◌+◌, ◌*◌, ◌%◌, ◌/◌, ◌≤◌, ◌<◌, ◌||◌, List, [], true, false, not, nat_lt, None, IfOk, OnOk, OnErr, MatchOption, slice_set, length};
+ghost use Rattle.std.specs.Prelude.{◌≡◌, ℕ, ◌+◌, ◌*◌, ◌%◌, ◌/◌, ◌≤◌, ◌<◌, ◌||◌, List, [], true, false, not, nat_lt, None, IfOk, IfSome, OnOk, OnErr, MatchOption, slice_set, length};
 ghost use Rattle.sv8_model.specs.Action as model;
-ghost use Rattle.sv8_model.specs.Does.{Does, keeping};
+ghost use Rattle.sv8_model.specs.Action.{result_of};
+ghost use Rattle.sv8_model.specs.Does.{Does, DoesUnnoted, keeping};
+ghost use Rattle.sv8_phys.specs.declared.timer.Timer.{Timer};
 ghost use Rattle.sv8_time.specs.Schedule.{bytes_below};
 ghost use Rattle.sv8_phys.specs.Memory.{bytes_in, ram_size, with_page};
 ghost use Rattle.sv8_phys.specs.Contents.{arrived, outside_of};
@@ -11,8 +13,10 @@ ghost use Rattle.sv8_mmu.specs.Registers.{registers_at_reset, translates};
 ghost use Rattle.sv8_memory.specs.Events.{with_events};
 ghost use Rattle.sv8_iu.specs.Requests.{space_of, IsAligned};
 ghost use Rattle.sv8_memory.specs.Access.{access};
-ghost use Rattle.sv8_memory.specs.View.{MemoryDoes, units_of};
+ghost use Rattle.sv8_memory.specs.Units.{served};
+ghost use Rattle.sv8_memory.specs.View.{MemoryDoes, timed_units, units_of};
 
+use crate::at_once::{fetched_at_once, is_stored_at_once, loaded_at_once};
 use crate::events::happen;
 use crate::physical::Physical;
 use crate::spaces::{access, load_translated, load_untranslated};
@@ -166,6 +170,49 @@ impl<const PAGES: usize> Memory<PAGES> {
     {
         let found = self.physical.fetch_in_place(supervisor, at, notes)?;
         Ok(found)
+    }
+
+    /// The word that a fetch gives, where it is known at once, and the fetch changes nothing: it is of RAM, and its address is not
+    /// translated, or the walk of its page was used last and sets no mark. That a word is given wherever it could be is no
+    /// part of the contract: none costs time alone.
+    ///
+    /// # Errors
+    ///
+    /// None: no memory is taken.
+    #[inline(always)]
+    pub fn fetched_at_once(&self, supervisor: bool, at: u32) -> Result<Option<u64>, AllocError>
+        requires { at % 4 ≡ 0 }
+        ensures { IfOk result (λ found. IfSome found (λ word. (timer : Timer) (bytes : List ℕ) → DoesUnnoted (access (ram_size PAGES) (timed_units self.now timer) (AccessRequest.Fetch supervisor at))
+            (outside_of self.now.phys bytes) (outside_of self.now.phys bytes) (served (timed_units self.now timer) word))) }
+    {
+        let found = fetched_at_once(&self.physical, &self.buffer, supervisor, at)?;
+        Ok(found)
+    }
+
+    /// What a load of user or supervisor data gives, where it is known at once, as `fetched_at_once` has it.
+    ///
+    /// # Errors
+    ///
+    /// None: no memory is taken.
+    #[inline(always)]
+    pub fn loaded_at_once(&self, size: Size, asi: u8, at: u32) -> Result<Option<u64>, AllocError>
+        requires space { space_of asi ≡ Space.Virtual }
+        requires aligned { at % bytes_in size ≡ 0 }
+        ensures { IfOk result (λ found. IfSome found (λ value. (timer : Timer) (bytes : List ℕ) → DoesUnnoted (access (ram_size PAGES) (timed_units self.now timer) (AccessRequest.Load size asi at))
+            (outside_of self.now.phys bytes) (outside_of self.now.phys bytes) (served (timed_units self.now timer) value))) }
+    {
+        let found = loaded_at_once(&self.physical, &self.buffer, size, asi, at)?;
+        Ok(found)
+    }
+
+    /// Whether a store to user or supervisor data is known at once to be one of RAM that is answered, as `fetched_at_once` has it.
+    #[inline(always)]
+    pub fn is_stored_at_once(&self, size: Size, asi: u8, at: u32) -> bool
+        requires { space_of asi ≡ Space.Virtual }
+        ensures { result ≡ true → (value : ℕ) (timer : Timer) (bytes : List ℕ)
+            → result_of (access (ram_size PAGES) (timed_units self.now timer) (AccessRequest.Store size asi at value)) (outside_of self.now.phys bytes) ≡ served (timed_units self.now timer) 0 }
+    {
+        is_stored_at_once(&self.physical, &self.buffer, size, asi, at)
     }
 
     /// Whether virtual addresses are translated.

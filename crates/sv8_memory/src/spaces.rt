@@ -24,7 +24,7 @@ use sv8_trap::Trap;
 
 /// The address space that instructions are fetched from.
 #[inline(always)]
-fn instruction_space(supervisor: bool) -> u8
+pub fn instruction_space(supervisor: bool) -> u8
     ensures { result ≡ instruction_space supervisor }
 {
     if supervisor { 0x09 } else { 0x08 }

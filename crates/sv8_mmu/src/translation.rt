@@ -1,8 +1,8 @@
 //! Translation of a virtual address.
 
-ghost use Rattle.std.specs.Prelude.{◌≡◌, ℕ, ◌<◌, ◌≤◌, ◌+◌, ◌*◌, ◌/◌, ◌%◌, ◌^◌, List, [], ◌++◌, IfOk, IfSome, OnOk, OnErr, true, slice_index_or};
+ghost use Rattle.std.specs.Prelude.{◌≡◌, ℕ, ◌<◌, ◌≤◌, ◌+◌, ◌*◌, ◌/◌, ◌%◌, ◌^◌, List, [], ◌++◌, IfOk, IfSome, OnOk, OnErr, nat_lt, true, slice_index_or};
 ghost use Rattle.sv8_model.specs.Outside.{Outside, with_word};
-ghost use Rattle.sv8_model.specs.Does.{Does, kept, noting, keeping, touching, no_notes};
+ghost use Rattle.sv8_model.specs.Does.{Does, DoesUnnoted, kept, noting, keeping, touching, no_notes};
 ghost use Rattle.sv8_phys.specs.Memory.{ram_size};
 ghost use Rattle.sv8_phys.specs.Contents.{outside_of};
 ghost use Rattle.sv8_mmu.specs.Registers.{translates};
@@ -294,6 +294,7 @@ fn settle_plainly<const PAGES: usize>(
     end: Walked,
 ) -> Option<u64>
     ensures settled { IfSome result (λ pa. settled (ram_size PAGES) access.address access.access_type access.reach end ≡ done (Translated.At pa)) }
+    ensures ram { IfSome result (λ pa. nat_lt pa (ram_size PAGES) ≡ true) }
     ensures answer { IfSome result (λ pa. IsTranslation access.address (Translated.At pa)) }
 {
     match end {
@@ -322,6 +323,7 @@ fn find_shortcut<'a, const PAGES: usize>(
     requires on { translates registers.now ≡ true }
     requires stand { AllStand (ram_size PAGES) phys.now.ram registers.now.table_pointer buffer.now }
     ensures answer { IfSome result (λ s. IsTranslation access.address (Translated.At s.0)) }
+    ensures ram { IfSome result (λ s. nat_lt s.0 (ram_size PAGES) ≡ true) }
     ensures does { IfSome result (λ s. (o : Outside) → Does (keeping true true) (translate (ram_size PAGES) registers.now access.address access.access_type access.reach)
         (record o { ram = phys.now.ram }) (record o { ram = phys.now.ram }) (Translated.At s.0) no_notes (touching (reads_of (places_of s.1.now)))) }
 {
@@ -332,6 +334,31 @@ fn find_shortcut<'a, const PAGES: usize>(
     let walk = buffer.last(purpose_of(access.access_type), key)?;
     let pa = settle_plainly(phys, access, walk.end)?;
     Some((pa, &walk.trail))
+}
+
+/// The physical address of an access in RAM, where it is known at once: addresses are not translated, or the walk of its page
+/// was used last, and the access is allowed and sets no mark. Nothing is done. That an address is given wherever it could be is
+/// no part of the contract: none costs time alone.
+#[inline(always)]
+#[tactic(auto, unfolding(crate::specs::Translation::translate))]
+pub fn address_in_ram<const PAGES: usize>(
+    registers: &Mmu,
+    buffer: &Buffer,
+    phys: &Phys<PAGES>,
+    access: VirtualAccess,
+) -> Option<u64>
+    requires { AllStand (ram_size PAGES) phys.now.ram registers.now.table_pointer buffer.now }
+    ensures does { IfSome result (λ pa. (bytes : List ℕ) → DoesUnnoted (translate (ram_size PAGES) registers.now access.address access.access_type access.reach)
+        (outside_of phys.now bytes) (outside_of phys.now bytes) (Translated.At pa)) }
+    ensures ram { IfSome result (λ pa. nat_lt pa (ram_size PAGES) ≡ true) }
+    ensures answer { IfSome result (λ pa. IsTranslation access.address (Translated.At pa)) }
+{
+    if registers.translates() {
+        let (pa, _) = find_shortcut(registers, buffer, phys, access)?;
+        return Some(pa);
+    }
+    let pa = access.address as u64;
+    if phys.is_ram(pa) { Some(pa) } else { None }
 }
 
 /// Translates the address of an access by the tables.

@@ -1,5 +1,5 @@
 -- Steps of intervals without a sign, flags of those that have one, and states that show it.
-use Rattle.std.proofs.Common.{◌≡◌, ◌⊎◌, inl, inr, ℕ, zero, suc, ◌+◌, ◌-◌, ◌*◌, ◌/◌, ◌%◌, ◌^◌, ◌≤◌, ◌<◌, ◌==◌, Bool, true, false, cond, MatchBool, List, [], ◌∷◌, Some, None, length, set, get_or, refl, sym, ◌∙◌, ap, ap₂, arith, subst, mul_comm, eqb-true, eq-eqb, div-lt_iff_lt-mul}
+use Rattle.std.proofs.Common.{◌≡◌, ◌⊎◌, inl, inr, ℕ, zero, suc, ◌+◌, ◌-◌, ◌*◌, ◌/◌, ◌%◌, ◌^◌, ◌≤◌, ◌<◌, ◌==◌, Bool, true, false, cond, MatchBool, List, [], ◌∷◌, Some, None, length, get_or, refl, sym, ◌∙◌, ap, ap₂, arith, subst, mul_comm, eqb-true, eq-eqb, div-lt_iff_lt-mul}
 use Rattle.std.specs.Prelude.{not, ◌&&◌, ◌||◌, nat_le, nat_lt}
 use Rattle.std.specs.List.{list_any}
 use Rattle.std.proofs.Math.Bool.{or-false}

@@ -1,6 +1,5 @@
 use Rattle.std.proofs.Common.{◌≡◌, ◌≤◌, ◌<◌, ◌+◌, ◌-◌, ◌*◌, ◌/◌, ◌%◌, ◌∙◌, ℕ, MatchBool, arith, ap, sym, subst, refl, length, get_or}
-use Rattle.std.proofs.Math.Nat.{div-add-mod, div-eq_of_lt-le, mod-lt}
-use Rattle.sv8_notes.specs.Steps.{Steps}
+use Rattle.std.proofs.Math.Nat.{div-add-mod, div-eq_of_lt-le}
 use Rattle.sv8_notes.specs.Touching.{touches_any}
 use Rattle.sv8_notes.proofs.Common.{flag_unless}
 use Rattle.sv8_trace.specs.Recording.{Recording, no_interval}

@@ -1,0 +1,103 @@
+//! Accesses to RAM that are known to change nothing, or nothing but what they store: their address is known at once, with no
+//! walk of the tables.
+
+ghost use Rattle.std.specs.Prelude.{◌≡◌, ℕ, ◌%◌, List, true, nat_lt, IfOk, IfSome};
+ghost use Rattle.sv8_model.specs.Action.{result_of};
+ghost use Rattle.sv8_model.specs.Does.{DoesUnnoted};
+ghost use Rattle.sv8_phys.specs.declared.timer.Timer.{Timer};
+ghost use Rattle.sv8_phys.specs.Memory.{bytes_in, ram_size};
+ghost use Rattle.sv8_phys.specs.Contents.{outside_of};
+ghost use Rattle.sv8_iu.specs.Requests.{space_of};
+ghost use Rattle.sv8_memory.specs.Units.{served};
+ghost use Rattle.sv8_memory.specs.Access.{access};
+ghost use Rattle.sv8_memory.specs.View.{Serves, timed_units};
+
+use crate::locating::reach_of;
+use crate::physical::{Physical, load_type, store_type};
+use crate::spaces::instruction_space;
+use std::alloc::AllocError;
+use sv8_iu::{AccessRequest, Space};
+use sv8_mmu::{Buffer, Reach, VirtualAccess, address_in_ram};
+use sv8_phys::{NoTouches, Size};
+
+/// The word that a fetch gives.
+#[inline(always)]
+pub fn fetched_at_once<const PAGES: usize>(
+    physical: &Physical<PAGES>,
+    buffer: &Buffer,
+    supervisor: bool,
+    at: u32,
+) -> Result<Option<u64>, AllocError>
+    requires aligned { at % 4 ≡ 0 }
+    requires serves { Serves physical.now buffer.now }
+    ensures { IfOk result (λ found. IfSome found (λ word. (timer : Timer) (bytes : List ℕ) → DoesUnnoted (access (ram_size PAGES) (timed_units physical.now timer) (AccessRequest.Fetch supervisor at))
+        (outside_of physical.now.phys bytes) (outside_of physical.now.phys bytes) (served (timed_units physical.now timer) word))) }
+{
+    let access = VirtualAccess {
+        address: at,
+        access_type: load_type(instruction_space(supervisor)),
+        reach: Reach::Ram,
+    };
+    match address_in_ram(&physical.mmu, buffer, &physical.phys, access) {
+        Some(pa) => {
+            let word = physical.phys.read_ram(pa, Size::Word, &mut NoTouches)?;
+            Ok(Some(word))
+        }
+        None => Ok(None),
+    }
+}
+
+/// What a load gives.
+#[inline(always)]
+pub fn loaded_at_once<const PAGES: usize>(
+    physical: &Physical<PAGES>,
+    buffer: &Buffer,
+    size: Size,
+    asi: u8,
+    at: u32,
+) -> Result<Option<u64>, AllocError>
+    requires space { space_of asi ≡ Space.Virtual }
+    requires aligned { at % bytes_in size ≡ 0 }
+    requires serves { Serves physical.now buffer.now }
+    ensures { IfOk result (λ found. IfSome found (λ value. (timer : Timer) (bytes : List ℕ) → DoesUnnoted (access (ram_size PAGES) (timed_units physical.now timer) (AccessRequest.Load size asi at))
+        (outside_of physical.now.phys bytes) (outside_of physical.now.phys bytes) (served (timed_units physical.now timer) value))) }
+{
+    let access = VirtualAccess {
+        address: at,
+        access_type: load_type(asi),
+        reach: reach_of(size),
+    };
+    match address_in_ram(&physical.mmu, buffer, &physical.phys, access) {
+        Some(pa) => {
+            let _size = physical.phys.ram_size();
+            let value = physical.phys.read_ram(pa, size, &mut NoTouches)?;
+            Ok(Some(value))
+        }
+        None => Ok(None),
+    }
+}
+
+/// Whether a store is one of RAM that raises no trap.
+#[inline(always)]
+pub fn is_stored_at_once<const PAGES: usize>(
+    physical: &Physical<PAGES>,
+    buffer: &Buffer,
+    size: Size,
+    asi: u8,
+    at: u32,
+) -> bool
+    requires space { space_of asi ≡ Space.Virtual }
+    requires serves { Serves physical.now buffer.now }
+    ensures { result ≡ true → (value : ℕ) (timer : Timer) (bytes : List ℕ)
+        → result_of (access (ram_size PAGES) (timed_units physical.now timer) (AccessRequest.Store size asi at value)) (outside_of physical.now.phys bytes) ≡ served (timed_units physical.now timer) 0 }
+{
+    let access = VirtualAccess {
+        address: at,
+        access_type: store_type(asi),
+        reach: reach_of(size),
+    };
+    match address_in_ram(&physical.mmu, buffer, &physical.phys, access) {
+        Some(_) => true,
+        None => false,
+    }
+}
