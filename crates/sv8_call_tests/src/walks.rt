@@ -141,16 +141,17 @@ fn walks_part_in_front_of_an_event(rt: HostRuntime) -> Result<(), Fail> {
     Ok(())
 }
 
-/// Lines that map all addresses to themselves by a page of 16 MiB, turn translation on, and store again and again.
+/// Lines that map all addresses to themselves by a page of 16 MiB, turn translation on, and load again and again. A store would
+/// go to the page that has the tables, and what is known of them would be forgotten.
 const MAPPED: &[&[u8]] = &[
     b"mov 0x100, %g1",
     b"mov 0x80, %g3",
     b"sta %g3, [%g1]4",
     b"mov 1, %g2",
     b"sta %g2, [%g0]4",
-    b"loop: st %g4, [%g0+0x400]",
+    b"loop: ld [%g0+0x400], %g4",
     b"ba loop",
-    b"inc %g4",
+    b"inc %g5",
     b".org 0x800",
     b".word 0xc1",
     b".org 0xc00",
