@@ -1,6 +1,7 @@
 -- An ordinary step, and what is carried out in it over two memories.
-use Rattle.std.proofs.Common.{◌≡◌, ◌≢◌, ◌∙◌, ◌⊎◌, inl, inr, ◌+◌, ◌-◌, ◌==◌, ℕ, zero, suc, Bool, true, false, None, List, [], refl, sym, ap, arith}
+use Rattle.std.proofs.Common.{drop, length, subst, MatchBool, ◌≡◌, ◌≢◌, ◌∙◌, ◌⊎◌, inl, inr, ◌+◌, ◌-◌, ◌==◌, ℕ, zero, suc, Bool, true, false, None, List, [], refl, sym, ap, arith}
 use Rattle.std.proofs.lemmas.Bool.Decides.{nat_tests}
+use Rattle.sv8_isa.specs.declared.instr.Instr.{Instr}
 use Rattle.sv8_isa.specs.declared.instr.Instr.TheVariants.{Memory}
 use Rattle.sv8_isa.specs.declared.instr.MemoryOp.{MemoryOp}
 use Rattle.sv8_isa.specs.declared.instr.Operand.{Operand}
@@ -19,25 +20,27 @@ use Rattle.sv8_phys.specs.Memory.{ram_size}
 use Rattle.sv8_phys.specs.Contents.{Contents, arrived, outside_of}
 use Rattle.sv8_mmu.specs.declared.registers.Mmu.{Mmu}
 use Rattle.sv8_trap.specs.Table.{taken}
-use Rattle.sv8_trap.specs.Processor.{Processor, with_result}
+use Rattle.sv8_trap.specs.Processor.{Processor, slot_skipped, with_result}
 use Rattle.sv8_trap.specs.Interrupt.{unmasked}
 use Rattle.sv8_iu.specs.declared.request.AccessRequest.TheVariants.{Fetch, Load, Store}
 use Rattle.sv8_iu.specs.declared.request.Response.{Response}
 use Rattle.sv8_iu.specs.declared.request.Response.TheVariants.{Value}
 use Rattle.sv8_iu.specs.declared.request.AccessRequest.{AccessRequest}
 use Rattle.sv8_iu.specs.Operands.{sum_of_sources}
-use Rattle.sv8_iu.specs.Instruction.{data_space, IsPlain}
+use Rattle.sv8_iu.specs.Instruction.{raised, complete, data_space, IsPlain}
+use Rattle.sv8_iu.specs.Instruction as iu
 use Rattle.sv8_iu.specs.Memory.{low_word, access_of, memory_traps, transferred_data}
 use Rattle.sv8_memory.specs.declared.physical.Physical.{Physical}
 use Rattle.sv8_memory.specs.Units.{Served, served}
 use Rattle.sv8_memory.specs.Access.{access}
 use Rattle.sv8_memory.proofs.Poking.{quiet}
-use Rattle.sv8_cpu.specs.Step.{Inner, carried_out, instruction, continued, requested, interruptible, action}
-use Rattle.sv8_cpu.specs.State.{inner_of, left_by}
-use Rattle.sv8_cpu.specs.Run.{step}
+use Rattle.sv8_cpu.specs.Step.{Inner, carried_out, continued, requested, interruptible, action}
+use Rattle.sv8_cpu.specs.State.{State, inner_of, left_by}
+use Rattle.sv8_cpu.specs.Run.{step, acted_on}
 use Rattle.sv8_cpu.proofs.Steps.{carried_out_by, carried_out_plainly, instruction_by, interruptible_by, awake_by}
 use Rattle.sv8_memory.specs.View.{timed_units, units_of}
-use Rattle.sv8_cpu.specs.Lockstep.{state_over, counted_down, timed, CountsDown, IsCarriedOut, IsOrdinary}
+use Rattle.sv8_cpu.specs.declared.parts.Parts.{Parts}
+use Rattle.sv8_cpu.specs.Lockstep.{state_over, counted_down, timed, CountsDown, IsCarriedOut, MayBeCarriedOut, IsCalm, IsFetched}
 
 -- ---- the timer
 
@@ -73,45 +76,80 @@ memory_counts {pages} m n h d same mmu =
 -- ---- an ordinary step
 
 module _ (windows limit : ℕ) (m : Inner) (o : Outside) where
-  -- no interrupt is taken, and no slot is annulled
-  uninterrupted : (et : Bool) (y : Inner) (o1 : Outside) → m.processor.registers.psr.et ≡ et → m.processor.annul ≡ false
+  -- no interrupt is taken
+  uninterrupted : (et : Bool) (y : Inner) (o1 : Outside) → m.processor.registers.psr.et ≡ et
       → (m.processor.registers.psr.et ≡ true → asked (unmasked m.processor.registers.psr.pil) o.pending ≡ 0)
-      → DoesUnnoted (instruction windows limit m) o o1 y → DoesUnnoted (interruptible windows limit m) o o1 y
-  unfolding interruptible requested continued
-  uninterrupted true y o1 on unannulled unasked d =
+      → DoesUnnoted (continued windows limit m) o o1 y → DoesUnnoted (interruptible windows limit m) o o1 y
+  unfolding interruptible requested
+  uninterrupted true y o1 on unasked d =
       interruptible_by (keeping false false) windows limit m o o o1 no_notes no_notes no_notes y (unmasked m.processor.registers.psr.pil) 0 on refl
-      (record { result = sym (unasked on); outside = refl; noted = refl })
-      (does_if_false (keeping false false) m.processor.annul _ _ o o1 y no_notes no_notes unannulled d)
-  uninterrupted false y o1 off unannulled unasked d =
-      does_if_false (keeping false false) m.processor.registers.psr.et _ _ o o1 y no_notes no_notes off
-      (does_if_false (keeping false false) m.processor.annul _ _ o o1 y no_notes no_notes unannulled d)
+      (record { result = sym (unasked on); outside = refl; noted = refl }) d
+  uninterrupted false y o1 off unasked d = does_if_false (keeping false false) m.processor.registers.psr.et _ _ o o1 y no_notes no_notes off d
 
 module _ (windows pages : ℕ) (schedule : Schedule) (n : ℕ) (p : Processor) (m : Physical pages) where
-  -- a word is fetched, and nothing else happens
-  pub ordinary : (value word : ℕ) → pokes_of_step n schedule.pokes ≡ [] → requests_of_step n schedule.requests ≡ [] → p.running ≡ true → p.annul ≡ false → CountsDown m
-      → (p.registers.psr.et ≡ true → asked (unmasked p.registers.psr.pil) m.phys.pending ≡ 0)
-      → ((timer : Timer) (bytes : List ℕ) → DoesUnnoted (access (ram_size pages) (timed_units m timer) (Fetch p.registers.psr.s p.pc)) (outside_of m.phys bytes) (outside_of m.phys bytes)
-      (served (timed_units m timer) value))
-      → word ≡ low_word value → IsOrdinary windows pages schedule n (state_over p m) word
+  -- no event, expiry or interrupt
+  pub calm : pokes_of_step n schedule.pokes ≡ [] → requests_of_step n schedule.requests ≡ [] → p.running ≡ true → CountsDown m
+      → (p.registers.psr.et ≡ true → asked (unmasked p.registers.psr.pil) m.phys.pending ≡ 0) → IsCalm windows pages schedule n (state_over p m)
   unfolding step action
-  ordinary value word pokes requests runs unannulled counting unasked fetched is =
+  calm pokes requests runs counting unasked =
       let bytes = arrived (n + 1) schedule in
       let limit = ram_size pages in
       let o = outside_of m.phys bytes in
       let now = inner_of (timed (state_over p m)) in
-      let a = carried_out windows limit now (low_word value) in
+      let a = continued windows limit now in
       let y = result_of a o in
       let o1 = after a o in
       let made : DoesUnnoted a o o1 y = record { result = refl; outside = refl; noted = refl } in
-      let instruction = instruction_by (keeping false false) windows limit now o o o1 no_notes no_notes no_notes y (Fetch p.registers.psr.s p.pc) (served now.units value) refl
-      (fetched now.units.timer bytes) made in
       let timer : DoesUnnoted (tick m.phys.timer) o o now.units.timer =
       rw (falls m.phys.timer.count m.phys.timer.reload counting) (record { result = refl; outside = refl; noted = refl }) in
       let awake = awake_by (keeping false false) windows limit (inner_of (state_over p m)) o o o1 no_notes no_notes no_notes y now.units.timer now refl timer
-      (uninterrupted windows limit now o p.registers.psr.et y o1 refl unannulled unasked instruction) in
+      (uninterrupted windows limit now o p.registers.psr.et y o1 refl unasked made) in
       let all = does_if_true (keeping false false) p.running _ _ o o1 y no_notes no_notes runs awake in
-      rw (is, sym (quiet schedule n m.phys pokes requests))
+      rw (sym (quiet schedule n m.phys pokes requests))
       (ap (λ z. left_by z m.phys o (after (action windows limit (inner_of (state_over p m))) o)) (sym all.result) ∙ ap (λ w. left_by y m.phys o w) (sym all.outside))
+
+  -- .. and no slot is annulled
+  pub ordinary : (word : ℕ) → IsCalm windows pages schedule n (state_over p m) → p.annul ≡ false → IsFetched windows p m word
+      → step windows pages schedule n (state_over p m)
+      ≡ acted_on (arrived (n + 1) schedule) (timed (state_over p m)) (carried_out windows (ram_size pages) (inner_of (timed (state_over p m))) word)
+  unfolding continued
+  ordinary word is unannulled fetched =
+      let bytes = arrived (n + 1) schedule in
+      let limit = ram_size pages in
+      let o = outside_of m.phys bytes in
+      let now = inner_of (timed (state_over p m)) in
+      let a = carried_out windows limit now word in
+      let y = result_of a o in
+      let o1 = after a o in
+      let all : DoesUnnoted (continued windows limit now) o o1 y =
+      does_if_false (keeping false false) p.annul _ _ o o1 y no_notes no_notes unannulled (fetched bytes y o1 (record { result = refl; outside = refl; noted = refl })) in
+      is ∙ ap (λ z. left_by z m.phys o (after (continued windows limit now) o)) (sym all.result) ∙ ap (λ w. left_by y m.phys o w) (sym all.outside)
+
+  -- .. or one is
+  pub skipped : IsCalm windows pages schedule n (state_over p m) → p.annul ≡ true
+      → state_over (slot_skipped p) (record m { phys = counted_down m.phys }) ≡ step windows pages schedule n (state_over p m)
+  unfolding continued
+  skipped is annulled =
+      let bytes = arrived (n + 1) schedule in
+      let limit = ram_size pages in
+      let o = outside_of m.phys bytes in
+      let now = inner_of (timed (state_over p m)) in
+      let y : Inner = record { processor = slot_skipped p; units = now.units } in
+      let all : DoesUnnoted (continued windows limit now) o o y =
+      does_if_true (keeping false false) p.annul _ _ o o y no_notes no_notes annulled (record { result = refl; outside = refl; noted = refl }) in
+      let same : m.phys.taken ≡ m.phys.taken + (length o.waiting - length o.waiting) = omega arith in
+      ap {A = ℕ} {B = State} (λ t. record { processor = slot_skipped p; mmu = m.mmu; memory = record (counted_down m.phys) { taken = t } }) same
+      ∙ ap (λ z. left_by z m.phys o o) all.result ∙ ap (λ w. left_by (result_of (continued windows limit now) o) m.phys o w) all.outside ∙ sym is
+
+-- a fetch that is known at once
+pub fetched_word : (windows : ℕ) {pages : ℕ} (p : Processor) (m : Physical pages) (value word : ℕ)
+    → ((timer : Timer) (bytes : List ℕ) → DoesUnnoted (access (ram_size pages) (timed_units m timer) (Fetch p.registers.psr.s p.pc)) (outside_of m.phys bytes) (outside_of m.phys bytes)
+    (served (timed_units m timer) value))
+    → word ≡ low_word value → IsFetched windows p m word
+fetched_word windows {pages} p m value word fetched is = λ bytes y o1 made.
+    instruction_by (keeping false false) windows (ram_size pages) (inner_of (timed (state_over p m))) (outside_of m.phys bytes) (outside_of m.phys bytes) o1 no_notes no_notes no_notes y
+    (Fetch p.registers.psr.s p.pc) (served (inner_of (timed (state_over p m))).units value) refl (fetched (inner_of (timed (state_over p m))).units.timer bytes)
+    (rw (← is) made)
 
 -- ---- what is carried out
 
@@ -127,44 +165,88 @@ module _ (windows : ℕ) {pages : ℕ} (word : ℕ) (p q : Processor) (m : Physi
     mmu = refl;
   })
 
-  module _ (op : MemoryOp) (size : Size) (rd rs1 : ℕ) (operand : Operand) (at value : ℕ) (word_is : Memory op rd rs1 operand ≡ meaning word) (place : at ≡ sum_of_sources windows p rs1 operand)
-      (untrapped : taken (memory_traps op rd at) ≡ None) (is : q ≡ transferred_data windows p op rd value) where
+  module _ (i : Instr) (value : ℕ) (word_is : i ≡ meaning word) (untrapped : taken (raised windows p i) ≡ None) (is : q ≡ complete windows p i value) where
     -- an access that is answered with a value
-    answers : (o o1 : Outside) (a : AccessRequest) (m' : Physical pages) → access_of windows p op (data_space p) rd at ≡ a
+    answers : (o o1 : Outside) (a : AccessRequest) (m' : Physical pages) → a ≡ iu.asked windows p i
         → DoesUnnoted (access (ram_size pages) (units_of later) a) o o1 (record { response = Value value; units = units_of m' })
         → DoesUnnoted (carried_out windows (ram_size pages) (inner_of (timed (state_over p m))) word) o o1 (inner_of (state_over q m'))
     answers o o1 a m' asks d =
-        carried_out_by (keeping false false) windows (ram_size pages) (inner_of (timed (state_over p m))) o o1 no_notes no_notes no_notes word (Memory op rd rs1 operand) a
-        (record { response = Value value; units = units_of m' }) (inner_of (state_over q m')) word_is (rw (← place) untrapped) (rw (← place) (sym asks)) d refl (rw is refl)
+        carried_out_by (keeping false false) windows (ram_size pages) (inner_of (timed (state_over p m))) o o1 no_notes no_notes no_notes word i a
+        (record { response = Value value; units = units_of m' }) (inner_of (state_over q m')) word_is untrapped asks d refl (rw is refl)
 
-    -- a load from RAM
+    module _ (size : Size) (asi at : ℕ) where
+      -- a load that is known at once
+      pub loads : (m' : Physical pages) → Load size asi at ≡ iu.asked windows p i
+          → ((timer : Timer) (bytes : List ℕ) → DoesUnnoted (access (ram_size pages) (timed_units m timer) (Load size asi at)) (outside_of m.phys bytes) (outside_of m.phys bytes)
+          (served (timed_units m timer) value)) → m' ≡ record m { phys = counted_down m.phys } → IsCarriedOut windows word p m q m'
+      loads m' asks loaded next = rw next (record {
+        done = λ bytes. answers (outside_of m.phys bytes) (outside_of m.phys bytes) (Load size asi at) later asks (loaded later.phys.timer bytes);
+        taken = refl;
+        mmu = refl;
+      })
+
+      -- a store that is known at once to be answered
+      pub stores : (m' : Physical pages) (stored : ℕ) (r : Response) → Store size asi at stored ≡ iu.asked windows p i → value ≡ 0
+          → ((value : ℕ) (timer : Timer) (bytes : List ℕ) → result_of (access (ram_size pages) (timed_units m timer) (Store size asi at value)) (outside_of m.phys bytes)
+          ≡ served (timed_units m timer) 0)
+          → ((bytes : List ℕ) → DoesUnnoted (access (ram_size pages) (units_of later) (Store size asi at stored)) (outside_of m.phys bytes) (outside_of m'.phys bytes)
+          (record { response = r; units = units_of m' }))
+          → m'.phys.taken ≡ m.phys.taken → IsCarriedOut windows word p m q m'
+      stores m' stored r asks none answered d same =
+          let answer : (bytes : List ℕ) → record { response = r; units = units_of m' } ≡ served (units_of later) value =
+          λ bytes. (d bytes).result ∙ answered stored later.phys.timer bytes ∙ ap (served (units_of later)) (sym none) in
+          record {
+            done = λ bytes. answers (outside_of m.phys bytes) (outside_of m'.phys bytes) (Store size asi at stored) m' asks (record {
+              result = ap (λ x. record { response = x; units = units_of m' }) (sym (ap (λ (s : Served). s.response) (answer bytes))) ∙ (d bytes).result;
+              outside = (d bytes).outside;
+              noted = (d bytes).noted;
+            });
+            taken = same;
+            mmu = ap (λ (s : Served). s.units.mmu) (answer []);
+          }
+
+  -- the same of a load or a store of a word or a byte
+  module _ (op : MemoryOp) (size : Size) (rd rs1 : ℕ) (operand : Operand) (at value : ℕ) (word_is : Memory op rd rs1 operand ≡ meaning word) (place : at ≡ sum_of_sources windows p rs1 operand)
+      (untrapped : taken (memory_traps op rd at) ≡ None) (is : q ≡ transferred_data windows p op rd value) where
     pub load_carried_out : (m' : Physical pages) → access_of windows p op (data_space p) rd at ≡ Load size (data_space p) at
         → ((timer : Timer) (bytes : List ℕ) → DoesUnnoted (access (ram_size pages) (timed_units m timer) (Load size (data_space p) at)) (outside_of m.phys bytes) (outside_of m.phys bytes)
         (served (timed_units m timer) value)) → m' ≡ record m { phys = counted_down m.phys } → IsCarriedOut windows word p m q m'
-    load_carried_out m' asks loaded next = rw next (record {
-      done = λ bytes. answers (outside_of m.phys bytes) (outside_of m.phys bytes) (Load size (data_space p) at) later asks (loaded later.phys.timer bytes);
-      taken = refl;
-      mmu = refl;
-    })
+    load_carried_out m' asks = loads (Memory op rd rs1 operand) value word_is (rw (← place) untrapped) is size (data_space p) at m' (rw (← place) (sym asks))
 
-    -- a store to RAM
     pub store_carried_out : (m' : Physical pages) (stored : ℕ) (r : Response) → access_of windows p op (data_space p) rd at ≡ Store size (data_space p) at stored → value ≡ 0
         → ((value : ℕ) (timer : Timer) (bytes : List ℕ) → result_of (access (ram_size pages) (timed_units m timer) (Store size (data_space p) at value)) (outside_of m.phys bytes)
         ≡ served (timed_units m timer) 0)
-        → ((bytes : List ℕ) → DoesUnnoted (access (ram_size pages) (units_of later) (Store size (data_space p) at stored)) (outside_of m.phys bytes) (outside_of m'.phys bytes) (record { response = r; units = units_of m' }))
+        → ((bytes : List ℕ) → DoesUnnoted (access (ram_size pages) (units_of later) (Store size (data_space p) at stored)) (outside_of m.phys bytes) (outside_of m'.phys bytes)
+        (record { response = r; units = units_of m' }))
         → m'.phys.taken ≡ m.phys.taken → IsCarriedOut windows word p m q m'
-    store_carried_out m' stored r asks none answered d same =
-        let answer : (bytes : List ℕ) → record { response = r; units = units_of m' } ≡ served (units_of later) value =
-        λ bytes. (d bytes).result ∙ answered stored later.phys.timer bytes ∙ ap (served (units_of later)) (sym none) in
-        record {
-          done = λ bytes. answers (outside_of m.phys bytes) (outside_of m'.phys bytes) (Store size (data_space p) at stored) m' asks (record {
-            result = ap (λ x. record { response = x; units = units_of m' }) (sym (ap (λ (s : Served). s.response) (answer bytes))) ∙ (d bytes).result;
-            outside = (d bytes).outside;
-            noted = (d bytes).noted;
-          });
-          taken = same;
-          mmu = ap (λ (s : Served). s.units.mmu) (answer []);
-        }
+    store_carried_out m' stored r asks = stores (Memory op rd rs1 operand) value word_is (rw (← place) untrapped) is size (data_space p) at m' stored r (rw (← place) (sym asks))
+
+-- the state that it leads to
+pub carried : (windows : ℕ) {pages : ℕ} (word : ℕ) (bytes : List ℕ) (p q : Processor) (m m' : Physical pages) → IsCarriedOut windows word p m q m'
+    → state_over q m' ≡ acted_on bytes (timed (state_over p m)) (carried_out windows (ram_size pages) (inner_of (timed (state_over p m))) word)
+carried windows {pages} word bytes p q m m' made =
+    let o = outside_of m.phys bytes in
+    let o1 = outside_of m'.phys bytes in
+    let a = carried_out windows (ram_size pages) (inner_of (timed (state_over p m))) word in
+    let d = made.done bytes in
+    let same : m'.phys.taken ≡ m.phys.taken + (length (drop m.phys.taken bytes) - length (drop m'.phys.taken bytes)) =
+    subst (λ t. t ≡ m.phys.taken + (length (drop m.phys.taken bytes) - length (drop t bytes))) (sym made.taken) (omega arith) in
+    ap {A = ℕ} {B = State} (λ t. record { processor = q; mmu = m'.mmu; memory = record m'.phys { taken = t } }) same
+    ∙ ap (λ z. left_by z m.phys o o1) d.result ∙ ap (λ w. left_by (result_of a o) m.phys o w) d.outside
+
+-- a step that is made, or not
+pub made_or_not : {Q : Type 0} (windows pages : ℕ) (schedule : Schedule) (n word : ℕ) (p q : Processor) (m m' : Physical pages) (made : Bool) → IsCalm windows pages schedule n (state_over p m)
+    → p.annul ≡ false → IsFetched windows p m word → ((q ≡ p) × (m' ≡ m) → Q) → MayBeCarriedOut windows word p m q m' made
+    → MatchBool made (state_over q m' ≡ step windows pages schedule n (state_over p m)) Q
+made_or_not windows pages schedule n word p q m m' true is unannulled fetched left d =
+    carried windows word (arrived (n + 1) schedule) p q m m' d ∙ sym (ordinary windows pages schedule n p m word is unannulled fetched)
+made_or_not windows pages schedule n word p q m m' false is unannulled fetched left d = left d
+
+-- parts that are left
+pub left_parts : {windows pages : ℕ} (x : Parts windows pages) (q : Processor) (m : Physical pages) → q ≡ x.processor → m ≡ x.memory → record { processor = q; memory = m } ≡ x
+left_parts {windows} {pages} x q m a b =
+    ap {A = Processor} {B = Parts windows pages} (λ y. record { processor = y; memory = m }) a
+    ∙ ap {A = Physical pages} {B = Parts windows pages} (λ y. record { processor = x.processor; memory = y }) b
 
 -- ---- the register that a load leaves
 

@@ -6,7 +6,8 @@ use Rattle.sv8_phys.specs.Contents.{Contents, arrived, outside_of}
 use Rattle.sv8_phys.specs.Memory.{ram_size}
 use Rattle.sv8_trap.specs.Processor.{Processor}
 use Rattle.sv8_memory.specs.declared.physical.Physical.{Physical}
-use Rattle.sv8_cpu.specs.Step.{carried_out}
+use Rattle.sv8_model.specs.Outside.{Outside}
+use Rattle.sv8_cpu.specs.Step.{Inner, carried_out, continued, instruction}
 use Rattle.sv8_cpu.specs.State.{State, inner_of}
 use Rattle.sv8_cpu.specs.Run.{acted_on, step}
 
@@ -25,10 +26,16 @@ counted_down m = record m { timer = record m.timer { count = m.timer.count - 1 }
 abbrev pub timed : State → State
 timed s = record s { memory = counted_down s.memory }
 
--- step n is an ORDINARY one: the timer is a step on, the instruction of a word is carried out, and nothing else happens
-abbrev pub IsOrdinary : ℕ → ℕ → Schedule → ℕ → State → ℕ → Type 0
-IsOrdinary windows pages schedule n s word =
-    step windows pages schedule n s ≡ acted_on (arrived (n + 1) schedule) (timed s) (carried_out windows (ram_size pages) (inner_of (timed s)) word)
+-- step n is a CALM one: the timer is a step on, and the processor goes on with the annulled slot or the instruction at PC
+abbrev pub IsCalm : ℕ → ℕ → Schedule → ℕ → State → Type 0
+IsCalm windows pages schedule n s =
+    step windows pages schedule n s ≡ acted_on (arrived (n + 1) schedule) (timed s) (continued windows (ram_size pages) (inner_of (timed s)))
+
+-- the fetch at PC gives a word, and changes nothing
+abbrev pub IsFetched : ℕ → {pages : ℕ} → Processor → Physical pages → ℕ → Type 0
+IsFetched windows {pages} p m word = (bytes : List ℕ) (y : Inner) (o : Outside)
+    → DoesUnnoted (carried_out windows (ram_size pages) (inner_of (timed (state_over p m))) word) (outside_of m.phys bytes) o y
+    → DoesUnnoted (instruction windows (ram_size pages) (inner_of (timed (state_over p m)))) (outside_of m.phys bytes) o y
 
 -- the timer does not expire in the next step
 abbrev pub CountsDown : {pages : ℕ} → Physical pages → Type 0

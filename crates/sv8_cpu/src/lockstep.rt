@@ -21,16 +21,16 @@ ghost use Rattle.sv8_memory.specs.View.{units_of};
 ghost use Rattle.sv8_cpu.specs.Run.{step};
 ghost use Rattle.sv8_cpu.specs.Work.{counted};
 ghost use Rattle.sv8_cpu.specs.Whole.{state_of};
-ghost use Rattle.sv8_cpu.specs.Lockstep.{state_over, counted_down, lent, CountsDown, IsOrdinary, MayBeCarriedOut};
+ghost use Rattle.sv8_cpu.specs.Lockstep.{state_over, counted_down, lent, CountsDown, IsCalm, IsFetched, MayBeCarriedOut};
 
 use crate::machine::Machine;
 use crate::parts::Parts;
 use crate::work::Work;
 use std::alloc::AllocError;
-use sv8_isa::{Group, Instr, MemoryOp, Operand, decode_memory, group};
+use sv8_isa::{Group, Instr, MemoryOp, Operand, decode, decode_memory, group};
 use sv8_iu::{
-    AccessRequest, Response, Space, carry_out_plainly, data_space, finish_access, low_word,
-    memory_trap, sum_of_sources,
+    AccessRequest, Response, Space, asked, carry_out_plainly, complete, data_space, finish_access,
+    low_word, memory_trap, raised_by, space_of, sum_of_sources,
 };
 use sv8_memory::Memory;
 use sv8_phys::{NoTouches, Size};
@@ -52,28 +52,58 @@ fn may_be_interrupted<const NW: usize, const PAGES: usize>(
     if pending == 0 { Ok(false) } else { Ok(true) }
 }
 
-/// The word of the instruction that step n carries out, where nothing else happens in it (no event, expiry, interrupt or annulled
-/// slot), and its fetch is one that is known at once (`Memory::fetched_at_once`).
+/// Whether step n is known to go on with the annulled slot or the instruction at PC: no event, expiry or interrupt is in it, and
+/// the machine runs.
 #[inline(always)]
-fn ordinary_word<const NW: usize, const PAGES: usize>(
+fn is_calm<const NW: usize, const PAGES: usize>(
     p: &Processor<NW>,
     memory: &Memory<PAGES>,
     n: u32,
     timeline: &Timeline,
-) -> Result<Option<u32>, AllocError>
-    ensures ordinary { IfOk result (λ found. IfSome found (λ word. IsOrdinary NW PAGES timeline.now n (state_over p.now memory.now) word)) }
-    ensures counting { IfOk result (λ found. IfSome found (λ word. CountsDown memory.now)) }
+) -> Result<bool, AllocError>
+    ensures calm { IfOk result (λ calm. calm ≡ true → IsCalm NW PAGES timeline.now n (state_over p.now memory.now)) }
+    ensures counting { IfOk result (λ calm. calm ≡ true → CountsDown memory.now) }
 {
     if timeline.may_have_events(n) || memory.phys().timer().count == 1 {
+        return Ok(false);
+    }
+    if !p.is_running() || may_be_interrupted(p, memory)? {
+        return Ok(false);
+    }
+    Ok(true)
+}
+
+/// The word that both machines fetch, where both fetches are known at once (`Memory::fetched_at_once`) and give the same.
+#[inline(always)]
+fn fetch_both<const NW: usize, const PAGES: usize>(
+    p: &Processor<NW>,
+    memory: &Memory<PAGES>,
+    other: &Memory<PAGES>,
+) -> Result<Option<u32>, AllocError>
+    ensures own { IfOk result (λ found. IfSome found (λ word. IsFetched NW p.now memory.now word)) }
+    ensures others { IfOk result (λ found. IfSome found (λ word. IsFetched NW p.now other.now word)) }
+{
+    let supervisor = p.registers().psr().s;
+    let Some(value) = memory.fetched_at_once(supervisor, p.pc())? else {
         return Ok(None);
-    }
-    if !p.is_running() || p.annul() || may_be_interrupted(p, memory)? {
+    };
+    let Some(other_value) = other.fetched_at_once(supervisor, p.pc())? else {
         return Ok(None);
+    };
+    let word = low_word(value);
+    if word == low_word(other_value) {
+        Ok(Some(word))
+    } else {
+        Ok(None)
     }
-    match memory.fetched_at_once(p.registers().psr().s, p.pc())? {
-        Some(value) => Ok(Some(low_word(value))),
-        None => Ok(None),
-    }
+}
+
+/// Whether an address space is one of virtual addresses.
+#[inline(always)]
+fn is_virtual(asi: u8) -> bool
+    ensures { result ≡ true → space_of asi ≡ Space.Virtual }
+{
+    matches!(space_of(asi), Space::Virtual)
 }
 
 /// A step of a timer that does not expire.
@@ -233,8 +263,74 @@ fn transfer_both<const NW: usize, const PAGES: usize>(
     }
 }
 
-/// Carries a word out over both memories, if its instruction is a frequent one and does the same to the processor. Tells
-/// whether it has; where it has not, nothing has changed.
+/// Carries a word out over both memories by the way of every instruction, if it raises no trap, and its access, if it makes one,
+/// is known at once and gives both the same.
+#[inline(never)]
+fn carry_out_rarely<const NW: usize, const PAGES: usize>(
+    p: &mut Processor<NW>,
+    memory: &mut Memory<PAGES>,
+    other: &mut Memory<PAGES>,
+    word: u32,
+) -> Result<bool, AllocError>
+    requires counting { CountsDown memory.old }
+    requires others_counting { CountsDown other.old }
+    ensures own { IfOk result (MayBeCarriedOut NW word p.old memory.old p.new memory.new) }
+    ensures others { IfOk result (MayBeCarriedOut NW word p.old other.old p.new other.new) }
+{
+    let instr = decode(word);
+    let None = raised_by(p, instr) else {
+        return Ok(false);
+    };
+    match asked(p, instr) {
+        AccessRequest::Nothing => {
+            count_down(memory)?;
+            count_down(other)?;
+            complete(p, instr, 0);
+            Ok(true)
+        }
+        AccessRequest::Load { size, asi, at } => {
+            if !is_virtual(asi) {
+                return Ok(false);
+            }
+            let Some(value) = memory.loaded_at_once(size, asi, at)? else {
+                return Ok(false);
+            };
+            let Some(other_value) = other.loaded_at_once(size, asi, at)? else {
+                return Ok(false);
+            };
+            if value != other_value {
+                return Ok(false);
+            }
+            count_down(memory)?;
+            count_down(other)?;
+            complete(p, instr, value);
+            Ok(true)
+        }
+        AccessRequest::Store {
+            size,
+            asi,
+            at,
+            value: stored,
+        } => {
+            if !is_virtual(asi) {
+                return Ok(false);
+            }
+            if !memory.is_stored_at_once(size, asi, at) || !other.is_stored_at_once(size, asi, at) {
+                return Ok(false);
+            }
+            count_down(memory)?;
+            count_down(other)?;
+            store(memory, size, asi, at, stored)?;
+            store(other, size, asi, at, stored)?;
+            complete(p, instr, 0);
+            Ok(true)
+        }
+        _ => Ok(false),
+    }
+}
+
+/// Carries a word out over both memories, if it does the same to the processor. Tells whether it has; where it has not, nothing
+/// has changed.
 #[inline(always)]
 fn carry_out_both<const NW: usize, const PAGES: usize>(
     p: &mut Processor<NW>,
@@ -249,22 +345,25 @@ fn carry_out_both<const NW: usize, const PAGES: usize>(
 {
     match group(word) {
         Group::Memory => {
-            let done = transfer_both(p, memory, other, word)?;
-            Ok(done)
+            if transfer_both(p, memory, other, word)? {
+                return Ok(true);
+            }
         }
         _ => {
-            if !carry_out_plainly(p, word) {
-                return Ok(false);
+            if carry_out_plainly(p, word) {
+                count_down(memory)?;
+                count_down(other)?;
+                return Ok(true);
             }
-            count_down(memory)?;
-            count_down(other)?;
-            Ok(true)
         }
     }
+    let done = carry_out_rarely(p, memory, other, word)?;
+    Ok(done)
 }
 
-/// Makes step n of two machines, where both are ordinary steps that carry out the same frequent instruction. The second machine
-/// is taken to have the processor of the first. Tells whether it has; where it has not, nothing has changed.
+/// Makes step n of two machines as one, where both pass over an annulled slot, or carry out the same instruction with no trap, and
+/// nothing else happens. The second machine is taken to have the processor of the first. Tells whether it has; where it has not,
+/// nothing has changed.
 #[inline(always)]
 fn step_both<const NW: usize, const PAGES: usize>(
     parts: &mut Parts<NW, PAGES>,
@@ -282,24 +381,30 @@ fn step_both<const NW: usize, const PAGES: usize>(
 {
     let p = &mut parts.processor;
     let memory = &mut parts.memory;
-    let found = ordinary_word(p, memory, n, timeline)?;
-    let also = ordinary_word(p, &other.memory, n, other_timeline)?;
-    match (found, also) {
-        (Some(word), Some(same)) => {
-            if word != same {
-                return Ok(false);
-            }
+    if !is_calm(p, memory, n, timeline)? || !is_calm(p, &other.memory, n, other_timeline)? {
+        return Ok(false);
+    }
+    if p.annul() {
+        p.skip_slot();
+        count_down(memory)?;
+        count_down(&mut other.memory)?;
+        return Ok(true);
+    }
+    match fetch_both(p, memory, &other.memory)? {
+        Some(word) => {
             let made = carry_out_both(p, memory, &mut other.memory, word)?;
             Ok(made)
         }
-        _ => Ok(false),
+        None => Ok(false),
     }
 }
 
 impl<const NW: usize, const PAGES: usize> Machine<NW, PAGES> {
-    /// Makes step n of this machine and of another one as one, where both are ordinary steps that carry out the same frequent
-    /// instruction. The other machine is taken to have the processor of this one, which it does not look at and does not
-    /// change: `copy_processor` gives it to it. Tells whether the steps were made; where they were not, nothing has changed.
+    /// Makes step n of this machine and of another one as one, where both pass over an annulled slot, or carry out the same
+    /// instruction with no trap, and nothing else happens. Its loads have to give both the same, or go to %g0. The other machine is
+    /// taken to have the processor of this one: its own is neither looked at nor changed, and `copy_processor` gives it this one.
+    /// Tells whether the steps were made; where they were not, nothing has changed. That they are made wherever they could be is no
+    /// part of the contract.
     ///
     /// # Errors
     ///

@@ -87,7 +87,7 @@ impl<const NW: usize, const PAGES: usize, const K: u32> Bench<NW, PAGES, K> {
     }
 
     /// Makes the next steps of two walks, of this workbench and of another one, together, as long as they are recorded, below
-    /// another step, and the same ordinary ones in both (`Machine::pass_in_lockstep`). It may make none.
+    /// another step, and the same in both (`Machine::pass_in_lockstep`). It may make none.
     ///
     /// # Errors
     ///
