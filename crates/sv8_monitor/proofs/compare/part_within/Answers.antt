@@ -57,7 +57,7 @@ returns-then-not-alike-clause-parted g c =
       omega (arith, inv.low, told.further, is),
       omega (arith, told.ended, is),
       λ m low below. alike_further now.kept before.kept c.loop-now.now.kept c.loop-now.before.kept inv.now_searched.kept inv.before_searched.kept c.args.from n next inv.alike told.front m low
-        (omega (arith, below, is)),
+          (omega (arith, below, is)),
       subst (λ x. AreAlike before.kept now.kept x → ⊥) (sym is)
           (unlike_kept now.kept before.kept c.loop-now.now.kept c.loop-now.before.kept inv.now_searched.kept inv.before_searched.kept next here),
     )

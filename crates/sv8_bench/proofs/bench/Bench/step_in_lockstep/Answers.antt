@@ -52,7 +52,7 @@ returns-clause-made g c =
     let below : n < recorded k trace = subst (λ (w : Workbench). n < recorded k w.recording) (sym c.self.view_is) c.requires.recorded in
     either c.in_ok-made.made
     (λ counted. subst (λ (w : Workbench). IsMade k n w (with_record kept trace c.pass_in_lockstep.new.work)) c.self.view_is
-      (record { kept = refl; recorded = no_more k (length trace.intervals) n c.self.invariant.4 c.requires.within (inl below); worked = counted }))
+    (record { kept = refl; recorded = no_more k (length trace.intervals) n c.self.invariant.4 c.requires.within (inl below); worked = counted }))
     (λ same. ap (with_record kept trace) same ∙ c.self.view_is) c.in_ok-made.ensures.counted
 
 pub returns-clause-others_made : goal.returns-clause-others_made
@@ -64,5 +64,5 @@ returns-clause-others_made g c =
     let below : n < recorded k trace = subst (λ (w : Workbench). n < recorded k w.recording) (sym c.other.view_is) c.requires.others_recorded in
     either c.in_ok-made.made
     (λ counted. subst (λ (w : Workbench). IsMade k n w (with_record kept trace c.pass_in_lockstep.new.other_work)) c.other.view_is
-      (record { kept = refl; recorded = no_more k (length trace.intervals) n c.other.invariant.4 c.requires.within (inl below); worked = counted }))
+    (record { kept = refl; recorded = no_more k (length trace.intervals) n c.other.invariant.4 c.requires.within (inl below); worked = counted }))
     (λ same. ap (with_record kept trace) same ∙ c.other.view_is) c.in_ok-made.ensures.others_counted
