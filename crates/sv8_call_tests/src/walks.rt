@@ -111,19 +111,34 @@ fn walks_part_in_front_of_another_loaded_word(rt: HostRuntime) -> Result<(), Fai
     Ok(())
 }
 
-/// They stop in front of another instruction, of one that is not frequent, and of an annulled slot; a store goes to both
-/// memories.
+/// They go on through a store, which goes to both memories, an instruction that is not frequent, and an annulled slot.
+#[test]
+fn walks_go_on_through_rare_steps(rt: HostRuntime) -> Result<(), Fail> {
+    let alloc = rt.alloc();
+    let storing: &[&[u8]] = &[b"again: st %g1, [%g0+64]", b"ba again", b"inc %g1"];
+    assert!(rt; come_to(alloc, storing, storing)? == (512, 1_024));
+    let rare: &[&[u8]] = &[b"again: ba again", b"wr %g0, 0, %y"];
+    assert!(rt; come_to(alloc, rare, rare)? == (512, 1_024));
+    let annulled: &[&[u8]] = &[b"again: ba,a again", b"nop"];
+    assert!(rt; come_to(alloc, annulled, annulled)? == (512, 1_024));
+    Ok(())
+}
+
+/// They stop in front of another instruction, of one that traps, and of an access to a device.
 #[test]
 fn walks_part_in_front_of_other_steps(rt: HostRuntime) -> Result<(), Fail> {
     let alloc = rt.alloc();
     let other: &[&[u8]] = &[b"again: ba again", b"inc %g2"];
     assert!(rt; come_to(alloc, COUNT, other)? == (1, 513));
-    let rare: &[&[u8]] = &[b"again: ba again", b"wr %g0, 0, %y"];
-    assert!(rt; come_to(alloc, rare, rare)? == (1, 513));
-    let annulled: &[&[u8]] = &[b"again: ba,a again", b"nop"];
-    assert!(rt; come_to(alloc, annulled, annulled)? == (1, 513));
-    let storing: &[&[u8]] = &[b"again: st %g1, [%g0+64]", b"ba again", b"inc %g1"];
-    assert!(rt; come_to(alloc, storing, storing)? == (512, 1_024));
+    let trapping: &[&[u8]] = &[b"again: ba again", b"ta 1"];
+    assert!(rt; come_to(alloc, trapping, trapping)? == (1, 513));
+    let device: &[&[u8]] = &[
+        b"sethi 0x200000, %g1",
+        b"again: ld [%g1+4], %g2",
+        b"ba again",
+        b"nop",
+    ];
+    assert!(rt; come_to(alloc, device, device)? == (1, 513));
     Ok(())
 }
 

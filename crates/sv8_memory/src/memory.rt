@@ -178,7 +178,7 @@ impl<const PAGES: usize> Memory<PAGES> {
     ///
     /// # Errors
     ///
-    /// None: no memory is taken.
+    /// Those of a read of RAM that keeps no notes, which takes no memory.
     #[inline(always)]
     pub fn fetched_at_once(&self, supervisor: bool, at: u32) -> Result<Option<u64>, AllocError>
         requires { at % 4 ≡ 0 }
@@ -193,7 +193,7 @@ impl<const PAGES: usize> Memory<PAGES> {
     ///
     /// # Errors
     ///
-    /// None: no memory is taken.
+    /// Those of a read of RAM that keeps no notes, which takes no memory.
     #[inline(always)]
     pub fn loaded_at_once(&self, size: Size, asi: u8, at: u32) -> Result<Option<u64>, AllocError>
         requires space { space_of asi ≡ Space.Virtual }
