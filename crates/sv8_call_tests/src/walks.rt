@@ -111,7 +111,22 @@ fn walks_part_in_front_of_another_loaded_word(rt: HostRuntime) -> Result<(), Fai
     Ok(())
 }
 
-/// They go on through a store, which goes to both memories, an instruction that is not frequent, and an annulled slot.
+/// Lines that enable traps, and then trap and come back again and again.
+const TRAPPING: &[&[u8]] = &[
+    b"mov 0xe0, %psr",
+    b"nop",
+    b"nop",
+    b"nop",
+    b"again: ta 1",
+    b"ba again",
+    b"nop",
+    b".org 0x810",
+    b"jmp %l2",
+    b"rett %l2+4",
+];
+
+/// They go on through a store, which goes to both memories, an instruction that is not frequent, an annulled slot, a trap, and
+/// error mode.
 #[test]
 fn walks_go_on_through_rare_steps(rt: HostRuntime) -> Result<(), Fail> {
     let alloc = rt.alloc();
@@ -121,24 +136,53 @@ fn walks_go_on_through_rare_steps(rt: HostRuntime) -> Result<(), Fail> {
     assert!(rt; come_to(alloc, rare, rare)? == (512, 1_024));
     let annulled: &[&[u8]] = &[b"again: ba,a again", b"nop"];
     assert!(rt; come_to(alloc, annulled, annulled)? == (512, 1_024));
+    assert!(rt; come_to(alloc, TRAPPING, TRAPPING)? == (512, 1_024));
+    let ending: &[&[u8]] = &[b"again: ba again", b"ta 1"];
+    assert!(rt; come_to(alloc, ending, ending)? == (512, 1_024));
     Ok(())
 }
 
-/// They stop in front of another instruction, of one that traps, and of an access to a device.
+/// They go on through a load that counts the bytes that wait at the console, and a store that puts a byte out.
+#[test]
+fn walks_go_on_at_the_console(rt: HostRuntime) -> Result<(), Fail> {
+    let alloc = rt.alloc();
+    let polling: &[&[u8]] = &[
+        b"sethi 0x200000, %g1",
+        b"again: ld [%g1+4], %g2",
+        b"ba again",
+        b"st %g2, [%g1+8]",
+    ];
+    assert!(rt; come_to(alloc, polling, polling)? == (512, 1_024));
+    Ok(())
+}
+
+/// They stop in front of another instruction, and of a load that takes a byte from the console.
 #[test]
 fn walks_part_in_front_of_other_steps(rt: HostRuntime) -> Result<(), Fail> {
     let alloc = rt.alloc();
     let other: &[&[u8]] = &[b"again: ba again", b"inc %g2"];
     assert!(rt; come_to(alloc, COUNT, other)? == (1, 513));
-    let trapping: &[&[u8]] = &[b"again: ba again", b"ta 1"];
-    assert!(rt; come_to(alloc, trapping, trapping)? == (1, 513));
-    let device: &[&[u8]] = &[
+    let taking: &[&[u8]] = &[b"sethi 0x200000, %g1", b"again: ba again", b"ld [%g1], %g2"];
+    assert!(rt; come_to(alloc, taking, taking)? == (2, 514));
+    Ok(())
+}
+
+/// They stop in front of a load that counts the bytes that wait where one waits in one of them. It came in at step 99.
+#[test]
+fn walks_part_in_front_of_another_count(rt: HostRuntime) -> Result<(), Fail> {
+    let alloc = rt.alloc();
+    let polling: &[&[u8]] = &[
         b"sethi 0x200000, %g1",
-        b"again: ld [%g1+4], %g2",
-        b"ba again",
-        b"nop",
+        b"again: ba again",
+        b"ld [%g1+4], %g2",
     ];
-    assert!(rt; come_to(alloc, device, device)? == (1, 513));
+    let mut bench = with_lines(alloc, polling)?;
+    let mut other = with_lines(alloc, polling)?;
+    other.set_input(99, b"x")?;
+    let mut watch = Watch::new(alloc);
+    let _ = bench.walk(512, &mut watch)?;
+    let _ = other.walk(512, &mut watch)?;
+    assert!(rt; together(alloc, &mut bench, &mut other, 100)? == 100);
     Ok(())
 }
 

@@ -1,5 +1,5 @@
 -- An ordinary step, and what is carried out in it over two memories.
-use Rattle.std.proofs.Common.{drop, length, subst, MatchBool, ◌≡◌, ◌≢◌, ◌∙◌, ◌⊎◌, inl, inr, ◌+◌, ◌-◌, ◌==◌, ℕ, zero, suc, Bool, true, false, None, List, [], refl, sym, ap, arith}
+use Rattle.std.proofs.Common.{drop, length, subst, ◌≡◌, ◌≢◌, ◌∙◌, ◌⊎◌, inl, inr, ◌+◌, ◌-◌, ◌==◌, ℕ, zero, suc, Bool, true, false, None, Some, List, [], refl, sym, ap, arith}
 use Rattle.std.proofs.lemmas.Bool.Decides.{nat_tests}
 use Rattle.sv8_isa.specs.declared.instr.Instr.{Instr}
 use Rattle.sv8_isa.specs.declared.instr.Instr.TheVariants.{Memory}
@@ -19,6 +19,7 @@ use Rattle.sv8_phys.specs.Devices.{tick}
 use Rattle.sv8_phys.specs.Memory.{ram_size}
 use Rattle.sv8_phys.specs.Contents.{Contents, arrived, outside_of}
 use Rattle.sv8_mmu.specs.declared.registers.Mmu.{Mmu}
+use Rattle.sv8_trap.specs.declared.table.Trap.{Trap}
 use Rattle.sv8_trap.specs.Table.{taken}
 use Rattle.sv8_trap.specs.Processor.{Processor, slot_skipped, with_result}
 use Rattle.sv8_trap.specs.Interrupt.{unmasked}
@@ -27,20 +28,19 @@ use Rattle.sv8_iu.specs.declared.request.Response.{Response}
 use Rattle.sv8_iu.specs.declared.request.Response.TheVariants.{Value}
 use Rattle.sv8_iu.specs.declared.request.AccessRequest.{AccessRequest}
 use Rattle.sv8_iu.specs.Operands.{sum_of_sources}
-use Rattle.sv8_iu.specs.Instruction.{raised, complete, data_space, IsPlain}
+use Rattle.sv8_iu.specs.Instruction.{raised, trapped, complete, data_space, IsPlain}
 use Rattle.sv8_iu.specs.Instruction as iu
 use Rattle.sv8_iu.specs.Memory.{low_word, access_of, memory_traps, transferred_data}
 use Rattle.sv8_memory.specs.declared.physical.Physical.{Physical}
 use Rattle.sv8_memory.specs.Units.{Served, served}
 use Rattle.sv8_memory.specs.Access.{access}
 use Rattle.sv8_memory.proofs.Poking.{quiet}
-use Rattle.sv8_cpu.specs.Step.{Inner, carried_out, continued, requested, interruptible, action}
+use Rattle.sv8_cpu.specs.Step.{Inner, carried_out, executed, continued, requested, interruptible, action}
 use Rattle.sv8_cpu.specs.State.{State, inner_of, left_by}
 use Rattle.sv8_cpu.specs.Run.{step, acted_on}
-use Rattle.sv8_cpu.proofs.Steps.{carried_out_by, carried_out_plainly, instruction_by, interruptible_by, awake_by}
-use Rattle.sv8_memory.specs.View.{timed_units, units_of}
-use Rattle.sv8_cpu.specs.declared.parts.Parts.{Parts}
-use Rattle.sv8_cpu.specs.Lockstep.{state_over, counted_down, timed, CountsDown, IsCarriedOut, MayBeCarriedOut, IsCalm, IsFetched}
+use Rattle.sv8_cpu.proofs.Steps.{trap_taken, carried_out_by, carried_out_plainly, instruction_by, interruptible_by, awake_by}
+use Rattle.sv8_memory.specs.View.{IsTaken, timed_units, units_of}
+use Rattle.sv8_cpu.specs.Lockstep.{state_over, counted_down, timed, CountsDown, IsCarriedOut, IsLoaded, IsStored, MayBeCarriedOut, MayBeMade, IsCalm, IsFetched}
 
 -- ---- the timer
 
@@ -108,6 +108,20 @@ module _ (windows pages : ℕ) (schedule : Schedule) (n : ℕ) (p : Processor) (
       rw (sym (quiet schedule n m.phys pokes requests))
       (ap (λ z. left_by z m.phys o (after (action windows limit (inner_of (state_over p m))) o)) (sym all.result) ∙ ap (λ w. left_by y m.phys o w) (sym all.outside))
 
+  -- no event, and the machine is in error mode
+  pub stopped : pokes_of_step n schedule.pokes ≡ [] → requests_of_step n schedule.requests ≡ [] → p.running ≡ false → state_over p m ≡ step windows pages schedule n (state_over p m)
+  unfolding step action
+  stopped pokes requests stops =
+      let bytes = arrived (n + 1) schedule in
+      let limit = ram_size pages in
+      let o = outside_of m.phys bytes in
+      let y = inner_of (state_over p m) in
+      let all : DoesUnnoted (action windows limit y) o o y = does_if_false (keeping false false) p.running _ _ o o y no_notes no_notes stops (record { result = refl; outside = refl; noted = refl }) in
+      let same : m.phys.taken ≡ m.phys.taken + (length o.waiting - length o.waiting) = omega arith in
+      rw (sym (quiet schedule n m.phys pokes requests))
+      (ap {A = ℕ} {B = State} (λ t. record { processor = p; mmu = m.mmu; memory = record m.phys { taken = t } }) same
+      ∙ ap (λ z. left_by z m.phys o o) all.result ∙ ap (λ w. left_by (result_of (action windows limit y) o) m.phys o w) all.outside)
+
   -- .. and no slot is annulled
   pub ordinary : (word : ℕ) → IsCalm windows pages schedule n (state_over p m) → p.annul ≡ false → IsFetched windows p m word
       → step windows pages schedule n (state_over p m)
@@ -151,16 +165,51 @@ fetched_word windows {pages} p m value word fetched is = λ bytes y o1 made.
     (Fetch p.registers.psr.s p.pc) (served (inner_of (timed (state_over p m))).units value) refl (fetched (inner_of (timed (state_over p m))).units.timer bytes)
     (rw (← is) made)
 
+-- ---- a store
+
+-- it is known at once to be answered
+pub stored_at_once : {pages : ℕ} (size : Size) (asi at value : ℕ) (m m' : Physical pages) (r : Response)
+    → ((value : ℕ) (timer : Timer) (bytes : List ℕ) → IsTaken m.mmu (result_of (access (ram_size pages) (timed_units m timer) (Store size asi at value)) (outside_of m.phys bytes)))
+    → ((bytes : List ℕ) → DoesUnnoted (access (ram_size pages) (timed_units m (counted_down m.phys).timer) (Store size asi at value)) (outside_of m.phys bytes) (outside_of m'.phys bytes)
+    (record { response = r; units = units_of m' }))
+    → m'.phys.taken ≡ m.phys.taken → IsStored size asi at value m m'
+stored_at_once {pages} size asi at value m m' r known d same =
+    let timer = (counted_down m.phys).timer in
+    let answer : (bytes : List ℕ) → r ≡ Value 0 = λ bytes. ap (λ (s : Served). s.response) (d bytes).result ∙ (known value timer bytes).0 in
+    record {
+      done = λ bytes. record {
+        result = ap (λ x. record { response = x; units = units_of m' }) (sym (answer bytes)) ∙ (d bytes).result;
+        outside = (d bytes).outside;
+        noted = (d bytes).noted;
+      };
+      taken = same;
+      mmu = ap (λ (s : Served). s.units.mmu) (d []).result ∙ (known value timer []).1;
+    }
+
 -- ---- what is carried out
 
-module _ (windows : ℕ) {pages : ℕ} (word : ℕ) (p q : Processor) (m : Physical pages) where
+module _ (windows : ℕ) {pages : ℕ} (bytes : List ℕ) (word : ℕ) (p q : Processor) (m : Physical pages) where
   abbrev later : Physical pages
   later = record m { phys = counted_down m.phys }
 
   -- an instruction that makes no access
-  pub plainly_carried_out : (m' : Physical pages) → IsPlain windows p (meaning word) q → m' ≡ record m { phys = counted_down m.phys } → IsCarriedOut windows word p m q m'
+  pub plainly_carried_out : (m' : Physical pages) → IsPlain windows p (meaning word) q → m' ≡ record m { phys = counted_down m.phys } → IsCarriedOut windows bytes word p m q m'
   plainly_carried_out m' plain is = rw is (record {
-    done = λ bytes. carried_out_plainly (keeping false false) windows (ram_size pages) (inner_of (timed (state_over p m))) (outside_of m.phys bytes) no_notes word q (inner_of (state_over q later)) plain refl;
+    done = carried_out_plainly (keeping false false) windows (ram_size pages) (inner_of (timed (state_over p m))) (outside_of m.phys bytes) no_notes word q (inner_of (state_over q later)) plain refl;
+    taken = refl;
+    mmu = refl;
+  })
+
+  -- an instruction that raises a trap
+  pub trap_carried_out : (m' : Physical pages) (i : Instr) (t : Trap) → i ≡ meaning word → taken (raised windows p i) ≡ Some t → q ≡ trapped windows p i t
+      → m' ≡ record m { phys = counted_down m.phys } → IsCarriedOut windows bytes word p m q m'
+  trap_carried_out m' i t word_is raises is next = rw next (record {
+    done =
+        let o = outside_of m.phys bytes in
+        let now = inner_of (timed (state_over p m)) in
+        let y = inner_of (state_over q later) in
+        subst (λ j. DoesUnnoted (executed windows (ram_size pages) now j (taken (raised windows p j))) o o y) word_is
+        (trap_taken (keeping false false) windows (ram_size pages) now o no_notes no_notes i (taken (raised windows p i)) t y raises refl (rw is refl));
     taken = refl;
     mmu = refl;
   })
@@ -177,76 +226,51 @@ module _ (windows : ℕ) {pages : ℕ} (word : ℕ) (p q : Processor) (m : Physi
     module _ (size : Size) (asi at : ℕ) where
       -- a load that is known at once
       pub loads : (m' : Physical pages) → Load size asi at ≡ iu.asked windows p i
-          → ((timer : Timer) (bytes : List ℕ) → DoesUnnoted (access (ram_size pages) (timed_units m timer) (Load size asi at)) (outside_of m.phys bytes) (outside_of m.phys bytes)
-          (served (timed_units m timer) value)) → m' ≡ record m { phys = counted_down m.phys } → IsCarriedOut windows word p m q m'
+          → IsLoaded size asi at bytes m value → m' ≡ record m { phys = counted_down m.phys } → IsCarriedOut windows bytes word p m q m'
       loads m' asks loaded next = rw next (record {
-        done = λ bytes. answers (outside_of m.phys bytes) (outside_of m.phys bytes) (Load size asi at) later asks (loaded later.phys.timer bytes);
+        done = answers (outside_of m.phys bytes) (outside_of m.phys bytes) (Load size asi at) later asks (loaded later.phys.timer);
         taken = refl;
         mmu = refl;
       })
 
       -- a store that is known at once to be answered
-      pub stores : (m' : Physical pages) (stored : ℕ) (r : Response) → Store size asi at stored ≡ iu.asked windows p i → value ≡ 0
-          → ((value : ℕ) (timer : Timer) (bytes : List ℕ) → result_of (access (ram_size pages) (timed_units m timer) (Store size asi at value)) (outside_of m.phys bytes)
-          ≡ served (timed_units m timer) 0)
-          → ((bytes : List ℕ) → DoesUnnoted (access (ram_size pages) (units_of later) (Store size asi at stored)) (outside_of m.phys bytes) (outside_of m'.phys bytes)
-          (record { response = r; units = units_of m' }))
-          → m'.phys.taken ≡ m.phys.taken → IsCarriedOut windows word p m q m'
-      stores m' stored r asks none answered d same =
-          let answer : (bytes : List ℕ) → record { response = r; units = units_of m' } ≡ served (units_of later) value =
-          λ bytes. (d bytes).result ∙ answered stored later.phys.timer bytes ∙ ap (served (units_of later)) (sym none) in
-          record {
-            done = λ bytes. answers (outside_of m.phys bytes) (outside_of m'.phys bytes) (Store size asi at stored) m' asks (record {
-              result = ap (λ x. record { response = x; units = units_of m' }) (sym (ap (λ (s : Served). s.response) (answer bytes))) ∙ (d bytes).result;
-              outside = (d bytes).outside;
-              noted = (d bytes).noted;
-            });
-            taken = same;
-            mmu = ap (λ (s : Served). s.units.mmu) (answer []);
-          }
+      pub stores : (m' : Physical pages) (stored : ℕ) → Store size asi at stored ≡ iu.asked windows p i → value ≡ 0 → IsStored size asi at stored m m' → IsCarriedOut windows bytes word p m q m'
+      stores m' stored asks none made = record {
+        done = answers (outside_of m.phys bytes) (outside_of m'.phys bytes) (Store size asi at stored) m' asks (rw none (made.done bytes));
+        taken = made.taken;
+        mmu = made.mmu;
+      }
 
   -- the same of a load or a store of a word or a byte
   module _ (op : MemoryOp) (size : Size) (rd rs1 : ℕ) (operand : Operand) (at value : ℕ) (word_is : Memory op rd rs1 operand ≡ meaning word) (place : at ≡ sum_of_sources windows p rs1 operand)
       (untrapped : taken (memory_traps op rd at) ≡ None) (is : q ≡ transferred_data windows p op rd value) where
     pub load_carried_out : (m' : Physical pages) → access_of windows p op (data_space p) rd at ≡ Load size (data_space p) at
-        → ((timer : Timer) (bytes : List ℕ) → DoesUnnoted (access (ram_size pages) (timed_units m timer) (Load size (data_space p) at)) (outside_of m.phys bytes) (outside_of m.phys bytes)
-        (served (timed_units m timer) value)) → m' ≡ record m { phys = counted_down m.phys } → IsCarriedOut windows word p m q m'
+        → IsLoaded size (data_space p) at bytes m value → m' ≡ record m { phys = counted_down m.phys } → IsCarriedOut windows bytes word p m q m'
     load_carried_out m' asks = loads (Memory op rd rs1 operand) value word_is (rw (← place) untrapped) is size (data_space p) at m' (rw (← place) (sym asks))
 
-    pub store_carried_out : (m' : Physical pages) (stored : ℕ) (r : Response) → access_of windows p op (data_space p) rd at ≡ Store size (data_space p) at stored → value ≡ 0
-        → ((value : ℕ) (timer : Timer) (bytes : List ℕ) → result_of (access (ram_size pages) (timed_units m timer) (Store size (data_space p) at value)) (outside_of m.phys bytes)
-        ≡ served (timed_units m timer) 0)
-        → ((bytes : List ℕ) → DoesUnnoted (access (ram_size pages) (units_of later) (Store size (data_space p) at stored)) (outside_of m.phys bytes) (outside_of m'.phys bytes)
-        (record { response = r; units = units_of m' }))
-        → m'.phys.taken ≡ m.phys.taken → IsCarriedOut windows word p m q m'
-    store_carried_out m' stored r asks = stores (Memory op rd rs1 operand) value word_is (rw (← place) untrapped) is size (data_space p) at m' stored r (rw (← place) (sym asks))
+    pub store_carried_out : (m' : Physical pages) (stored : ℕ) → access_of windows p op (data_space p) rd at ≡ Store size (data_space p) at stored → value ≡ 0
+        → IsStored size (data_space p) at stored m m' → IsCarriedOut windows bytes word p m q m'
+    store_carried_out m' stored asks = stores (Memory op rd rs1 operand) value word_is (rw (← place) untrapped) is size (data_space p) at m' stored (rw (← place) (sym asks))
 
 -- the state that it leads to
-pub carried : (windows : ℕ) {pages : ℕ} (word : ℕ) (bytes : List ℕ) (p q : Processor) (m m' : Physical pages) → IsCarriedOut windows word p m q m'
+pub carried : (windows : ℕ) {pages : ℕ} (bytes : List ℕ) (word : ℕ) (p q : Processor) (m m' : Physical pages) → IsCarriedOut windows bytes word p m q m'
     → state_over q m' ≡ acted_on bytes (timed (state_over p m)) (carried_out windows (ram_size pages) (inner_of (timed (state_over p m))) word)
-carried windows {pages} word bytes p q m m' made =
+carried windows {pages} bytes word p q m m' made =
     let o = outside_of m.phys bytes in
     let o1 = outside_of m'.phys bytes in
     let a = carried_out windows (ram_size pages) (inner_of (timed (state_over p m))) word in
-    let d = made.done bytes in
+    let d = made.done in
     let same : m'.phys.taken ≡ m.phys.taken + (length (drop m.phys.taken bytes) - length (drop m'.phys.taken bytes)) =
     subst (λ t. t ≡ m.phys.taken + (length (drop m.phys.taken bytes) - length (drop t bytes))) (sym made.taken) (omega arith) in
     ap {A = ℕ} {B = State} (λ t. record { processor = q; mmu = m'.mmu; memory = record m'.phys { taken = t } }) same
     ∙ ap (λ z. left_by z m.phys o o1) d.result ∙ ap (λ w. left_by (result_of a o) m.phys o w) d.outside
 
--- a step that is made, or not
-pub made_or_not : {Q : Type 0} (windows pages : ℕ) (schedule : Schedule) (n word : ℕ) (p q : Processor) (m m' : Physical pages) (made : Bool) → IsCalm windows pages schedule n (state_over p m)
-    → p.annul ≡ false → IsFetched windows p m word → ((q ≡ p) × (m' ≡ m) → Q) → MayBeCarriedOut windows word p m q m' made
-    → MatchBool made (state_over q m' ≡ step windows pages schedule n (state_over p m)) Q
-made_or_not windows pages schedule n word p q m m' true is unannulled fetched left d =
-    carried windows word (arrived (n + 1) schedule) p q m m' d ∙ sym (ordinary windows pages schedule n p m word is unannulled fetched)
-made_or_not windows pages schedule n word p q m m' false is unannulled fetched left d = left d
-
--- parts that are left
-pub left_parts : {windows pages : ℕ} (x : Parts windows pages) (q : Processor) (m : Physical pages) → q ≡ x.processor → m ≡ x.memory → record { processor = q; memory = m } ≡ x
-left_parts {windows} {pages} x q m a b =
-    ap {A = Processor} {B = Parts windows pages} (λ y. record { processor = y; memory = m }) a
-    ∙ ap {A = Physical pages} {B = Parts windows pages} (λ y. record { processor = x.processor; memory = y }) b
+-- a step in which it is carried out, or not
+pub made_or_not : (windows pages : ℕ) (schedule : Schedule) (n before word : ℕ) (p q : Processor) (m m' : Physical pages) (made : Bool) → before ≡ n + 1
+    → IsFetched windows p m word → MayBeCarriedOut windows (arrived before schedule) word p m q m' made → MayBeMade windows n schedule p m q m' made
+made_or_not windows pages schedule n before word p q m m' true next fetched d =
+    (d.mmu, λ calm unannulled. carried windows (arrived (n + 1) schedule) word p q m m' (rw (← next) d) ∙ sym (ordinary windows pages schedule n p m word calm unannulled fetched))
+made_or_not windows pages schedule n before word p q m m' false next fetched d = d
 
 -- ---- the register that a load leaves
 

@@ -6,7 +6,7 @@
 ghost use Rattle.std.specs.Prelude.{◌≡◌, ℕ, ◌%◌, ◌≤◌, ◌<◌, None, true, false, MatchBool, MatchOption, IfOk, OnOk};
 ghost use Rattle.sv8_model.specs.Does.{keeping};
 ghost use Rattle.sv8_isa.specs.Registers.{OperandHasRegister};
-ghost use Rattle.sv8_isa.specs.Table.{meaning};
+ghost use Rattle.sv8_isa.specs.Table.{group_of, meaning};
 ghost use Rattle.sv8_mmu.specs.Registers.{translates};
 ghost use Rattle.sv8_phys.specs.Contents.{arrived};
 ghost use Rattle.sv8_phys.specs.Memory.{bytes_in, ram_size};
@@ -21,7 +21,7 @@ ghost use Rattle.sv8_cpu.specs.Whole.{MayCarryOut};
 
 use crate::parts::{Parts, show_refusal};
 use std::alloc::AllocError;
-use sv8_isa::{Instr, MemoryOp, Operand, decode_memory};
+use sv8_isa::{Group, Instr, MemoryOp, Operand, decode_memory};
 use sv8_iu::{Response, data_space, finish_access, memory_trap, sum_of_sources};
 use sv8_memory::Memory;
 use sv8_phys::{Size, Touches};
@@ -237,20 +237,19 @@ impl<const NW: usize, const PAGES: usize> Parts<NW, PAGES> {
         timeline: &Timeline,
         notes: &mut T,
     ) -> Result<bool, AllocError>
+        requires group { group_of word ≡ Group.Memory }
         requires translated { translates self.old.memory.mmu ≡ true }
         requires delivered { self.old.memory.phys.taken ≤ bytes_below before timeline.now.inputs }
         ensures ok { IfOk result (MayCarryOut (keeping T.KEEPS T.OBSERVES) (arrived before timeline.now) word self.old self.new (T.noted notes.old) (T.noted notes.new)) }
         ensures taken { OnOk result (self.new.memory.phys.taken ≤ bytes_below before timeline.now.inputs) }
     {
         match decode_memory(word) {
-            Some(
-                Instr::Memory {
-                    op,
-                    rd,
-                    rs1,
-                    operand,
-                },
-            ) => {
+            Instr::Memory {
+                op,
+                rd,
+                rs1,
+                operand,
+            } => {
                 let at = sum_of_sources(&self.processor, rs1, operand);
                 let found = self.complete_transfer::<true, T>(op, rd, at, before, timeline, notes)?;
                 Ok(found)
@@ -269,6 +268,7 @@ impl<const NW: usize, const PAGES: usize> Parts<NW, PAGES> {
         timeline: &Timeline,
         notes: &mut T,
     ) -> Result<bool, AllocError>
+        requires group { group_of word ≡ Group.Memory }
         requires delivered { self.old.memory.phys.taken ≤ bytes_below before timeline.now.inputs }
         ensures ok { IfOk result (MayCarryOut (keeping T.KEEPS T.OBSERVES) (arrived before timeline.now) word self.old self.new (T.noted notes.old) (T.noted notes.new)) }
         ensures taken { OnOk result (self.new.memory.phys.taken ≤ bytes_below before timeline.now.inputs) }
@@ -277,14 +277,12 @@ impl<const NW: usize, const PAGES: usize> Parts<NW, PAGES> {
             return self.carry_out_translated(word, before, timeline, notes);
         }
         match decode_memory(word) {
-            Some(
-                Instr::Memory {
-                    op,
-                    rd,
-                    rs1,
-                    operand,
-                },
-            ) => {
+            Instr::Memory {
+                op,
+                rd,
+                rs1,
+                operand,
+            } => {
                 let found = self.transfer(op, rd, rs1, operand, before, timeline, notes)?;
                 Ok(found)
             }

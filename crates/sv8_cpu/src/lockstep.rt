@@ -1,27 +1,29 @@
-//! A step of two machines that have the same processor, made as one where both carry out the same instruction and nothing else
-//! happens.
+//! A step of two machines that have the same processor, made as one where both do the same and nothing from outside comes in.
 
 ghost use Rattle.std.specs.Prelude.{◌≡◌, ℕ, ◌+◌, ◌%◌, ◌<◌, ◌≤◌, ◌⊎◌, List, true, false, None, MatchBool, IfOk, IfSome, OnOk, OnErr};
 ghost use Rattle.sv8_model.specs.Levels.{asked};
 ghost use Rattle.sv8_model.specs.Does.{DoesUnnoted};
-ghost use Rattle.sv8_time.specs.Schedule.{bytes_below};
+ghost use Rattle.sv8_time.specs.Schedule.{Schedule, bytes_below};
 ghost use Rattle.sv8_phys.specs.Memory.{bytes_in, ram_size};
-ghost use Rattle.sv8_phys.specs.Contents.{outside_of};
-ghost use Rattle.sv8_isa.specs.Table.{meaning};
+ghost use Rattle.sv8_phys.specs.Contents.{arrived, outside_of};
+ghost use Rattle.sv8_isa.specs.Table.{group_of, meaning};
 ghost use Rattle.sv8_trap.specs.Interrupt.{unmasked};
 ghost use Rattle.sv8_trap.specs.Table.{taken};
 ghost use Rattle.sv8_regs.specs.Ring.{read};
-ghost use Rattle.sv8_iu.specs.Instruction.{data_space};
+ghost use Rattle.sv8_isa.specs.Registers.{HasRegisters};
+ghost use Rattle.sv8_iu.specs.Instruction.{data_space, raised};
 ghost use Rattle.sv8_trap.specs.Processor.{advanced, with_result};
 ghost use Rattle.sv8_iu.specs.Memory.{access_of, low_word, memory_traps, transferred_data};
 ghost use Rattle.sv8_iu.specs.Operands.{sum_of_sources};
 ghost use Rattle.sv8_iu.specs.Requests.{space_of};
 ghost use Rattle.sv8_memory.specs.Access.{access};
-ghost use Rattle.sv8_memory.specs.View.{units_of};
+ghost use Rattle.sv8_memory.specs.View.{timed_units, units_of};
+ghost use Rattle.sv8_memory.specs.Units.{served};
+ghost use Rattle.sv8_phys.specs.declared.timer.Timer.{Timer};
 ghost use Rattle.sv8_cpu.specs.Run.{step};
 ghost use Rattle.sv8_cpu.specs.Work.{counted};
 ghost use Rattle.sv8_cpu.specs.Whole.{state_of};
-ghost use Rattle.sv8_cpu.specs.Lockstep.{state_over, counted_down, lent, CountsDown, IsCalm, IsFetched, MayBeCarriedOut};
+ghost use Rattle.sv8_cpu.specs.Lockstep.{state_over, counted_down, lent, CountsDown, IsCalm, IsQuiet, IsFetched, IsLoaded, IsStored, MayAlwaysBeCarriedOut, MayBeCarriedOut, MayBeMade};
 
 use crate::machine::Machine;
 use crate::parts::Parts;
@@ -30,7 +32,7 @@ use std::alloc::AllocError;
 use sv8_isa::{Group, Instr, MemoryOp, Operand, decode, decode_memory, group};
 use sv8_iu::{
     AccessRequest, Response, Space, asked, carry_out_plainly, complete, data_space, finish_access,
-    low_word, memory_trap, raised_by, space_of, sum_of_sources,
+    low_word, memory_trap, raised_by, space_of, sum_of_sources, take_trap,
 };
 use sv8_memory::Memory;
 use sv8_phys::{NoTouches, Size};
@@ -52,22 +54,18 @@ fn may_be_interrupted<const NW: usize, const PAGES: usize>(
     if pending == 0 { Ok(false) } else { Ok(true) }
 }
 
-/// Whether step n is known to go on with the annulled slot or the instruction at PC: no event, expiry or interrupt is in it, and
-/// the machine runs.
+/// Whether a step with no event of a machine that runs is known to go on with the annulled slot or the instruction at PC: no expiry
+/// and no interrupt is in it.
 #[inline(always)]
 fn is_calm<const NW: usize, const PAGES: usize>(
     p: &Processor<NW>,
     memory: &Memory<PAGES>,
-    n: u32,
-    timeline: &Timeline,
 ) -> Result<bool, AllocError>
-    ensures calm { IfOk result (λ calm. calm ≡ true → IsCalm NW PAGES timeline.now n (state_over p.now memory.now)) }
+    requires { p.now.running ≡ true }
+    ensures calm { IfOk result (λ calm. calm ≡ true → (n : ℕ) (schedule : Schedule) → IsQuiet n schedule → IsCalm NW PAGES schedule n (state_over p.now memory.now)) }
     ensures counting { IfOk result (λ calm. calm ≡ true → CountsDown memory.now) }
 {
-    if timeline.may_have_events(n) || memory.phys().timer().count == 1 {
-        return Ok(false);
-    }
-    if !p.is_running() || may_be_interrupted(p, memory)? {
+    if memory.phys().timer().count == 1 || may_be_interrupted(p, memory)? {
         return Ok(false);
     }
     Ok(true)
@@ -116,12 +114,61 @@ fn count_down<const PAGES: usize>(memory: &mut Memory<PAGES>) -> Result<(), Allo
     Ok(())
 }
 
+/// A step of both timers, neither of which expires.
+#[inline(always)]
+fn count_down_both<const PAGES: usize>(
+    memory: &mut Memory<PAGES>,
+    other: &mut Memory<PAGES>,
+) -> Result<(), AllocError>
+    requires counting { CountsDown memory.old }
+    requires others_counting { CountsDown other.old }
+    ensures own { OnOk result (memory.new ≡ record memory.old { phys = counted_down memory.old.phys }) }
+    ensures others { OnOk result (other.new ≡ record other.old { phys = counted_down other.old.phys }) }
+{
+    count_down(memory)?;
+    count_down(other)?;
+    Ok(())
+}
+
 /// Whether a register is the same behind both loaded values: %g0 always is.
 #[inline(always)]
 fn leave_the_same(rd: u8, value: u64, other_value: u64) -> bool
     ensures { result ≡ true → (rd ≡ 0) ⊎ (value ≡ other_value) }
 {
     rd == 0 || value == other_value
+}
+
+/// The value that both memories give a load once the bytes of the steps below `before` have come in, where both are known at once,
+/// and are the same.
+#[inline(always)]
+fn load_from_both<const PAGES: usize>(
+    memory: &Memory<PAGES>,
+    other: &Memory<PAGES>,
+    size: Size,
+    asi: u8,
+    at: u32,
+    before: u32,
+    timeline: &Timeline,
+    other_timeline: &Timeline,
+) -> Result<Option<u64>, AllocError>
+    requires space { space_of asi ≡ Space.Virtual }
+    requires aligned { at % bytes_in size ≡ 0 }
+    requires delivered { memory.now.phys.taken ≤ bytes_below before timeline.now.inputs }
+    requires other_delivered { other.now.phys.taken ≤ bytes_below before other_timeline.now.inputs }
+    ensures own { IfOk result (λ found. IfSome found (IsLoaded size asi at (arrived before timeline.now) memory.now)) }
+    ensures others { IfOk result (λ found. IfSome found (IsLoaded size asi at (arrived before other_timeline.now) other.now)) }
+{
+    let Some(value) = memory.loaded_in_step(size, asi, at, before, timeline)? else {
+        return Ok(None);
+    };
+    let Some(other_value) = other.loaded_in_step(size, asi, at, before, other_timeline)? else {
+        return Ok(None);
+    };
+    if value == other_value {
+        Ok(Some(value))
+    } else {
+        Ok(None)
+    }
 }
 
 /// Loads from both memories and completes a load of a word or a byte, where both values are known at once, and are the same or go
@@ -144,9 +191,9 @@ fn load_both<const NW: usize, const PAGES: usize>(
     requires counting { CountsDown memory.old }
     requires others_counting { CountsDown other.old }
     ensures own { IfOk result (λ done. (word rs1 : ℕ) (operand : Operand) → Instr.Memory op rd rs1 operand ≡ meaning word
-        → at ≡ sum_of_sources NW p.old rs1 operand → MayBeCarriedOut NW word p.old memory.old p.new memory.new done) }
+        → at ≡ sum_of_sources NW p.old rs1 operand → MayAlwaysBeCarriedOut NW word p.old memory.old p.new memory.new done) }
     ensures others { IfOk result (λ done. (word rs1 : ℕ) (operand : Operand) → Instr.Memory op rd rs1 operand ≡ meaning word
-        → at ≡ sum_of_sources NW p.old rs1 operand → MayBeCarriedOut NW word p.old other.old p.new other.new done) }
+        → at ≡ sum_of_sources NW p.old rs1 operand → MayAlwaysBeCarriedOut NW word p.old other.old p.new other.new done) }
 {
     let asi = data_space(p);
     let Some(value) = memory.loaded_at_once(size, asi, at)? else {
@@ -158,8 +205,7 @@ fn load_both<const NW: usize, const PAGES: usize>(
     if !leave_the_same(rd, value, other_value) {
         return Ok(false);
     }
-    count_down(memory)?;
-    count_down(other)?;
+    count_down_both(memory, other)?;
     finish_access(p, op, rd, value);
     Ok(true)
 }
@@ -187,7 +233,34 @@ fn store<const PAGES: usize>(
     Ok(response)
 }
 
-/// Stores to both memories and completes a store of a word or a byte, where it is known at once that both answer it.
+/// Stores to both memories in a step of both timers, where it is known at once that both answer it. Tells whether it has; where it
+/// has not, nothing has changed.
+#[inline(always)]
+fn store_to_both<const PAGES: usize>(
+    memory: &mut Memory<PAGES>,
+    other: &mut Memory<PAGES>,
+    size: Size,
+    asi: u8,
+    at: u32,
+    value: u64,
+) -> Result<bool, AllocError>
+    requires space { space_of asi ≡ Space.Virtual }
+    requires aligned { at % bytes_in size ≡ 0 }
+    requires counting { CountsDown memory.old }
+    requires others_counting { CountsDown other.old }
+    ensures own { IfOk result (λ stored. MatchBool stored (IsStored size asi at value memory.old memory.new) (memory.new ≡ memory.old)) }
+    ensures others { IfOk result (λ stored. MatchBool stored (IsStored size asi at value other.old other.new) (other.new ≡ other.old)) }
+{
+    if !memory.is_stored_at_once(size, asi, at) || !other.is_stored_at_once(size, asi, at) {
+        return Ok(false);
+    }
+    count_down_both(memory, other)?;
+    store(memory, size, asi, at, value)?;
+    store(other, size, asi, at, value)?;
+    Ok(true)
+}
+
+/// Stores a word or a byte to both memories and completes it, where it is known at once that both answer it.
 #[inline(always)]
 fn store_both<const NW: usize, const PAGES: usize>(
     p: &mut Processor<NW>,
@@ -206,19 +279,16 @@ fn store_both<const NW: usize, const PAGES: usize>(
     requires counting { CountsDown memory.old }
     requires others_counting { CountsDown other.old }
     ensures own { IfOk result (λ done. (word rs1 : ℕ) (operand : Operand) → Instr.Memory op rd rs1 operand ≡ meaning word
-        → at ≡ sum_of_sources NW p.old rs1 operand → MayBeCarriedOut NW word p.old memory.old p.new memory.new done) }
+        → at ≡ sum_of_sources NW p.old rs1 operand → MayAlwaysBeCarriedOut NW word p.old memory.old p.new memory.new done) }
     ensures others { IfOk result (λ done. (word rs1 : ℕ) (operand : Operand) → Instr.Memory op rd rs1 operand ≡ meaning word
-        → at ≡ sum_of_sources NW p.old rs1 operand → MayBeCarriedOut NW word p.old other.old p.new other.new done) }
+        → at ≡ sum_of_sources NW p.old rs1 operand → MayAlwaysBeCarriedOut NW word p.old other.old p.new other.new done) }
 {
     let asi = data_space(p);
-    if !memory.is_stored_at_once(size, asi, at) || !other.is_stored_at_once(size, asi, at) {
+    let value = u64::from(p.registers().get(u32::from(rd)));
+    let stored = store_to_both(memory, other, size, asi, at, value)?;
+    if !stored {
         return Ok(false);
     }
-    count_down(memory)?;
-    count_down(other)?;
-    let value = u64::from(p.registers().get(u32::from(rd)));
-    store(memory, size, asi, at, value)?;
-    store(other, size, asi, at, value)?;
     finish_access(p, op, rd, 0);
     Ok(true)
 }
@@ -233,20 +303,19 @@ fn transfer_both<const NW: usize, const PAGES: usize>(
     other: &mut Memory<PAGES>,
     word: u32,
 ) -> Result<bool, AllocError>
+    requires group { group_of word ≡ Group.Memory }
     requires counting { CountsDown memory.old }
     requires others_counting { CountsDown other.old }
-    ensures own { IfOk result (MayBeCarriedOut NW word p.old memory.old p.new memory.new) }
-    ensures others { IfOk result (MayBeCarriedOut NW word p.old other.old p.new other.new) }
+    ensures own { IfOk result (MayAlwaysBeCarriedOut NW word p.old memory.old p.new memory.new) }
+    ensures others { IfOk result (MayAlwaysBeCarriedOut NW word p.old other.old p.new other.new) }
 {
     match decode_memory(word) {
-        Some(
-            Instr::Memory {
-                op,
-                rd,
-                rs1,
-                operand,
-            },
-        ) => {
+        Instr::Memory {
+            op,
+            rd,
+            rs1,
+            operand,
+        } => {
             let at = sum_of_sources(p, rs1, operand);
             if memory_trap(op, rd, at).is_some() {
                 return Ok(false);
@@ -263,46 +332,48 @@ fn transfer_both<const NW: usize, const PAGES: usize>(
     }
 }
 
-/// Carries a word out over both memories by the way of every instruction, if it raises no trap, and its access, if it makes one,
-/// is known at once and gives both the same.
-#[inline(never)]
-fn carry_out_rarely<const NW: usize, const PAGES: usize>(
+/// Completes an instruction that raises no trap over both memories, if its access, where it makes one, is known at once and gives
+/// both the same.
+#[inline(always)]
+fn complete_both<const NW: usize, const PAGES: usize>(
     p: &mut Processor<NW>,
     memory: &mut Memory<PAGES>,
     other: &mut Memory<PAGES>,
-    word: u32,
+    instr: Instr,
+    before: u32,
+    timeline: &Timeline,
+    other_timeline: &Timeline,
 ) -> Result<bool, AllocError>
+    requires registers { HasRegisters instr }
+    requires no_trap { taken (raised NW p.old instr) ≡ None }
     requires counting { CountsDown memory.old }
     requires others_counting { CountsDown other.old }
-    ensures own { IfOk result (MayBeCarriedOut NW word p.old memory.old p.new memory.new) }
-    ensures others { IfOk result (MayBeCarriedOut NW word p.old other.old p.new other.new) }
+    requires delivered { memory.old.phys.taken ≤ bytes_below before timeline.now.inputs }
+    requires other_delivered { other.old.phys.taken ≤ bytes_below before other_timeline.now.inputs }
+    ensures own { IfOk result (λ done. (word : ℕ) → instr ≡ meaning word → MayBeCarriedOut NW (arrived before timeline.now) word p.old memory.old p.new memory.new done) }
+    ensures others { IfOk result (λ done. (word : ℕ) → instr ≡ meaning word → MayBeCarriedOut NW (arrived before other_timeline.now) word p.old other.old p.new other.new done) }
 {
-    let instr = decode(word);
-    let None = raised_by(p, instr) else {
-        return Ok(false);
-    };
     match asked(p, instr) {
         AccessRequest::Nothing => {
-            count_down(memory)?;
-            count_down(other)?;
+            count_down_both(memory, other)?;
             complete(p, instr, 0);
             Ok(true)
         }
-        AccessRequest::Load { size, asi, at } => {
-            if !is_virtual(asi) {
-                return Ok(false);
-            }
-            let Some(value) = memory.loaded_at_once(size, asi, at)? else {
+        AccessRequest::Load { size, asi, at } if is_virtual(asi) => {
+            let Some(value) = load_from_both(
+                memory,
+                other,
+                size,
+                asi,
+                at,
+                before,
+                timeline,
+                other_timeline,
+            )?
+            else {
                 return Ok(false);
             };
-            let Some(other_value) = other.loaded_at_once(size, asi, at)? else {
-                return Ok(false);
-            };
-            if value != other_value {
-                return Ok(false);
-            }
-            count_down(memory)?;
-            count_down(other)?;
+            count_down_both(memory, other)?;
             complete(p, instr, value);
             Ok(true)
         }
@@ -310,18 +381,12 @@ fn carry_out_rarely<const NW: usize, const PAGES: usize>(
             size,
             asi,
             at,
-            value: stored,
-        } => {
-            if !is_virtual(asi) {
+            value,
+        } if is_virtual(asi) => {
+            let stored = store_to_both(memory, other, size, asi, at, value)?;
+            if !stored {
                 return Ok(false);
             }
-            if !memory.is_stored_at_once(size, asi, at) || !other.is_stored_at_once(size, asi, at) {
-                return Ok(false);
-            }
-            count_down(memory)?;
-            count_down(other)?;
-            store(memory, size, asi, at, stored)?;
-            store(other, size, asi, at, stored)?;
             complete(p, instr, 0);
             Ok(true)
         }
@@ -329,10 +394,42 @@ fn carry_out_rarely<const NW: usize, const PAGES: usize>(
     }
 }
 
-/// Carries a word out over both memories, if it does the same to the processor. Tells whether it has; where it has not, nothing
-/// has changed.
+/// Carries a word out over both memories by the way of every instruction: takes the trap that it raises, or completes it.
+#[inline(never)]
+fn carry_out_rarely<const NW: usize, const PAGES: usize>(
+    p: &mut Processor<NW>,
+    memory: &mut Memory<PAGES>,
+    other: &mut Memory<PAGES>,
+    word: u32,
+    before: u32,
+    timeline: &Timeline,
+    other_timeline: &Timeline,
+) -> Result<bool, AllocError>
+    requires counting { CountsDown memory.old }
+    requires others_counting { CountsDown other.old }
+    requires delivered { memory.old.phys.taken ≤ bytes_below before timeline.now.inputs }
+    requires other_delivered { other.old.phys.taken ≤ bytes_below before other_timeline.now.inputs }
+    ensures own { IfOk result (MayBeCarriedOut NW (arrived before timeline.now) word p.old memory.old p.new memory.new) }
+    ensures others { IfOk result (MayBeCarriedOut NW (arrived before other_timeline.now) word p.old other.old p.new other.new) }
+{
+    let instr = decode(word);
+    match raised_by(p, instr) {
+        Some(trap) => {
+            count_down_both(memory, other)?;
+            take_trap(p, instr, trap);
+            Ok(true)
+        }
+        None => {
+            let done = complete_both(p, memory, other, instr, before, timeline, other_timeline)?;
+            Ok(done)
+        }
+    }
+}
+
+/// Carries a word out over both memories by the way of its own that a frequent instruction has, as `carry_out_plainly` and
+/// `transfer_both` do. Tells whether it has; where it has not, nothing has changed.
 #[inline(always)]
-fn carry_out_both<const NW: usize, const PAGES: usize>(
+fn carry_out_frequently<const NW: usize, const PAGES: usize>(
     p: &mut Processor<NW>,
     memory: &mut Memory<PAGES>,
     other: &mut Memory<PAGES>,
@@ -340,30 +437,78 @@ fn carry_out_both<const NW: usize, const PAGES: usize>(
 ) -> Result<bool, AllocError>
     requires counting { CountsDown memory.old }
     requires others_counting { CountsDown other.old }
-    ensures own { IfOk result (MayBeCarriedOut NW word p.old memory.old p.new memory.new) }
-    ensures others { IfOk result (MayBeCarriedOut NW word p.old other.old p.new other.new) }
+    ensures own { IfOk result (MayAlwaysBeCarriedOut NW word p.old memory.old p.new memory.new) }
+    ensures others { IfOk result (MayAlwaysBeCarriedOut NW word p.old other.old p.new other.new) }
 {
     match group(word) {
-        Group::Memory => {
-            if transfer_both(p, memory, other, word)? {
-                return Ok(true);
-            }
-        }
+        Group::Memory => transfer_both(p, memory, other, word),
         _ => {
-            if carry_out_plainly(p, word) {
-                count_down(memory)?;
-                count_down(other)?;
-                return Ok(true);
+            if !carry_out_plainly(p, word) {
+                return Ok(false);
             }
+            count_down_both(memory, other)?;
+            Ok(true)
         }
     }
-    let done = carry_out_rarely(p, memory, other, word)?;
+}
+
+/// Carries a word out over both memories, once the bytes of the steps below `before` have come in, if it does the same to the
+/// processor. Tells whether it has; where it has not, nothing has changed.
+#[inline(always)]
+fn carry_out_both<const NW: usize, const PAGES: usize>(
+    p: &mut Processor<NW>,
+    memory: &mut Memory<PAGES>,
+    other: &mut Memory<PAGES>,
+    word: u32,
+    before: u32,
+    timeline: &Timeline,
+    other_timeline: &Timeline,
+) -> Result<bool, AllocError>
+    requires counting { CountsDown memory.old }
+    requires others_counting { CountsDown other.old }
+    requires delivered { memory.old.phys.taken ≤ bytes_below before timeline.now.inputs }
+    requires other_delivered { other.old.phys.taken ≤ bytes_below before other_timeline.now.inputs }
+    ensures own { IfOk result (MayBeCarriedOut NW (arrived before timeline.now) word p.old memory.old p.new memory.new) }
+    ensures others { IfOk result (MayBeCarriedOut NW (arrived before other_timeline.now) word p.old other.old p.new other.new) }
+{
+    let done = carry_out_frequently(p, memory, other, word)?;
+    if done {
+        return Ok(true);
+    }
+    carry_out_rarely(p, memory, other, word, before, timeline, other_timeline)
+}
+
+/// Fetches the instruction at PC from both memories and carries it out over both, in step n, if that does the same to the processor.
+/// Tells whether it has; where it has not, nothing has changed.
+#[inline(always)]
+fn run_both<const NW: usize, const PAGES: usize>(
+    p: &mut Processor<NW>,
+    memory: &mut Memory<PAGES>,
+    other: &mut Memory<PAGES>,
+    n: u32,
+    timeline: &Timeline,
+    other_timeline: &Timeline,
+) -> Result<bool, AllocError>
+    requires counting { CountsDown memory.old }
+    requires others_counting { CountsDown other.old }
+    requires delivered { memory.old.phys.taken ≤ bytes_below n timeline.now.inputs }
+    requires other_delivered { other.old.phys.taken ≤ bytes_below n other_timeline.now.inputs }
+    ensures own { IfOk result (MayBeMade NW n timeline.now p.old memory.old p.new memory.new) }
+    ensures others { IfOk result (MayBeMade NW n other_timeline.now p.old other.old p.new other.new) }
+{
+    let Some(before) = n.checked_add(1) else {
+        return Ok(false);
+    };
+    let Some(word) = fetch_both(p, memory, other)? else {
+        return Ok(false);
+    };
+    let done = carry_out_both(p, memory, other, word, before, timeline, other_timeline)?;
     Ok(done)
 }
 
-/// Makes step n of two machines as one, where both pass over an annulled slot, or carry out the same instruction with no trap, and
-/// nothing else happens. The second machine is taken to have the processor of the first. Tells whether it has; where it has not,
-/// nothing has changed.
+/// Makes step n of two machines as one, where no event is in it and both pass over an annulled slot, carry out the same
+/// instruction or take its trap, or are in error mode. The second machine is taken to have the processor of the first. Tells whether
+/// it has; where it has not, nothing has changed.
 #[inline(always)]
 fn step_both<const NW: usize, const PAGES: usize>(
     parts: &mut Parts<NW, PAGES>,
@@ -381,30 +526,30 @@ fn step_both<const NW: usize, const PAGES: usize>(
 {
     let p = &mut parts.processor;
     let memory = &mut parts.memory;
-    if !is_calm(p, memory, n, timeline)? || !is_calm(p, &other.memory, n, other_timeline)? {
+    if timeline.may_have_events(n) || other_timeline.may_have_events(n) {
+        return Ok(false);
+    }
+    if !p.is_running() {
+        return Ok(true);
+    }
+    if !is_calm(p, memory)? || !is_calm(p, &other.memory)? {
         return Ok(false);
     }
     if p.annul() {
         p.skip_slot();
-        count_down(memory)?;
-        count_down(&mut other.memory)?;
+        count_down_both(memory, &mut other.memory)?;
         return Ok(true);
     }
-    match fetch_both(p, memory, &other.memory)? {
-        Some(word) => {
-            let made = carry_out_both(p, memory, &mut other.memory, word)?;
-            Ok(made)
-        }
-        None => Ok(false),
-    }
+    let made = run_both(p, memory, &mut other.memory, n, timeline, other_timeline)?;
+    Ok(made)
 }
 
 impl<const NW: usize, const PAGES: usize> Machine<NW, PAGES> {
-    /// Makes step n of this machine and of another one as one, where both pass over an annulled slot, or carry out the same
-    /// instruction with no trap, and nothing else happens. Its loads have to give both the same, or go to %g0. The other machine is
-    /// taken to have the processor of this one: its own is neither looked at nor changed, and `copy_processor` gives it this one.
-    /// Tells whether the steps were made; where they were not, nothing has changed. That they are made wherever they could be is no
-    /// part of the contract.
+    /// Makes step n of this machine and of another one as one, where no event is in it and both pass over an annulled slot, carry
+    /// out the same instruction or take its trap, or are in error mode. Its loads have to give both the same, or go to %g0. The
+    /// other machine is taken to have the processor of this one: its own is neither looked at nor changed, and `copy_processor`
+    /// gives it this one. Tells whether the steps were made; where they were not, nothing has changed. That they are made wherever
+    /// they could be is no part of the contract.
     ///
     /// # Errors
     ///

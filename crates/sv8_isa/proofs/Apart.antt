@@ -7,7 +7,7 @@ use Rattle.std.proofs.lemmas.List.Sums.{sum_by-cons}
 use Rattle.sv8_model.specs.Words.{field}
 use Rattle.sv8_isa.specs.Table.{value, high, low, Fixed, Row, fits, table}
 use Rattle.sv8_isa.specs.Laws.{RowsAreApart}
-use Rattle.sv8_isa.proofs.Unused.{both}
+use Rattle.sv8_isa.proofs.Rows.{both}
 
 -- the two fix one field to different values
 abbrev pub differ : Fixed → Fixed → Bool

@@ -10,7 +10,7 @@ use Rattle.sv8_isa.specs.Table.{op, op2, op3, rd, rs1, rs2, i, asi, annul, cond,
 use Rattle.sv8_isa.specs.Encoding.{encoding, format_2, format_3, format_call, source_bits, natural_source, alternate_source, unsigned_bits, signed_bits, cond_code, annul_code}
 use Rattle.sv8_isa.specs.Laws.{MeaningsEncode}
 use Rattle.sv8_isa.proofs.FieldLemmas.{pow_half, signed_low, signed_high, signed_bits_low, signed_bits_high}
-use Rattle.sv8_isa.proofs.Unused.{all_below_at, both}
+use Rattle.sv8_isa.proofs.Rows.{all_below_at, both}
 use Rattle.sv8_isa.specs.declared.instr.Instr.{Instr}
 use Rattle.sv8_isa.specs.declared.instr.Instr.TheVariants.{AltImm, Illegal, Fp, Cp}
 

@@ -6,11 +6,11 @@ use Rattle.std.proofs.lemmas.Bool.Decides.{nat_tests}
 use Rattle.std.proofs.lemmas.Int.{ints}
 use Rattle.sv8_model.specs.Words.{field, signed}
 use Rattle.sv8_isa.specs.Operands.{operand_of, count_of, trap_number_of, condition_of}
-use Rattle.sv8_isa.specs.Table.{meaning, instr_at}
+use Rattle.sv8_isa.specs.Table.{row_at, meaning, instr_at}
 use Rattle.sv8_isa.specs.Encoding.{encoding, format_2, format_3, format_call, source_bits, natural_source, natural_bits, alternate_source, unsigned_bits, signed_bits, immediate_source, cond_code, annul_code, arith_code, cc_code, tagged_code, shift_code, read_code, write_code, memory_code, fp_word, cp_word}
 use Rattle.sv8_isa.specs.Laws.{EncodingsDecode}
 use Rattle.sv8_isa.proofs.FieldLemmas.{pow_half, signed_low, signed_high}
-use Rattle.sv8_isa.proofs.Unused.{row_at, meaning_at}
+use Rattle.sv8_isa.proofs.Rows.{meaning_at}
 use Rattle.sv8_isa.specs.declared.instr.Operand.{Operand}
 use Rattle.sv8_isa.specs.declared.instr.Operand.TheVariants.{Register, Immediate}
 use Rattle.sv8_isa.specs.declared.instr.Cond.{Cond}

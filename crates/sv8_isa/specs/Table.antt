@@ -1,5 +1,5 @@
 -- The opcode table: a list of rows. A row fixes some fields of a word, and names others as operands.
-use Rattle.std.specs.Prelude.{ℕ, Bool, ◌+◌, ◌*◌, ◌^◌, ◌==◌, ◌||◌, if◌then◌else◌, List, [], ◌∷◌, ◌++◌, Option, Some, None, find, map, true, false}
+use Rattle.std.specs.Prelude.{ℕ, Bool, ◌+◌, ◌*◌, ◌^◌, ◌==◌, ◌||◌, if◌then◌else◌, List, [], ◌∷◌, ◌++◌, Option, Some, None, find, map, nat_lt, true, false}
 use Rattle.std.specs.List.{list_all}
 use Rattle.sv8_model.specs.Words.{field, signed}
 use Rattle.sv8_isa.specs.Operands.{operand_of, count_of, trap_number_of, condition_of}
@@ -221,14 +221,14 @@ table =
 abbrev pub is_queue_store : ℕ → Bool
 is_queue_store w = fits w store_fp_queue || fits w store_cp_queue
 
--- where a word stands in the table: by op, and for op 2 by the first bits of op3
+-- where a word stands in the table: by op, and for op 2 by op3
 unfoldable pub group_of : ℕ → Group
 group_of w =
     if field w 31 30 == 0 then group.Format2 else
     (if field w 31 30 == 1 then group.Call else
     (if field w 31 30 == 3 then group.Memory else
-    (if field w 24 24 == 0 then group.Arithmetic else
-    (if field w 24 22 == 4 then group.Shift else group.Control))))
+    (if nat_lt (field w 24 19) 0x20 then group.Arithmetic else
+    (if nat_lt (field w 24 19) 0x28 then group.Shift else group.Control))))
 
 -- the first row that a word fits, and no word fits two
 abbrev pub row_of : ℕ → Option Row
@@ -238,6 +238,16 @@ row_of w = find (fits w) table
 abbrev pub instr_at : Option Row → ℕ → Instr
 instr_at None w = Illegal
 instr_at (Some r) w = r.instr w
+
+-- the fields of a word, where op and op3 are known
+abbrev pub given : ℕ → ℕ → ℕ → Field → ℕ
+given o n w op = o
+given o n w op3 = n
+given o n w f = value f w
+
+-- the first row that a word with this op and op3 fits
+abbrev pub row_at : ℕ → ℕ → ℕ → Option Row
+row_at o n w = find (λ r. list_all (λ f. given o n w f.at == f.code) r.fixed) table
 
 -- what a word means
 unfoldable pub meaning : ℕ → Instr

@@ -1,9 +1,10 @@
 //! From words to instructions, and back.
 
-ghost use Rattle.std.specs.Prelude.{◌≡◌, IfSome};
+ghost use Rattle.std.specs.Prelude.{◌≡◌, ◌<◌, ◌≤◌, IfSome};
 ghost use Rattle.sv8_isa.specs.Encoding.{encoding};
 ghost use Rattle.sv8_isa.specs.Registers.{HasRegisters};
-ghost use Rattle.sv8_isa.specs.Table.{meaning, is_queue_store, group_of};
+ghost use Rattle.sv8_model.specs.Words.{field};
+ghost use Rattle.sv8_isa.specs.Table.{instr_at, row_at, meaning, is_queue_store, group_of};
 
 use crate::instr::{ArithOp, Group, Instr, MemoryOp, ShiftOp, StateRegister, TaggedOp};
 use crate::word::{
@@ -77,14 +78,50 @@ macro_rules! opcodes {
     };
 }
 
-/// A `match` on a word, from the list.
-macro_rules! decode_rows {
+/// A `match` on op2, from the groups of op 0.
+macro_rules! format_2_rows {
     (
         [$word:ident]
-        call $call:literal
         format_2 { Unimp $unimp:literal, Bicc $bicc:literal, Sethi $sethi:literal }
         format_2_whole { $($near:ident $near_code:literal),* }
-        arith { $($arith:ident $plain:literal $cc:literal),* }
+        $($later:tt)*
+    ) => {
+        match bits($word, 24, 22) {
+            $unimp => Instr::Unimp(bits($word, 21, 0)),
+            $bicc => branch($word),
+            $sethi => Instr::Sethi { imm22: bits($word, 21, 0), rd: register($word, 25) },
+            $($near_code => Instr::$near($word),)*
+            _ => Instr::Illegal,
+        }
+    };
+    ([$word:ident] $group:ident $rows:tt $($later:tt)*) => {
+        format_2_rows!([$word] $($later)*)
+    };
+}
+
+/// A `match` on op3, from the group of arithmetic and logic.
+macro_rules! arithmetic_rows {
+    ([$word:ident $op3:ident] arith { $($arith:ident $plain:literal $cc:literal),* } $($later:tt)*) => {{
+        let rd = register($word, 25);
+        let rs1 = register($word, 14);
+        let operand = operand($word);
+        match $op3 {
+            $(
+                $plain => Instr::Arith { op: ArithOp::$arith, cc: false, rd, rs1, operand },
+                $cc => Instr::Arith { op: ArithOp::$arith, cc: true, rd, rs1, operand },
+            )*
+            _ => Instr::Illegal,
+        }
+    }};
+    ([$($with:ident)*] $group:ident $rows:tt $($later:tt)*) => {
+        arithmetic_rows!([$($with)*] $($later)*)
+    };
+}
+
+/// A `match` on op3, from the groups of op 2 behind those of arithmetic and logic.
+macro_rules! control_rows {
+    (
+        [$word:ident $op3:ident]
         tagged { $($tagged:ident $tagged_code:literal),* }
         three_fields { $($three:ident $three_code:literal),* }
         two_fields { $($two:ident $two_code:literal),* }
@@ -95,6 +132,39 @@ macro_rules! decode_rows {
         write_y { WriteState $wry:literal $wry_rd:literal }
         write { $($to:ident $write_code:literal),* }
         whole { $($whole:ident $whole_code:literal),* }
+        $($later:tt)*
+    ) => {{
+        let rd = register($word, 25);
+        let rs1 = register($word, 14);
+        let operand = operand($word);
+        match $op3 {
+            $($tagged_code => Instr::Tagged { op: TaggedOp::$tagged, rd, rs1, operand },)*
+            $($three_code => Instr::$three { rd, rs1, operand },)*
+            $($two_code => Instr::$two { rs1, operand },)*
+            $($shift_code => Instr::Shift { op: ShiftOp::$shift, rd, rs1, count: count($word) },)*
+            $ticc => Instr::Ticc { cond: condition($word), rs1, operand: trap_number($word) },
+            $rdy => match (rs1, rd) {
+                ($rdy_rs1, _) => Instr::ReadState { register: StateRegister::Y, rd },
+                ($stbar_rs1, 0) => Instr::Stbar,
+                _ => Instr::Illegal,
+            },
+            $($read_code => Instr::ReadState { register: StateRegister::$from, rd },)*
+            $wry if rd == $wry_rd => Instr::WriteState { register: StateRegister::Y, rs1, operand },
+            $wry => Instr::Illegal,
+            $($write_code => Instr::WriteState { register: StateRegister::$to, rs1, operand },)*
+            $($whole_code => Instr::$whole($word),)*
+            _ => Instr::Illegal,
+        }
+    }};
+    ([$($with:ident)*] $group:ident $rows:tt $($later:tt)*) => {
+        control_rows!([$($with)*] $($later)*)
+    };
+}
+
+/// A `match` on op3, from the groups of op 3.
+macro_rules! memory_rows {
+    (
+        [$word:ident $op3:ident]
         memory { $($memory:ident $normal:literal $alternate:literal),* }
         memory_whole { $($far:ident $far_code:literal),* }
         queue_whole { $($queue:ident $queue_code:literal),* }
@@ -103,74 +173,26 @@ macro_rules! decode_rows {
         let rs1 = register($word, 14);
         let operand = operand($word);
         let immediate = bits($word, 13, 13);
-        match bits($word, 31, 30) {
-            0 => match bits($word, 24, 22) {
-                $unimp => Instr::Unimp(bits($word, 21, 0)),
-                $bicc => branch($word),
-                $sethi => Instr::Sethi { imm22: bits($word, 21, 0), rd },
-                $($near_code => Instr::$near($word),)*
-                _ => Instr::Illegal,
-            },
-            $call => call($word),
-            2 => match bits($word, 24, 19) {
-                $(
-                    $plain => Instr::Arith { op: ArithOp::$arith, cc: false, rd, rs1, operand },
-                    $cc => Instr::Arith { op: ArithOp::$arith, cc: true, rd, rs1, operand },
-                )*
-                $($tagged_code => Instr::Tagged { op: TaggedOp::$tagged, rd, rs1, operand },)*
-                $($three_code => Instr::$three { rd, rs1, operand },)*
-                $($two_code => Instr::$two { rs1, operand },)*
-                $($shift_code => Instr::Shift { op: ShiftOp::$shift, rd, rs1, count: count($word) },)*
-                $ticc => Instr::Ticc { cond: condition($word), rs1, operand: trap_number($word) },
-                $rdy => match (rs1, rd) {
-                    ($rdy_rs1, _) => Instr::ReadState { register: StateRegister::Y, rd },
-                    ($stbar_rs1, 0) => Instr::Stbar,
-                    _ => Instr::Illegal,
+        match $op3 {
+            $(
+                $normal => Instr::Memory { op: MemoryOp::$memory, rd, rs1, operand },
+                $alternate if immediate == 0 => Instr::Alternate {
+                    op: MemoryOp::$memory,
+                    rd,
+                    rs1,
+                    rs2: register($word, 0),
+                    asi: bits($word, 12, 5) as u8,
                 },
-                $($read_code => Instr::ReadState { register: StateRegister::$from, rd },)*
-                $wry if rd == $wry_rd => {
-                    Instr::WriteState { register: StateRegister::Y, rs1, operand }
-                }
-                $wry => Instr::Illegal,
-                $(
-                    $write_code => {
-                        Instr::WriteState { register: StateRegister::$to, rs1, operand }
-                    }
-                )*
-                $($whole_code => Instr::$whole($word),)*
-                _ => Instr::Illegal,
-            },
-            _ => match bits($word, 24, 19) {
-                $(
-                    $normal => Instr::Memory { op: MemoryOp::$memory, rd, rs1, operand },
-                    $alternate if immediate == 0 => Instr::Alternate {
-                        op: MemoryOp::$memory,
-                        rd,
-                        rs1,
-                        rs2: register($word, 0),
-                        asi: bits($word, 12, 5) as u8,
-                    },
-                    $alternate => Instr::AltImm,
-                )*
-                $($far_code => Instr::$far($word),)*
-                $($queue_code => Instr::$queue($word),)*
-                _ => Instr::Illegal,
-            },
+                $alternate => Instr::AltImm,
+            )*
+            $($far_code => Instr::$far($word),)*
+            $($queue_code => Instr::$queue($word),)*
+            _ => Instr::Illegal,
         }
     }};
-}
-
-/// The instruction that a word stands for (Appendices B and F). Each word has one, `Illegal` where
-/// the manual gives it no meaning.
-///
-/// Reserved bits are ignored: words that differ in them alone give the same instruction.
-#[tactic(auto, unfolding(crate::specs::Table::meaning))]
-#[inline(always)]
-pub fn decode(word: u32) -> Instr
-    ensures value { result ≡ meaning word }
-    ensures registers { HasRegisters result }
-{
-    opcodes!(decode_rows!(word))
+    ([$($with:ident)*] $group:ident $rows:tt $($later:tt)*) => {
+        memory_rows!([$($with)*] $($later)*)
+    };
 }
 
 /// Where a word stands in the opcode table.
@@ -183,189 +205,122 @@ pub fn group(word: u32) -> Group
         0 => Group::Format2,
         1 => Group::Call,
         3 => Group::Memory,
-        _ if bits(word, 24, 24) == 0 => Group::Arithmetic,
-        _ if bits(word, 24, 22) == 4 => Group::Shift,
+        _ if bits(word, 24, 19) < 0x20 => Group::Arithmetic,
+        _ if bits(word, 24, 19) < 0x28 => Group::Shift,
         _ => Group::Control,
     }
 }
 
-// Callers that have a way of their own for a group decode it alone, by the functions below.
-
-/// A `match` on op3, from the group of arithmetic and logic.
-macro_rules! arithmetic_rows {
-    ([$word:ident] arith { $($arith:ident $plain:literal $cc:literal),* } $($later:tt)*) => {{
-        let rd = register($word, 25);
-        let rs1 = register($word, 14);
-        let operand = operand($word);
-        match bits($word, 24, 19) {
-            $(
-                $plain => Some(Instr::Arith { op: ArithOp::$arith, cc: false, rd, rs1, operand }),
-                $cc => Some(Instr::Arith { op: ArithOp::$arith, cc: true, rd, rs1, operand }),
-            )*
-            _ => None,
-        }
-    }};
-    ([$word:ident] $group:ident $rows:tt $($later:tt)*) => {
-        arithmetic_rows!([$word] $($later)*)
-    };
-}
-
-/// A `match` on op3, from the group of three fields.
-macro_rules! three_fields_rows {
-    ([$word:ident] three_fields { $($three:ident $three_code:literal),* } $($later:tt)*) => {{
-        let rd = register($word, 25);
-        let rs1 = register($word, 14);
-        let operand = operand($word);
-        match bits($word, 24, 19) {
-            $($three_code => Some(Instr::$three { rd, rs1, operand }),)*
-            _ => None,
-        }
-    }};
-    ([$word:ident] $group:ident $rows:tt $($later:tt)*) => {
-        three_fields_rows!([$word] $($later)*)
-    };
-}
-
-/// A `match` on op3, from the group of shifts.
-macro_rules! shift_rows {
-    ([$word:ident] shift { $($shift:ident $shift_code:literal),* } $($later:tt)*) => {{
-        let rd = register($word, 25);
-        let rs1 = register($word, 14);
-        let count = count($word);
-        match bits($word, 24, 19) {
-            $($shift_code => Some(Instr::Shift { op: ShiftOp::$shift, rd, rs1, count }),)*
-            _ => None,
-        }
-    }};
-    ([$word:ident] $group:ident $rows:tt $($later:tt)*) => {
-        shift_rows!([$word] $($later)*)
-    };
-}
-
-/// A `match` on op3, from the group of loads and stores.
-macro_rules! memory_rows {
-    ([$word:ident] memory { $($memory:ident $normal:literal $alternate:literal),* } $($later:tt)*) => {{
-        let rd = register($word, 25);
-        let rs1 = register($word, 14);
-        let operand = operand($word);
-        match bits($word, 24, 19) {
-            $($normal => Some(Instr::Memory { op: MemoryOp::$memory, rd, rs1, operand }),)*
-            _ => None,
-        }
-    }};
-    ([$word:ident] $group:ident $rows:tt $($later:tt)*) => {
-        memory_rows!([$word] $($later)*)
-    };
-}
-
-/// The instruction of a word, if it is one of arithmetic and logic that has a form which sets the condition codes.
-/// `None` says nothing of the word.
-#[tactic(auto, unfolding(crate::specs::Table::meaning))]
+/// The instruction of a word of op 2 that has this op3, below 32.
 #[inline(always)]
-pub fn decode_arithmetic(word: u32) -> Option<Instr>
-    ensures value { IfSome result (λ i. i ≡ meaning word) }
-    ensures registers { IfSome result (λ i. HasRegisters i) }
+fn arithmetic_at(word: u32, op3: u32) -> Instr
+    requires { op3 < 0x20 }
+    ensures value { result ≡ instr_at (row_at 2 op3 word) word }
+    ensures registers { HasRegisters result }
 {
-    if bits(word, 31, 30) != 2 {
-        return None;
-    }
-    opcodes!(arithmetic_rows!(word))
+    opcodes!(arithmetic_rows!(word op3))
 }
 
-/// The instruction of a word, if it is a shift.
-/// `None` says nothing of the word.
-#[tactic(auto, unfolding(crate::specs::Table::meaning))]
+/// The instruction of a word of op 2 that has this op3, from 32 on.
 #[inline(always)]
-pub fn decode_shift(word: u32) -> Option<Instr>
-    ensures value { IfSome result (λ i. i ≡ meaning word) }
-    ensures registers { IfSome result (λ i. HasRegisters i) }
+fn control_at(word: u32, op3: u32) -> Instr
+    requires from { 0x20 ≤ op3 }
+    requires below { op3 < 0x40 }
+    ensures value { result ≡ instr_at (row_at 2 op3 word) word }
+    ensures registers { HasRegisters result }
 {
-    if bits(word, 31, 30) != 2 {
-        return None;
-    }
-    opcodes!(shift_rows!(word))
+    opcodes!(control_rows!(word op3))
 }
 
-/// The instruction of a word, if it is a load or a store of an integer register with no address space of its own.
-/// `None` says nothing of the word.
-#[tactic(auto, unfolding(crate::specs::Table::meaning))]
+/// The instruction of a word of op 3 that has this op3.
 #[inline(always)]
-pub fn decode_memory(word: u32) -> Option<Instr>
-    ensures value { IfSome result (λ i. i ≡ meaning word) }
-    ensures registers { IfSome result (λ i. HasRegisters i) }
+fn memory_at(word: u32, op3: u32) -> Instr
+    requires { op3 < 0x40 }
+    ensures value { result ≡ instr_at (row_at 3 op3 word) word }
+    ensures registers { HasRegisters result }
 {
-    if bits(word, 31, 30) != 3 {
-        return None;
-    }
-    opcodes!(memory_rows!(word))
+    opcodes!(memory_rows!(word op3))
 }
 
-/// The instruction of a word, if it is MULScc, JMPL, SAVE or RESTORE.
-/// `None` says nothing of the word.
-#[tactic(auto, unfolding(crate::specs::Table::meaning))]
+/// The instruction of a word of the group of op 0 (B.31, B.21, B.9, B.22, B.23).
+#[tactic(auto, using(crate::proofs::Groups::format_2), unfolding(crate::specs::Table::meaning))]
 #[inline(always)]
-pub fn decode_three_fields(word: u32) -> Option<Instr>
-    ensures value { IfSome result (λ i. i ≡ meaning word) }
-    ensures registers { IfSome result (λ i. HasRegisters i) }
+pub fn decode_format_2(word: u32) -> Instr
+    requires { group_of word ≡ Group.Format2 }
+    ensures value { result ≡ meaning word }
+    ensures registers { HasRegisters result }
 {
-    if bits(word, 31, 30) != 2 {
-        return None;
-    }
-    opcodes!(three_fields_rows!(word))
-}
-
-/// A test of op, from the entry of CALL, which is the first of the list.
-macro_rules! call_rows {
-    ([$word:ident] call $call:literal $($later:tt)*) => {
-        if bits($word, 31, 30) == $call {
-            Some(call($word))
-        } else {
-            None
-        }
-    };
-}
-
-/// The instruction of a word, if it is CALL.
-/// `None` says nothing of the word.
-#[tactic(auto, unfolding(crate::specs::Table::meaning))]
-#[inline(always)]
-pub fn decode_call(word: u32) -> Option<Instr>
-    ensures value { IfSome result (λ i. i ≡ meaning word) }
-    ensures registers { IfSome result (λ i. HasRegisters i) }
-{
-    opcodes!(call_rows!(word))
-}
-
-/// A `match` on op2, from the group of op 0.
-macro_rules! format_2_rows {
-    (
-        [$word:ident]
-        format_2 { Unimp $unimp:literal, Bicc $bicc:literal, Sethi $sethi:literal }
-        $($later:tt)*
-    ) => {
-        match bits($word, 24, 22) {
-            $bicc => Some(branch($word)),
-            $sethi => Some(Instr::Sethi { imm22: bits($word, 21, 0), rd: register($word, 25) }),
-            _ => None,
-        }
-    };
-    ([$word:ident] $group:ident $rows:tt $($later:tt)*) => {
-        format_2_rows!([$word] $($later)*)
-    };
-}
-
-/// The instruction of a word, if it is Bicc or SETHI.
-/// `None` says nothing of the word.
-#[tactic(auto, unfolding(crate::specs::Table::meaning))]
-#[inline(always)]
-pub fn decode_format_2(word: u32) -> Option<Instr>
-    ensures value { IfSome result (λ i. i ≡ meaning word) }
-    ensures registers { IfSome result (λ i. HasRegisters i) }
-{
-    if bits(word, 31, 30) != 0 {
-        return None;
-    }
     opcodes!(format_2_rows!(word))
+}
+
+/// The instruction of a word of op 1, which is CALL (B.24).
+#[tactic(auto, using(crate::proofs::Groups::call), unfolding(crate::specs::Table::meaning))]
+#[inline(always)]
+pub fn decode_call(word: u32) -> Instr
+    requires { group_of word ≡ Group.Call }
+    ensures value { result ≡ meaning word }
+    ensures registers { HasRegisters result }
+{
+    call(word)
+}
+
+/// The instruction of a word of the group of arithmetic and logic (B.11, B.13, B.18, B.19).
+#[inline(always)]
+pub fn decode_arithmetic(word: u32) -> Instr
+    requires { group_of word ≡ Group.Arithmetic }
+    ensures value { result ≡ meaning word }
+    ensures registers { HasRegisters result }
+{
+    arithmetic_at(word, bits(word, 24, 19))
+}
+
+/// The instruction of a word of the group of shifts, tagged arithmetic and MULScc (B.12, B.14, B.16, B.17).
+#[inline(always)]
+pub fn decode_shift(word: u32) -> Instr
+    requires { group_of word ≡ Group.Shift }
+    ensures value { result ≡ meaning word }
+    ensures registers { HasRegisters result }
+{
+    control_at(word, bits(word, 24, 19))
+}
+
+/// The instruction of a word of the group of state registers, jumps, traps and windows (B.20, B.25 to B.30, B.32 to B.34).
+#[inline(always)]
+pub fn decode_control(word: u32) -> Instr
+    requires { group_of word ≡ Group.Control }
+    ensures value { result ≡ meaning word }
+    ensures registers { HasRegisters result }
+{
+    control_at(word, bits(word, 24, 19))
+}
+
+/// The instruction of a word of op 3 (B.1 to B.8).
+#[inline(always)]
+pub fn decode_memory(word: u32) -> Instr
+    requires { group_of word ≡ Group.Memory }
+    ensures value { result ≡ meaning word }
+    ensures registers { HasRegisters result }
+{
+    memory_at(word, bits(word, 24, 19))
+}
+
+/// The instruction that a word stands for (Appendices B and F). Each word has one, `Illegal` where
+/// the manual gives it no meaning.
+///
+/// Reserved bits are ignored: words that differ in them alone give the same instruction.
+#[inline(always)]
+pub fn decode(word: u32) -> Instr
+    ensures value { result ≡ meaning word }
+    ensures registers { HasRegisters result }
+{
+    match group(word) {
+        Group::Format2 => decode_format_2(word),
+        Group::Call => decode_call(word),
+        Group::Arithmetic => decode_arithmetic(word),
+        Group::Shift => decode_shift(word),
+        Group::Control => decode_control(word),
+        Group::Memory => decode_memory(word),
+    }
 }
 
 /// A `match` on an instruction, from the list.

@@ -8,7 +8,7 @@ pub mod laws;
 mod word;
 
 pub use codec::{
-    decode, decode_arithmetic, decode_call, decode_format_2, decode_memory, decode_shift,
-    decode_three_fields, encode, group, is_queue_store,
+    decode, decode_arithmetic, decode_call, decode_control, decode_format_2, decode_memory,
+    decode_shift, encode, group, is_queue_store,
 };
 pub use instr::{ArithOp, Cond, Group, Instr, MemoryOp, Operand, ShiftOp, StateRegister, TaggedOp};

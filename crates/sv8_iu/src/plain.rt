@@ -5,35 +5,34 @@
 //! instruction goes from one function to another.
 
 ghost use Rattle.std.specs.Prelude.{◌≡◌, MatchBool};
-ghost use Rattle.sv8_isa.specs.Table.{meaning};
+ghost use Rattle.sv8_isa.specs.Table.{group_of, meaning};
 ghost use Rattle.sv8_iu.specs.Instruction.{IsPlain};
 
 use crate::arithmetic::{arithmetic_by_operation, set_upper, shift_by_operation};
 use crate::control::{branch, call, jump, jump_trap};
 use crate::windows::{restore, restore_trap, save, save_trap};
 use sv8_isa::{
-    Group, Instr, decode_arithmetic, decode_call, decode_format_2, decode_shift,
-    decode_three_fields, group,
+    Group, Instr, decode_arithmetic, decode_call, decode_control, decode_format_2, decode_shift,
+    group,
 };
 use sv8_trap::Processor;
 
 /// Carries out Bicc and SETHI (Appendices B.21 and B.9).
 #[inline(never)]
 fn carry_out_format_2<const NW: usize>(p: &mut Processor<NW>, word: u32) -> bool
+    requires { group_of word ≡ Group.Format2 }
     ensures { MatchBool result (IsPlain NW p.old (meaning word) p.new) (p.new ≡ p.old) }
 {
     match decode_format_2(word) {
-        Some(
-            Instr::Bicc {
-                cond,
-                annul,
-                disp22,
-            },
-        ) => {
+        Instr::Bicc {
+            cond,
+            annul,
+            disp22,
+        } => {
             branch(p, cond, annul, disp22);
             true
         }
-        Some(Instr::Sethi { imm22, rd }) => {
+        Instr::Sethi { imm22, rd } => {
             set_upper(p, rd, imm22);
             true
         }
@@ -44,10 +43,11 @@ fn carry_out_format_2<const NW: usize>(p: &mut Processor<NW>, word: u32) -> bool
 /// Carries out CALL (Appendix B.24).
 #[inline(never)]
 fn carry_out_call<const NW: usize>(p: &mut Processor<NW>, word: u32) -> bool
+    requires { group_of word ≡ Group.Call }
     ensures { MatchBool result (IsPlain NW p.old (meaning word) p.new) (p.new ≡ p.old) }
 {
     match decode_call(word) {
-        Some(Instr::Call { disp30 }) => {
+        Instr::Call { disp30 } => {
             call(p, disp30);
             true
         }
@@ -58,18 +58,17 @@ fn carry_out_call<const NW: usize>(p: &mut Processor<NW>, word: u32) -> bool
 /// Carries out arithmetic and logic, but no division, which may trap (Appendices B.11 to B.18).
 #[inline(never)]
 fn carry_out_arithmetic<const NW: usize>(p: &mut Processor<NW>, word: u32) -> bool
+    requires { group_of word ≡ Group.Arithmetic }
     ensures { MatchBool result (IsPlain NW p.old (meaning word) p.new) (p.new ≡ p.old) }
 {
     match decode_arithmetic(word) {
-        Some(
-            Instr::Arith {
-                op,
-                cc,
-                rd,
-                rs1,
-                operand,
-            },
-        ) => arithmetic_by_operation(p, op, cc, rd, rs1, operand),
+        Instr::Arith {
+            op,
+            cc,
+            rd,
+            rs1,
+            operand,
+        } => arithmetic_by_operation(p, op, cc, rd, rs1, operand),
         _ => false,
     }
 }
@@ -77,10 +76,11 @@ fn carry_out_arithmetic<const NW: usize>(p: &mut Processor<NW>, word: u32) -> bo
 /// Carries out shifts (Appendix B.12).
 #[inline(never)]
 fn carry_out_shift<const NW: usize>(p: &mut Processor<NW>, word: u32) -> bool
+    requires { group_of word ≡ Group.Shift }
     ensures { MatchBool result (IsPlain NW p.old (meaning word) p.new) (p.new ≡ p.old) }
 {
     match decode_shift(word) {
-        Some(Instr::Shift { op, rd, rs1, count }) => {
+        Instr::Shift { op, rd, rs1, count } => {
             shift_by_operation(p, op, rd, rs1, count);
             true
         }
@@ -91,18 +91,19 @@ fn carry_out_shift<const NW: usize>(p: &mut Processor<NW>, word: u32) -> bool
 /// Carries out JMPL, SAVE and RESTORE where they raise no trap (Appendices B.25 and B.20).
 #[inline(never)]
 fn carry_out_linkage<const NW: usize>(p: &mut Processor<NW>, word: u32) -> bool
+    requires { group_of word ≡ Group.Control }
     ensures { MatchBool result (IsPlain NW p.old (meaning word) p.new) (p.new ≡ p.old) }
 {
-    match decode_three_fields(word) {
-        Some(Instr::Jmpl { rd, rs1, operand }) if jump_trap(p, rs1, operand).is_none() => {
+    match decode_control(word) {
+        Instr::Jmpl { rd, rs1, operand } if jump_trap(p, rs1, operand).is_none() => {
             jump(p, rd, rs1, operand);
             true
         }
-        Some(Instr::Save { rd, rs1, operand }) if save_trap(p).is_none() => {
+        Instr::Save { rd, rs1, operand } if save_trap(p).is_none() => {
             save(p, rd, rs1, operand);
             true
         }
-        Some(Instr::Restore { rd, rs1, operand }) if restore_trap(p).is_none() => {
+        Instr::Restore { rd, rs1, operand } if restore_trap(p).is_none() => {
             restore(p, rd, rs1, operand);
             true
         }

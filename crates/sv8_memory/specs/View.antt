@@ -1,12 +1,14 @@
 -- What physical memory with the registers of the memory management unit stands for, and what it means that it did an access.
-use Rattle.std.specs.Prelude.{ℕ, List}
+use Rattle.std.specs.Prelude.{◌≡◌, ℕ, List}
 use Rattle.sv8_model.specs.Action.{Action}
 use Rattle.sv8_model.specs.Does.{Does, Keeps, Notes}
 use Rattle.sv8_phys.specs.declared.timer.Timer.{Timer}
 use Rattle.sv8_phys.specs.Memory.{ram_size}
 use Rattle.sv8_phys.specs.Contents.{outside_of}
+use Rattle.sv8_mmu.specs.declared.registers.Mmu.{Mmu}
 use Rattle.sv8_mmu.specs.Kept.{Kept, AllStand}
 use Rattle.sv8_iu.specs.declared.request.Response.{Response}
+use Rattle.sv8_iu.specs.declared.request.Response.TheVariants.{Value}
 use Rattle.sv8_memory.specs.declared.physical.Physical.{Physical}
 use Rattle.sv8_memory.specs.Units.{Units, Served}
 
@@ -26,3 +28,7 @@ Serves {pages} m ks = AllStand (ram_size pages) m.phys.ram m.mmu.table_pointer k
 -- are kept at all
 abbrev pub MemoryDoes : {pages : ℕ} → Keeps → List ℕ → Action Served → Physical pages → Physical pages → Response → Notes → Notes → Type 0
 MemoryDoes keeps bytes a m m' r ns ns' = Does keeps a (outside_of m.phys bytes) (outside_of m'.phys bytes) (record { response = r; units = units_of m' }) ns ns'
+
+-- a store is answered, and leaves the registers of the memory management unit as they are
+abbrev pub IsTaken : Mmu → Served → Type 0
+IsTaken mmu s = (s.response ≡ Value 0) × (s.units.mmu ≡ mmu)

@@ -1,24 +1,27 @@
-//! Accesses to RAM that are known to change nothing, or nothing but what they store: their address is known at once, with no
-//! walk of the tables.
+//! Accesses of which it is known at once, with no walk of the tables, that they raise no trap: fetches and loads of RAM and the
+//! load that counts the bytes that wait, which change nothing, and stores to RAM or to a device.
 
-ghost use Rattle.std.specs.Prelude.{◌≡◌, ℕ, ◌%◌, List, true, nat_lt, IfOk, IfSome};
+ghost use Rattle.std.specs.Prelude.{◌≡◌, ℕ, ◌%◌, ◌≤◌, List, true, nat_lt, IfOk, IfSome};
 ghost use Rattle.sv8_model.specs.Action.{result_of};
+ghost use Rattle.sv8_model.specs.Outside.{Outside};
 ghost use Rattle.sv8_model.specs.Does.{DoesUnnoted};
 ghost use Rattle.sv8_phys.specs.declared.timer.Timer.{Timer};
 ghost use Rattle.sv8_phys.specs.Memory.{bytes_in, ram_size};
-ghost use Rattle.sv8_phys.specs.Contents.{outside_of};
+ghost use Rattle.sv8_time.specs.Schedule.{bytes_below};
+ghost use Rattle.sv8_phys.specs.Contents.{arrived, outside_of};
 ghost use Rattle.sv8_iu.specs.Requests.{space_of};
 ghost use Rattle.sv8_memory.specs.Units.{served};
 ghost use Rattle.sv8_memory.specs.Access.{access};
-ghost use Rattle.sv8_memory.specs.View.{Serves, timed_units};
+ghost use Rattle.sv8_memory.specs.View.{Serves, timed_units, IsTaken};
 
 use crate::locating::reach_of;
-use crate::physical::{Physical, load_type, store_type};
+use crate::physical::{Physical, counts_bytes, load_type, store_type};
 use crate::spaces::instruction_space;
 use std::alloc::AllocError;
 use sv8_iu::{AccessRequest, Space};
-use sv8_mmu::{Buffer, Reach, VirtualAccess, address_in_ram};
+use sv8_mmu::{Buffer, Reach, VirtualAccess, address_in_ram, is_device};
 use sv8_phys::{NoTouches, Size};
+use sv8_time::Timeline;
 
 /// The word that a fetch gives.
 #[inline(always)]
@@ -77,7 +80,43 @@ pub fn loaded_at_once<const PAGES: usize>(
     }
 }
 
-/// Whether a store is one of RAM that raises no trap.
+/// What a load of the count of the bytes that wait at the console gives: a word, at an address that is not translated.
+pub fn waiting_at_once<const PAGES: usize>(
+    physical: &Physical<PAGES>,
+    size: Size,
+    at: u32,
+    before: u32,
+    timeline: &Timeline,
+) -> Result<Option<u64>, AllocError>
+    requires delivered { physical.now.phys.taken ≤ bytes_below before timeline.now.inputs }
+    ensures { IfOk result (λ found. IfSome found (λ count. (asi : ℕ) (timer : Timer) → space_of asi ≡ Space.Virtual
+        → DoesUnnoted (access (ram_size PAGES) (timed_units physical.now timer) (AccessRequest.Load size asi at))
+        (outside_of physical.now.phys (arrived before timeline.now)) (outside_of physical.now.phys (arrived before timeline.now)) (served (timed_units physical.now timer) count))) }
+{
+    if physical.mmu.translates() || !counts_bytes(size, u64::from(at)) {
+        return Ok(None);
+    }
+    let count = physical
+        .phys
+        .waiting_noted(before, timeline, &mut NoTouches)?;
+    Ok(Some(u64::from(count)))
+}
+
+/// Whether a store is known to go to a device that takes it: a word, at an address that is not translated.
+fn is_stored_to_device<const PAGES: usize>(physical: &Physical<PAGES>, size: Size, at: u32) -> bool
+    ensures { result ≡ true → (asi value : ℕ) (timer : Timer) (o : Outside) → space_of asi ≡ Space.Virtual
+        → IsTaken physical.now.mmu (result_of (access (ram_size PAGES) (timed_units physical.now timer) (AccessRequest.Store size asi at value)) o) }
+{
+    if physical.mmu.translates() || physical.phys.is_ram(u64::from(at)) {
+        return false;
+    }
+    match size {
+        Size::Word => is_device(u64::from(at)),
+        _ => false,
+    }
+}
+
+/// Whether a store is one of RAM or of a device that raises no trap.
 #[inline(always)]
 pub fn is_stored_at_once<const PAGES: usize>(
     physical: &Physical<PAGES>,
@@ -89,7 +128,7 @@ pub fn is_stored_at_once<const PAGES: usize>(
     requires space { space_of asi ≡ Space.Virtual }
     requires serves { Serves physical.now buffer.now }
     ensures { result ≡ true → (value : ℕ) (timer : Timer) (bytes : List ℕ)
-        → result_of (access (ram_size PAGES) (timed_units physical.now timer) (AccessRequest.Store size asi at value)) (outside_of physical.now.phys bytes) ≡ served (timed_units physical.now timer) 0 }
+        → IsTaken physical.now.mmu (result_of (access (ram_size PAGES) (timed_units physical.now timer) (AccessRequest.Store size asi at value)) (outside_of physical.now.phys bytes)) }
 {
     let access = VirtualAccess {
         address: at,
@@ -98,6 +137,6 @@ pub fn is_stored_at_once<const PAGES: usize>(
     };
     match address_in_ram(&physical.mmu, buffer, &physical.phys, access) {
         Some(_) => true,
-        None => false,
+        None => is_stored_to_device(physical, size, at),
     }
 }

@@ -14,9 +14,9 @@ ghost use Rattle.sv8_memory.specs.Events.{with_events};
 ghost use Rattle.sv8_iu.specs.Requests.{space_of, IsAligned};
 ghost use Rattle.sv8_memory.specs.Access.{access};
 ghost use Rattle.sv8_memory.specs.Units.{served};
-ghost use Rattle.sv8_memory.specs.View.{MemoryDoes, timed_units, units_of};
+ghost use Rattle.sv8_memory.specs.View.{IsTaken, MemoryDoes, timed_units, units_of};
 
-use crate::at_once::{fetched_at_once, is_stored_at_once, loaded_at_once};
+use crate::at_once::{fetched_at_once, is_stored_at_once, loaded_at_once, waiting_at_once};
 use crate::events::happen;
 use crate::physical::Physical;
 use crate::spaces::{access, load_translated, load_untranslated};
@@ -38,7 +38,7 @@ pub struct Memory<const PAGES: usize> {
 
 impl<const PAGES: usize> Model for Memory<PAGES> {
     ghost use Rattle.sv8_memory.specs.declared.physical.Physical.{Physical};
-    ghost use Rattle.sv8_memory.specs.View.{Serves};
+    ghost use Rattle.sv8_memory.specs.View.{IsTaken, Serves};
 
     ghost Value = { Physical PAGES };
 
@@ -205,12 +205,44 @@ impl<const PAGES: usize> Memory<PAGES> {
         Ok(found)
     }
 
-    /// Whether a store to user or supervisor data is known at once to be one of RAM that is answered, as `fetched_at_once` has it.
+    /// What a load of user or supervisor data gives once the bytes of the steps below `before` have come in, where it is known at
+    /// once: it is one of RAM, as `loaded_at_once` has it, or counts the bytes that wait at the console, at an address that is not
+    /// translated.
+    ///
+    /// # Errors
+    ///
+    /// Those of `loaded_at_once`.
+    #[inline(always)]
+    pub fn loaded_in_step(
+        &self,
+        size: Size,
+        asi: u8,
+        at: u32,
+        before: u32,
+        timeline: &Timeline,
+    ) -> Result<Option<u64>, AllocError>
+        requires space { space_of asi ≡ Space.Virtual }
+        requires aligned { at % bytes_in size ≡ 0 }
+        requires delivered { self.now.phys.taken ≤ bytes_below before timeline.now.inputs }
+        ensures { IfOk result (λ found. IfSome found (λ value. (timer : Timer) → DoesUnnoted (access (ram_size PAGES) (timed_units self.now timer) (AccessRequest.Load size asi at))
+            (outside_of self.now.phys (arrived before timeline.now)) (outside_of self.now.phys (arrived before timeline.now)) (served (timed_units self.now timer) value))) }
+    {
+        match self.loaded_at_once(size, asi, at)? {
+            Some(value) => Ok(Some(value)),
+            None => {
+                let found = waiting_at_once(&self.physical, size, at, before, timeline)?;
+                Ok(found)
+            }
+        }
+    }
+
+    /// Whether a store to user or supervisor data is known at once to be answered: it is one of RAM, as `fetched_at_once` has it, or
+    /// of a word of a device at an address that is not translated.
     #[inline(always)]
     pub fn is_stored_at_once(&self, size: Size, asi: u8, at: u32) -> bool
         requires { space_of asi ≡ Space.Virtual }
         ensures { result ≡ true → (value : ℕ) (timer : Timer) (bytes : List ℕ)
-            → result_of (access (ram_size PAGES) (timed_units self.now timer) (AccessRequest.Store size asi at value)) (outside_of self.now.phys bytes) ≡ served (timed_units self.now timer) 0 }
+            → IsTaken self.now.mmu (result_of (access (ram_size PAGES) (timed_units self.now timer) (AccessRequest.Store size asi at value)) (outside_of self.now.phys bytes)) }
     {
         is_stored_at_once(&self.physical, &self.buffer, size, asi, at)
     }

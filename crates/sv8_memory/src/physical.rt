@@ -71,7 +71,7 @@ fn takes_byte(size: Size, pa: u64) -> bool
 
 /// Whether a load counts the bytes that wait at the console.
 #[inline(always)]
-fn counts_bytes(size: Size, pa: u64) -> bool
+pub fn counts_bytes(size: Size, pa: u64) -> bool
     ensures { result ≡ counts_bytes size pa }
 {
     is_word(size) && pa == WAITING

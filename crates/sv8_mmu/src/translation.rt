@@ -146,7 +146,8 @@ pub fn physical_address(entry: u32, level: TableLevel, va: u32) -> u64
 }
 
 /// Whether a device is at a physical address.
-fn is_device(pa: u64) -> bool
+#[inline]
+pub fn is_device(pa: u64) -> bool
     ensures { result ≡ is_device pa }
 {
     pa == INPUT

@@ -15,10 +15,7 @@ use sv8_isa::Operand::{Immediate, Register};
 use sv8_isa::ShiftOp::{Sll, Sra, Srl};
 use sv8_isa::StateRegister::{Psr, Tbr, Wim, Y};
 use sv8_isa::TaggedOp::{TaddCc, TaddCcTv, TsubCc, TsubCcTv};
-use sv8_isa::{
-    Instr, decode, decode_arithmetic, decode_call, decode_format_2, decode_memory, decode_shift,
-    decode_three_fields, encode,
-};
+use sv8_isa::{Instr, decode, encode};
 
 /// An instruction, from its fields in the order of `Instr`.
 macro_rules! instruction {
@@ -326,27 +323,11 @@ const OUT_OF_RANGE: [Instr; 88] = instructions! {
     read(Wim, 255);
 };
 
-/// What the decoder of an instruction's own group gives, if there is one.
-fn decode_of_its_group(word: u32, instr: Instr) -> Option<Instr> {
-    match instr {
-        Instr::Arith { .. } => decode_arithmetic(word),
-        Instr::Shift { .. } => decode_shift(word),
-        Instr::Memory { .. } => decode_memory(word),
-        Instr::Call { .. } => decode_call(word),
-        Instr::Mulscc { .. } | Instr::Jmpl { .. } | Instr::Save { .. } | Instr::Restore { .. } => {
-            decode_three_fields(word)
-        }
-        Instr::Bicc { .. } | Instr::Sethi { .. } => decode_format_2(word),
-        _ => Some(instr),
-    }
-}
-
-/// Each word decodes to its instruction, by the decoder of its group too, and the instruction encodes to the word.
+/// Each word decodes to its instruction, and the instruction encodes to the word.
 #[test]
 fn words_of_an_assembler(rt: HostRuntime) -> Result<(), Fail> {
     for &(word, text, instr) in ASSEMBLED {
         assert_eq!(rt; decode(word), instr, "{text}");
-        assert_eq!(rt; decode_of_its_group(word, instr), Some(instr), "{text}");
         assert_eq!(rt; encode(&instr), Some(word), "{text}");
     }
     Ok(())

@@ -1,10 +1,8 @@
-use Rattle.sv8_cpu.proofs.Ordinary.{plainly_carried_out}
+use Rattle.sv8_phys.specs.Contents.{arrived}
 use Rattle.sv8_cpu.proofs.lockstep.carry_out_both.Goals as goal
 
-pub returns-then-carry_out_plainly : goal.returns-then-carry_out_plainly
-returns-then-carry_out_plainly g c =
-    let plain = c.if-carry_out_plainly.ensures in
-    record {
-      own = plainly_carried_out _ _ _ _ _ _ plain c.in_ok-count_down-in_default.ensures;
-      others = plainly_carried_out _ _ _ _ _ _ plain c.in_ok-count_down-in_default-2.ensures;
-    }
+pub returns-then-done-clause-own : goal.returns-then-done-clause-own
+returns-then-done-clause-own g c = let told = c.in_ok-done.ensures.own in let made = rw c.if-done.true at told in made (arrived c.args.before c.args.timeline.now)
+
+pub returns-then-done-clause-others : goal.returns-then-done-clause-others
+returns-then-done-clause-others g c = let told = c.in_ok-done.ensures.others in let made = rw c.if-done.true at told in made (arrived c.args.before c.args.other_timeline.now)

@@ -1,26 +1,17 @@
-use Rattle.std.proofs.Common.{◌∙◌, refl, ap}
-use Rattle.sv8_memory.specs.declared.physical.Physical.{Physical}
+use Rattle.std.proofs.Common.{refl}
 use Rattle.sv8_cpu.proofs.Ordinary.{store_carried_out}
 use Rattle.sv8_cpu.proofs.lockstep.store_both.Goals as goal
 
 pub returns-clause-own : goal.returns-clause-own
-returns-clause-own g c = λ word rs1 operand is place.
+returns-clause-own g c = λ word rs1 operand is place bytes.
     let r = c.requires in
-    let next = c.in_ok-count_down.ensures in
-    let told = c.in_ok-store.ensures.ok in
-    let stored = rw (c.data_space-asi.ensures.value, c.from-value.ensures, c.get.ensures, c.registers.ensures, c.from.ensures, next) at told in
-    let knows = c.if-not-is_stored_at_once.ensures refl in
-    let answered = rw c.data_space-asi.ensures.value at knows in
-    store_carried_out _ _ _ _ _ _ c.args.size _ _ _ _ 0 is place r.no_trap c.finish_access.ensures _ _ _ r.store refl answered stored
-    (c.in_ok-store.ensures.taken ∙ ap (λ (m : Physical g.row.PAGES). m.phys.taken) next)
+    let told = c.in_ok-stored.ensures.own in
+    let stored = rw (c.if-not-stored.false, c.data_space-asi.ensures.value, c.from-value.ensures, c.get.ensures, c.registers.ensures, c.from.ensures) at told in
+    store_carried_out _ _ _ _ _ _ _ c.args.size _ _ _ _ 0 is place r.no_trap c.finish_access.ensures _ _ r.store refl stored
 
 pub returns-clause-others : goal.returns-clause-others
-returns-clause-others g c = λ word rs1 operand is place.
+returns-clause-others g c = λ word rs1 operand is place bytes.
     let r = c.requires in
-    let next = c.in_ok-count_down-2.ensures in
-    let told = c.in_ok-store-2.ensures.ok in
-    let stored = rw (c.data_space-asi.ensures.value, c.from-value.ensures, c.get.ensures, c.registers.ensures, c.from.ensures, next) at told in
-    let knows = c.if-not-is_stored_at_once-2.ensures refl in
-    let answered = rw c.data_space-asi.ensures.value at knows in
-    store_carried_out _ _ _ _ _ _ c.args.size _ _ _ _ 0 is place r.no_trap c.finish_access.ensures _ _ _ r.store refl answered stored
-    (c.in_ok-store-2.ensures.taken ∙ ap (λ (m : Physical g.row.PAGES). m.phys.taken) next)
+    let told = c.in_ok-stored.ensures.others in
+    let stored = rw (c.if-not-stored.false, c.data_space-asi.ensures.value, c.from-value.ensures, c.get.ensures, c.registers.ensures, c.from.ensures) at told in
+    store_carried_out _ _ _ _ _ _ _ c.args.size _ _ _ _ 0 is place r.no_trap c.finish_access.ensures _ _ r.store refl stored
