@@ -1,7 +1,7 @@
 use Rattle.std.proofs.Common.{◌∙◌, refl, ap}
 use Rattle.sv8_memory.specs.declared.physical.Physical.{Physical}
 use Rattle.sv8_cpu.proofs.Ordinary.{stored_at_once}
-use Rattle.sv8_cpu.proofs.lockstep.store_to_both.Goals as goal
+use Rattle.sv8_cpu.proofs.lockstep.memories.store_to_both.Goals as goal
 
 pub returns-clause-own : goal.returns-clause-own
 returns-clause-own g c =
