@@ -442,7 +442,8 @@ impl<const NW: usize, const PAGES: usize> Machine<NW, PAGES> {
     ///
     /// # Errors
     ///
-    /// `AllocError` where memory for a page that is shared cannot be had. What both machines are then is not said.
+    /// `AllocError` where memory for a page that is shared, or for the console's output, cannot be had. What both machines are then
+    /// is not said.
     #[inline(always)]
     pub fn pass_in_lockstep(
         &mut self,
