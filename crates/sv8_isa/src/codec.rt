@@ -3,7 +3,6 @@
 ghost use Rattle.std.specs.Prelude.{◌≡◌, ◌<◌, ◌≤◌, IfSome};
 ghost use Rattle.sv8_isa.specs.Encoding.{encoding};
 ghost use Rattle.sv8_isa.specs.Registers.{HasRegisters};
-ghost use Rattle.sv8_model.specs.Words.{field};
 ghost use Rattle.sv8_isa.specs.Table.{instr_at, row_at, meaning, is_queue_store, group_of};
 
 use crate::instr::{ArithOp, Group, Instr, MemoryOp, ShiftOp, StateRegister, TaggedOp};
