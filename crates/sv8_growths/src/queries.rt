@@ -214,15 +214,15 @@ fn is_walked(alloc: Global, bench: &mut Small) -> bool {
     }
 }
 
-/// Whether a walk of a workbench and one of another go on together over a store.
+/// Whether a walk of a workbench and one of another go on together over a byte that is put out and a store.
 fn walked_together(
     alloc: Global,
     bench: &mut Small,
     other: &mut Small,
 ) -> Result<bool, AllocError> {
     let mut watch = Watch::new(alloc);
-    let mut walk = bench.walk(3, &mut watch)?;
-    let mut other_walk = other.walk(3, &mut watch)?;
+    let mut walk = bench.walk(2, &mut watch)?;
+    let mut other_walk = other.walk(2, &mut watch)?;
     if !other_walk.machine().has_same_processor(walk.machine()) {
         return Ok(false);
     }
