@@ -266,11 +266,11 @@ carried windows {pages} bytes word p q m m' made =
     ∙ ap (λ z. left_by z m.phys o o1) d.result ∙ ap (λ w. left_by (result_of a o) m.phys o w) d.outside
 
 -- a step in which it is carried out, or not
-pub made_or_not : (windows pages : ℕ) (schedule : Schedule) (n before word : ℕ) (p q : Processor) (m m' : Physical pages) (made : Bool) → before ≡ n + 1
-    → IsFetched windows p m word → MayBeCarriedOut windows (arrived before schedule) word p m q m' made → MayBeMade windows n schedule p m q m' made
-made_or_not windows pages schedule n before word p q m m' true next fetched d =
+pub made_or_not : (windows pages : ℕ) (schedule : Schedule) (n word : ℕ) (bytes : List ℕ) (p q : Processor) (m m' : Physical pages) (made : Bool) → bytes ≡ arrived (n + 1) schedule
+    → IsFetched windows p m word → MayBeCarriedOut windows bytes word p m q m' made → MayBeMade windows n schedule p m q m' made
+made_or_not windows pages schedule n word bytes p q m m' true next fetched d =
     (d.mmu, λ calm unannulled. carried windows (arrived (n + 1) schedule) word p q m m' (rw (← next) d) ∙ sym (ordinary windows pages schedule n p m word calm unannulled fetched))
-made_or_not windows pages schedule n before word p q m m' false next fetched d = d
+made_or_not windows pages schedule n word bytes p q m m' false next fetched d = d
 
 -- ---- the register that a load leaves
 

@@ -8,9 +8,8 @@ ghost use Rattle.sv8_model.specs.Does.{keeping};
 ghost use Rattle.sv8_isa.specs.Registers.{OperandHasRegister};
 ghost use Rattle.sv8_isa.specs.Table.{group_of, meaning};
 ghost use Rattle.sv8_mmu.specs.Registers.{translates};
-ghost use Rattle.sv8_phys.specs.Contents.{arrived};
 ghost use Rattle.sv8_phys.specs.Memory.{bytes_in, ram_size};
-ghost use Rattle.sv8_time.specs.Schedule.{bytes_below};
+ghost use Rattle.sv8_memory.specs.Feeding.{bytes_fed, IsFed};
 ghost use Rattle.sv8_memory.specs.Access.{access};
 ghost use Rattle.sv8_iu.specs.Instruction.{data_space};
 ghost use Rattle.sv8_iu.specs.Memory.{size_of, access_of};
@@ -23,9 +22,8 @@ use crate::parts::{Parts, show_refusal};
 use std::alloc::AllocError;
 use sv8_isa::{Group, Instr, MemoryOp, Operand, decode_memory};
 use sv8_iu::{Response, data_space, finish_access, memory_trap, sum_of_sources};
-use sv8_memory::Memory;
+use sv8_memory::{Feed, Memory};
 use sv8_phys::{Size, Touches};
-use sv8_time::Timeline;
 use sv8_trap::Processor;
 
 /// Makes the access of a load or a store of a word or a byte.
@@ -37,38 +35,23 @@ fn make_access<const NW: usize, const PAGES: usize, const TRANSLATED: bool, T: T
     op: MemoryOp,
     rd: u8,
     at: u32,
-    before: u32,
-    timeline: &Timeline,
+    feed: Feed<'_>,
     notes: &mut T,
 ) -> Result<Option<Response>, AllocError>
     requires translated { translates memory.old.mmu ≡ TRANSLATED }
     requires rd { rd < 32 }
     requires aligned { at % bytes_in (size_of op) ≡ 0 }
-    requires delivered { memory.old.phys.taken ≤ bytes_below before timeline.now.inputs }
+    requires fed { IsFed feed memory.old.phys }
     ensures ok { IfOk result (λ found. MatchOption found (memory.new ≡ memory.old)
-        (λ r. MemoryDoes (keeping T.KEEPS T.OBSERVES) (arrived before timeline.now) (access (ram_size PAGES) (units_of memory.old) (access_of NW p.now op (data_space p.now) rd at))
+        (λ r. MemoryDoes (keeping T.KEEPS T.OBSERVES) (bytes_fed feed.entry) (access (ram_size PAGES) (units_of memory.old) (access_of NW p.now op (data_space p.now) rd at))
         memory.old memory.new r (T.noted notes.old) (T.noted notes.new))) }
     ensures quiet { OnOk result (result ≡ Ok None → T.noted notes.new ≡ T.noted notes.old) }
-    ensures taken { OnOk result (memory.new.phys.taken ≤ bytes_below before timeline.now.inputs) }
+    ensures fed { OnOk result (IsFed feed.entry memory.new.phys) }
 {
     let asi = data_space(p);
     let response = match op {
-        MemoryOp::Ld => memory.load_data::<TRANSLATED, T>(
-            Size::Word,
-            asi,
-            at,
-            before,
-            timeline,
-            notes,
-        )?,
-        MemoryOp::Ldub => memory.load_data::<TRANSLATED, T>(
-            Size::Byte,
-            asi,
-            at,
-            before,
-            timeline,
-            notes,
-        )?,
+        MemoryOp::Ld => memory.load_data::<TRANSLATED, T>(Size::Word, asi, at, feed, notes)?,
+        MemoryOp::Ldub => memory.load_data::<TRANSLATED, T>(Size::Byte, asi, at, feed, notes)?,
         MemoryOp::St => {
             let value = u64::from(p.registers().get(u32::from(rd)));
             memory.store_data::<TRANSLATED, T>(Size::Word, asi, at, value, notes)?
@@ -103,25 +86,21 @@ impl<const NW: usize, const PAGES: usize> Parts<NW, PAGES> {
         op: MemoryOp,
         rd: u8,
         at: u32,
-        before: u32,
-        timeline: &Timeline,
+        feed: Feed<'_>,
         notes: &mut T,
     ) -> Result<bool, AllocError>
         requires translated { translates self.old.memory.mmu ≡ TRANSLATED }
         requires rd { rd < 32 }
-        requires delivered { self.old.memory.phys.taken ≤ bytes_below before timeline.now.inputs }
-        ensures ok { IfOk result (λ found. (word rs1 : ℕ) (operand : Operand) → Instr.Memory op rd rs1 operand ≡ meaning word
-            → at ≡ sum_of_sources NW self.old.processor rs1 operand → MayCarryOut (keeping T.KEEPS T.OBSERVES) (arrived before timeline.now) word self.old self.new (T.noted notes.old) (T.noted notes.new) found) }
-        ensures taken { OnOk result (self.new.memory.phys.taken ≤ bytes_below before timeline.now.inputs) }
+        requires fed { IsFed feed self.old.memory.phys }
+        ensures { IfOk result (λ found. (word rs1 : ℕ) (operand : Operand) → Instr.Memory op rd rs1 operand ≡ meaning word
+            → at ≡ sum_of_sources NW self.old.processor rs1 operand → MayCarryOut (keeping T.KEEPS T.OBSERVES) feed.entry word self.old self.new (T.noted notes.old) (T.noted notes.new) found) }
     {
         match memory_trap(op, rd, at) {
             Some(_) => Ok(false),
             None => {
                 let p = &self.processor;
                 let memory = &mut self.memory;
-                match make_access::<NW, PAGES, TRANSLATED, T>(
-                    p, memory, op, rd, at, before, timeline, notes,
-                )? {
+                match make_access::<NW, PAGES, TRANSLATED, T>(p, memory, op, rd, at, feed, notes)? {
                     None => Ok(false),
                     Some(response) => {
                         show_refusal(response, notes)?;
@@ -140,18 +119,16 @@ impl<const NW: usize, const PAGES: usize> Parts<NW, PAGES> {
         op: MemoryOp,
         rd: u8,
         at: u32,
-        before: u32,
-        timeline: &Timeline,
+        feed: Feed<'_>,
         notes: &mut T,
     ) -> Result<bool, AllocError>
         requires untranslated { translates self.old.memory.mmu ≡ false }
         requires rd { rd < 32 }
-        requires delivered { self.old.memory.phys.taken ≤ bytes_below before timeline.now.inputs }
-        ensures ok { IfOk result (λ found. (word rs1 : ℕ) (operand : Operand) → Instr.Memory op rd rs1 operand ≡ meaning word
-            → at ≡ sum_of_sources NW self.old.processor rs1 operand → MayCarryOut (keeping T.KEEPS T.OBSERVES) (arrived before timeline.now) word self.old self.new (T.noted notes.old) (T.noted notes.new) found) }
-        ensures taken { OnOk result (self.new.memory.phys.taken ≤ bytes_below before timeline.now.inputs) }
+        requires fed { IsFed feed self.old.memory.phys }
+        ensures { IfOk result (λ found. (word rs1 : ℕ) (operand : Operand) → Instr.Memory op rd rs1 operand ≡ meaning word
+            → at ≡ sum_of_sources NW self.old.processor rs1 operand → MayCarryOut (keeping T.KEEPS T.OBSERVES) feed.entry word self.old self.new (T.noted notes.old) (T.noted notes.new) found) }
     {
-        self.complete_transfer::<false, T>(op, rd, at, before, timeline, notes)
+        self.complete_transfer::<false, T>(op, rd, at, feed, notes)
     }
 
     /// Makes the access of a load or a store with these fields and completes it, as `complete_transfer` does, where addresses are
@@ -163,25 +140,23 @@ impl<const NW: usize, const PAGES: usize> Parts<NW, PAGES> {
         rd: u8,
         rs1: u8,
         operand: Operand,
-        before: u32,
-        timeline: &Timeline,
+        feed: Feed<'_>,
         notes: &mut T,
     ) -> Result<bool, AllocError>
         requires untranslated { translates self.old.memory.mmu ≡ false }
         requires rd { rd < 32 }
         requires rs1 { rs1 < 32 }
         requires operand { OperandHasRegister operand }
-        requires delivered { self.old.memory.phys.taken ≤ bytes_below before timeline.now.inputs }
-        ensures ok { IfOk result (λ found. (word : ℕ) → Instr.Memory op rd rs1 operand ≡ meaning word
-            → MayCarryOut (keeping T.KEEPS T.OBSERVES) (arrived before timeline.now) word self.old self.new (T.noted notes.old) (T.noted notes.new) found) }
-        ensures taken { OnOk result (self.new.memory.phys.taken ≤ bytes_below before timeline.now.inputs) }
+        requires fed { IsFed feed self.old.memory.phys }
+        ensures { IfOk result (λ found. (word : ℕ) → Instr.Memory op rd rs1 operand ≡ meaning word
+            → MayCarryOut (keeping T.KEEPS T.OBSERVES) feed.entry word self.old self.new (T.noted notes.old) (T.noted notes.new) found) }
     {
         let at = sum_of_sources(&self.processor, rs1, operand);
         if self.memory.phys().is_ram(u64::from(at)) {
-            let found = self.complete_transfer::<false, T>(op, rd, at, before, timeline, notes)?;
+            let found = self.complete_transfer::<false, T>(op, rd, at, feed, notes)?;
             return Ok(found);
         }
-        let found = self.complete_outside_ram(op, rd, at, before, timeline, notes)?;
+        let found = self.complete_outside_ram(op, rd, at, feed, notes)?;
         Ok(found)
     }
 
@@ -193,35 +168,33 @@ impl<const NW: usize, const PAGES: usize> Parts<NW, PAGES> {
         rd: u8,
         rs1: u8,
         operand: Operand,
-        before: u32,
-        timeline: &Timeline,
+        feed: Feed<'_>,
         notes: &mut T,
     ) -> Result<bool, AllocError>
         requires untranslated { translates self.old.memory.mmu ≡ false }
         requires rd { rd < 32 }
         requires rs1 { rs1 < 32 }
         requires operand { OperandHasRegister operand }
-        requires delivered { self.old.memory.phys.taken ≤ bytes_below before timeline.now.inputs }
-        ensures ok { IfOk result (λ found. (word : ℕ) → Instr.Memory op rd rs1 operand ≡ meaning word
-            → MayCarryOut (keeping T.KEEPS T.OBSERVES) (arrived before timeline.now) word self.old self.new (T.noted notes.old) (T.noted notes.new) found) }
-        ensures taken { OnOk result (self.new.memory.phys.taken ≤ bytes_below before timeline.now.inputs) }
+        requires fed { IsFed feed self.old.memory.phys }
+        ensures { IfOk result (λ found. (word : ℕ) → Instr.Memory op rd rs1 operand ≡ meaning word
+            → MayCarryOut (keeping T.KEEPS T.OBSERVES) feed.entry word self.old self.new (T.noted notes.old) (T.noted notes.new) found) }
     {
         match op {
             MemoryOp::Ld => {
                 let op = MemoryOp::Ld;
-                self.transfer_in_place(op, rd, rs1, operand, before, timeline, notes)
+                self.transfer_in_place(op, rd, rs1, operand, feed, notes)
             }
             MemoryOp::Ldub => {
                 let op = MemoryOp::Ldub;
-                self.transfer_in_place(op, rd, rs1, operand, before, timeline, notes)
+                self.transfer_in_place(op, rd, rs1, operand, feed, notes)
             }
             MemoryOp::St => {
                 let op = MemoryOp::St;
-                self.transfer_in_place(op, rd, rs1, operand, before, timeline, notes)
+                self.transfer_in_place(op, rd, rs1, operand, feed, notes)
             }
             MemoryOp::Stb => {
                 let op = MemoryOp::Stb;
-                self.transfer_in_place(op, rd, rs1, operand, before, timeline, notes)
+                self.transfer_in_place(op, rd, rs1, operand, feed, notes)
             }
             _ => Ok(false),
         }
@@ -233,15 +206,13 @@ impl<const NW: usize, const PAGES: usize> Parts<NW, PAGES> {
     fn carry_out_translated<T: Touches>(
         &mut self,
         word: u32,
-        before: u32,
-        timeline: &Timeline,
+        feed: Feed<'_>,
         notes: &mut T,
     ) -> Result<bool, AllocError>
         requires group { group_of word ≡ Group.Memory }
         requires translated { translates self.old.memory.mmu ≡ true }
-        requires delivered { self.old.memory.phys.taken ≤ bytes_below before timeline.now.inputs }
-        ensures ok { IfOk result (MayCarryOut (keeping T.KEEPS T.OBSERVES) (arrived before timeline.now) word self.old self.new (T.noted notes.old) (T.noted notes.new)) }
-        ensures taken { OnOk result (self.new.memory.phys.taken ≤ bytes_below before timeline.now.inputs) }
+        requires fed { IsFed feed self.old.memory.phys }
+        ensures { IfOk result (MayCarryOut (keeping T.KEEPS T.OBSERVES) feed.entry word self.old self.new (T.noted notes.old) (T.noted notes.new)) }
     {
         match decode_memory(word) {
             Instr::Memory {
@@ -251,7 +222,7 @@ impl<const NW: usize, const PAGES: usize> Parts<NW, PAGES> {
                 operand,
             } => {
                 let at = sum_of_sources(&self.processor, rs1, operand);
-                let found = self.complete_transfer::<true, T>(op, rd, at, before, timeline, notes)?;
+                let found = self.complete_transfer::<true, T>(op, rd, at, feed, notes)?;
                 Ok(found)
             }
             _ => Ok(false),
@@ -264,17 +235,15 @@ impl<const NW: usize, const PAGES: usize> Parts<NW, PAGES> {
     pub fn carry_out_access<T: Touches>(
         &mut self,
         word: u32,
-        before: u32,
-        timeline: &Timeline,
+        feed: Feed<'_>,
         notes: &mut T,
     ) -> Result<bool, AllocError>
         requires group { group_of word ≡ Group.Memory }
-        requires delivered { self.old.memory.phys.taken ≤ bytes_below before timeline.now.inputs }
-        ensures ok { IfOk result (MayCarryOut (keeping T.KEEPS T.OBSERVES) (arrived before timeline.now) word self.old self.new (T.noted notes.old) (T.noted notes.new)) }
-        ensures taken { OnOk result (self.new.memory.phys.taken ≤ bytes_below before timeline.now.inputs) }
+        requires fed { IsFed feed self.old.memory.phys }
+        ensures { IfOk result (MayCarryOut (keeping T.KEEPS T.OBSERVES) feed.entry word self.old self.new (T.noted notes.old) (T.noted notes.new)) }
     {
         if self.memory.translates() {
-            return self.carry_out_translated(word, before, timeline, notes);
+            return self.carry_out_translated(word, feed, notes);
         }
         match decode_memory(word) {
             Instr::Memory {
@@ -283,7 +252,7 @@ impl<const NW: usize, const PAGES: usize> Parts<NW, PAGES> {
                 rs1,
                 operand,
             } => {
-                let found = self.transfer(op, rd, rs1, operand, before, timeline, notes)?;
+                let found = self.transfer(op, rd, rs1, operand, feed, notes)?;
                 Ok(found)
             }
             _ => Ok(false),

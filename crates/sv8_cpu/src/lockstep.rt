@@ -4,7 +4,6 @@ ghost use Rattle.std.specs.Prelude.{◌≡◌, ℕ, ◌%◌, ◌<◌, ◌≤◌,
 ghost use Rattle.sv8_model.specs.Levels.{asked};
 ghost use Rattle.sv8_time.specs.Schedule.{Schedule, bytes_below};
 ghost use Rattle.sv8_phys.specs.Memory.{bytes_in};
-ghost use Rattle.sv8_phys.specs.Contents.{arrived};
 ghost use Rattle.sv8_isa.specs.Table.{group_of, meaning};
 ghost use Rattle.sv8_trap.specs.Interrupt.{unmasked};
 ghost use Rattle.sv8_trap.specs.Table.{taken};
@@ -15,6 +14,7 @@ ghost use Rattle.sv8_trap.specs.Processor.{advanced, with_result};
 ghost use Rattle.sv8_iu.specs.Memory.{access_of, low_word, memory_traps, transferred_data};
 ghost use Rattle.sv8_iu.specs.Operands.{sum_of_sources};
 ghost use Rattle.sv8_iu.specs.Requests.{space_of};
+ghost use Rattle.sv8_memory.specs.Feeding.{bytes_fed, IsFed};
 ghost use Rattle.sv8_cpu.specs.Run.{step};
 ghost use Rattle.sv8_cpu.specs.Work.{counted};
 ghost use Rattle.sv8_cpu.specs.Whole.{state_of};
@@ -32,7 +32,7 @@ use sv8_iu::{
     AccessRequest, Space, asked, carry_out_plainly, complete, data_space, finish_access, low_word,
     memory_trap, raised_by, space_of, sum_of_sources, take_trap,
 };
-use sv8_memory::Memory;
+use sv8_memory::{Feed, Memory};
 use sv8_phys::{NoTouches, Size};
 use sv8_time::Timeline;
 use sv8_trap::Processor;
@@ -229,18 +229,17 @@ fn complete_both<const NW: usize, const PAGES: usize>(
     memory: &mut Memory<PAGES>,
     other: &mut Memory<PAGES>,
     instr: Instr,
-    before: u32,
-    timeline: &Timeline,
-    other_timeline: &Timeline,
+    feed: Feed<'_>,
+    other_feed: Feed<'_>,
 ) -> Result<bool, AllocError>
     requires registers { HasRegisters instr }
     requires no_trap { taken (raised NW p.old instr) ≡ None }
     requires counting { CountsDown memory.old }
     requires others_counting { CountsDown other.old }
-    requires delivered { memory.old.phys.taken ≤ bytes_below before timeline.now.inputs }
-    requires other_delivered { other.old.phys.taken ≤ bytes_below before other_timeline.now.inputs }
-    ensures own { IfOk result (λ done. (word : ℕ) → instr ≡ meaning word → MayBeCarriedOut NW (arrived before timeline.now) word p.old memory.old p.new memory.new done) }
-    ensures others { IfOk result (λ done. (word : ℕ) → instr ≡ meaning word → MayBeCarriedOut NW (arrived before other_timeline.now) word p.old other.old p.new other.new done) }
+    requires fed { IsFed feed memory.old.phys }
+    requires others_fed { IsFed other_feed other.old.phys }
+    ensures own { IfOk result (λ done. (word : ℕ) → instr ≡ meaning word → MayBeCarriedOut NW (bytes_fed feed.entry) word p.old memory.old p.new memory.new done) }
+    ensures others { IfOk result (λ done. (word : ℕ) → instr ≡ meaning word → MayBeCarriedOut NW (bytes_fed other_feed.entry) word p.old other.old p.new other.new done) }
 {
     match asked(p, instr) {
         AccessRequest::Nothing => {
@@ -249,17 +248,7 @@ fn complete_both<const NW: usize, const PAGES: usize>(
             Ok(true)
         }
         AccessRequest::Load { size, asi, at } if is_virtual(asi) => {
-            let Some(value) = load_from_both(
-                memory,
-                other,
-                size,
-                asi,
-                at,
-                before,
-                timeline,
-                other_timeline,
-            )?
-            else {
+            let Some(value) = load_from_both(memory, other, size, asi, at, feed, other_feed)? else {
                 return Ok(false);
             };
             count_down_both(memory, other)?;
@@ -290,16 +279,15 @@ fn carry_out_rarely<const NW: usize, const PAGES: usize>(
     memory: &mut Memory<PAGES>,
     other: &mut Memory<PAGES>,
     word: u32,
-    before: u32,
-    timeline: &Timeline,
-    other_timeline: &Timeline,
+    feed: Feed<'_>,
+    other_feed: Feed<'_>,
 ) -> Result<bool, AllocError>
     requires counting { CountsDown memory.old }
     requires others_counting { CountsDown other.old }
-    requires delivered { memory.old.phys.taken ≤ bytes_below before timeline.now.inputs }
-    requires other_delivered { other.old.phys.taken ≤ bytes_below before other_timeline.now.inputs }
-    ensures own { IfOk result (MayBeCarriedOut NW (arrived before timeline.now) word p.old memory.old p.new memory.new) }
-    ensures others { IfOk result (MayBeCarriedOut NW (arrived before other_timeline.now) word p.old other.old p.new other.new) }
+    requires fed { IsFed feed memory.old.phys }
+    requires others_fed { IsFed other_feed other.old.phys }
+    ensures own { IfOk result (MayBeCarriedOut NW (bytes_fed feed.entry) word p.old memory.old p.new memory.new) }
+    ensures others { IfOk result (MayBeCarriedOut NW (bytes_fed other_feed.entry) word p.old other.old p.new other.new) }
 {
     let instr = decode(word);
     match raised_by(p, instr) {
@@ -309,7 +297,7 @@ fn carry_out_rarely<const NW: usize, const PAGES: usize>(
             Ok(true)
         }
         None => {
-            let done = complete_both(p, memory, other, instr, before, timeline, other_timeline)?;
+            let done = complete_both(p, memory, other, instr, feed, other_feed)?;
             Ok(done)
         }
     }
@@ -341,30 +329,28 @@ fn carry_out_frequently<const NW: usize, const PAGES: usize>(
     }
 }
 
-/// Carries a word out over both memories, once the bytes of the steps below `before` have come in, if it does the same to the
-/// processor. Tells whether it has; where it has not, nothing has changed.
+/// Carries a word out over both memories, once the bytes of their feeds have come in, if it does the same to the processor. Tells whether it has; where it has not, nothing has changed.
 #[inline(always)]
 fn carry_out_both<const NW: usize, const PAGES: usize>(
     p: &mut Processor<NW>,
     memory: &mut Memory<PAGES>,
     other: &mut Memory<PAGES>,
     word: u32,
-    before: u32,
-    timeline: &Timeline,
-    other_timeline: &Timeline,
+    feed: Feed<'_>,
+    other_feed: Feed<'_>,
 ) -> Result<bool, AllocError>
     requires counting { CountsDown memory.old }
     requires others_counting { CountsDown other.old }
-    requires delivered { memory.old.phys.taken ≤ bytes_below before timeline.now.inputs }
-    requires other_delivered { other.old.phys.taken ≤ bytes_below before other_timeline.now.inputs }
-    ensures own { IfOk result (MayBeCarriedOut NW (arrived before timeline.now) word p.old memory.old p.new memory.new) }
-    ensures others { IfOk result (MayBeCarriedOut NW (arrived before other_timeline.now) word p.old other.old p.new other.new) }
+    requires fed { IsFed feed memory.old.phys }
+    requires others_fed { IsFed other_feed other.old.phys }
+    ensures own { IfOk result (MayBeCarriedOut NW (bytes_fed feed.entry) word p.old memory.old p.new memory.new) }
+    ensures others { IfOk result (MayBeCarriedOut NW (bytes_fed other_feed.entry) word p.old other.old p.new other.new) }
 {
     let done = carry_out_frequently(p, memory, other, word)?;
     if done {
         return Ok(true);
     }
-    carry_out_rarely(p, memory, other, word, before, timeline, other_timeline)
+    carry_out_rarely(p, memory, other, word, feed, other_feed)
 }
 
 /// Fetches the instruction at PC from both memories and carries it out over both, in step n, if that does the same to the processor.
@@ -385,13 +371,12 @@ fn run_both<const NW: usize, const PAGES: usize>(
     ensures own { IfOk result (MayBeMade NW n timeline.now p.old memory.old p.new memory.new) }
     ensures others { IfOk result (MayBeMade NW n other_timeline.now p.old other.old p.new other.new) }
 {
-    let Some(before) = n.checked_add(1) else {
-        return Ok(false);
-    };
+    let feed = Feed::of_step(n, timeline);
+    let other_feed = Feed::of_step(n, other_timeline);
     let Some(word) = fetch_both(p, memory, other)? else {
         return Ok(false);
     };
-    let done = carry_out_both(p, memory, other, word, before, timeline, other_timeline)?;
+    let done = carry_out_both(p, memory, other, word, feed, other_feed)?;
     Ok(done)
 }
 

@@ -17,131 +17,15 @@ use crate::parts::Parts;
 use crate::work::Work;
 use std::alloc::{AllocError, Global};
 use std::marker::Model;
-use sv8_memory::{Memory, end_of};
+use sv8_memory::{Feed, Memory};
 use sv8_phys::{NoTouches, Phys, StepTouches, Touches};
 use sv8_time::Timeline;
 use sv8_trap::Processor;
 
-/// What a step does behind its events, with no notes.
-#[inline(always)]
-fn act_unnoted<const NW: usize, const PAGES: usize>(
-    parts: &mut Parts<NW, PAGES>,
-    before: u32,
-    timeline: &Timeline,
-) -> Result<(), AllocError>
-    requires few_windows { NW ≤ 32 }
-    requires delivered { parts.old.memory.phys.taken ≤ bytes_below before timeline.now.inputs }
-    ensures ok { OnOk result (state_of parts.new ≡ acted_on (arrived before timeline.now) (state_of parts.old) (step_action NW PAGES (state_of parts.old))) }
-    ensures taken { OnOk result (parts.new.memory.phys.taken ≤ bytes_below before timeline.now.inputs) }
-{
-    parts.act(before, timeline, &mut NoTouches)?;
-    Ok(())
-}
-
-/// What a step does behind its events; then its notes are told.
-#[inline(always)]
-fn act_noted<const NW: usize, const PAGES: usize, T: Touches>(
-    parts: &mut Parts<NW, PAGES>,
-    touches: &mut StepTouches,
-    before: u32,
-    timeline: &Timeline,
-    notes: &mut T,
-) -> Result<(), AllocError>
-    requires few_windows { NW ≤ 32 }
-    requires delivered { parts.old.memory.phys.taken ≤ bytes_below before timeline.now.inputs }
-    ensures ok { OnOk result (state_of parts.new ≡ acted_on (arrived before timeline.now) (state_of parts.old) (step_action NW PAGES (state_of parts.old))) }
-    ensures taken { OnOk result (parts.new.memory.phys.taken ≤ bytes_below before timeline.now.inputs) }
-    ensures noted { OnOk result (T.noted notes.new ≡ noting (keeping T.KEEPS T.OBSERVES) (T.noted notes.old) (told (touched NW PAGES (arrived before timeline.now) (state_of parts.old))) []) }
-{
-    touches.clear();
-    parts.act(before, timeline, touches)?;
-    touches.tell(notes)?;
-    Ok(())
-}
-
-/// What a step does behind its events, with all notes as they come.
-#[inline(always)]
-fn act_watched<const NW: usize, const PAGES: usize, T: Touches>(
-    parts: &mut Parts<NW, PAGES>,
-    before: u32,
-    timeline: &Timeline,
-    notes: &mut T,
-) -> Result<(), AllocError>
-    requires few_windows { NW ≤ 32 }
-    requires delivered { parts.old.memory.phys.taken ≤ bytes_below before timeline.now.inputs }
-    ensures ok { OnOk result (state_of parts.new ≡ acted_on (arrived before timeline.now) (state_of parts.old) (step_action NW PAGES (state_of parts.old))) }
-    ensures taken { OnOk result (parts.new.memory.phys.taken ≤ bytes_below before timeline.now.inputs) }
-    ensures noted { OnOk result (T.noted notes.new ≡ noting (keeping T.KEEPS T.OBSERVES) (T.noted notes.old)
-        (touched NW PAGES (arrived before timeline.now) (state_of parts.old)) (seen NW PAGES (arrived before timeline.now) (state_of parts.old))) }
-{
-    parts.act(before, timeline, notes)?;
-    Ok(())
-}
-
-/// The events of step n. Tells below which step input bytes have come in then.
-#[inline(always)]
-fn begin<const NW: usize, const PAGES: usize>(
-    parts: &mut Parts<NW, PAGES>,
-    n: u32,
-    timeline: &Timeline,
-) -> Result<u32, AllocError>
-    requires few_windows { NW ≤ 32 }
-    requires limit { timeline.now.limit ≡ ram_size PAGES }
-    requires delivered { parts.old.memory.phys.taken ≤ bytes_below n timeline.now.inputs }
-    ensures state { OnOk result (state_of parts.new ≡ eventful timeline.now n (state_of parts.old)) }
-    ensures arrived { IfOk result (λ before. arrived before timeline.now ≡ arrived (n + 1) timeline.now) }
-    ensures below { IfOk result (λ before. bytes_below before timeline.now.inputs ≡ bytes_below (n + 1) timeline.now.inputs) }
-    ensures taken { IfOk result (λ before. parts.new.memory.phys.taken ≤ bytes_below before timeline.now.inputs) }
-{
-    parts.memory.happen(n, timeline)?;
-    Ok(end_of(n, timeline))
-}
-
-/// Step n, with no notes.
-#[inline(always)]
-#[tactic(auto, unfolding(crate::specs::Run::step))]
-fn step_unnoted<const NW: usize, const PAGES: usize>(
-    parts: &mut Parts<NW, PAGES>,
-    n: u32,
-    timeline: &Timeline,
-) -> Result<(), AllocError>
-    requires few_windows { NW ≤ 32 }
-    requires limit { timeline.now.limit ≡ ram_size PAGES }
-    requires delivered { parts.old.memory.phys.taken ≤ bytes_below n timeline.now.inputs }
-    ensures ok { OnOk result (state_of parts.new ≡ step NW PAGES timeline.now n (state_of parts.old)) }
-    ensures taken { OnOk result (parts.new.memory.phys.taken ≤ bytes_below (n + 1) timeline.now.inputs) }
-{
-    let before = begin(parts, n, timeline)?;
-    act_unnoted(parts, before, timeline)?;
-    Ok(())
-}
-
-/// Step n; its notes are told.
-#[inline(always)]
-#[tactic(auto, unfolding(crate::specs::Run::step, crate::specs::Run::footprint))]
-fn step_noted<const NW: usize, const PAGES: usize, T: Touches>(
-    parts: &mut Parts<NW, PAGES>,
-    touches: &mut StepTouches,
-    n: u32,
-    timeline: &Timeline,
-    notes: &mut T,
-) -> Result<(), AllocError>
-    requires few_windows { NW ≤ 32 }
-    requires limit { timeline.now.limit ≡ ram_size PAGES }
-    requires delivered { parts.old.memory.phys.taken ≤ bytes_below n timeline.now.inputs }
-    ensures ok { OnOk result (state_of parts.new ≡ step NW PAGES timeline.now n (state_of parts.old)) }
-    ensures taken { OnOk result (parts.new.memory.phys.taken ≤ bytes_below (n + 1) timeline.now.inputs) }
-    ensures noted { OnOk result (T.noted notes.new ≡ noting (keeping T.KEEPS T.OBSERVES) (T.noted notes.old) (told (footprint NW PAGES timeline.now n (state_of parts.old))) []) }
-{
-    let before = begin(parts, n, timeline)?;
-    act_noted(parts, touches, before, timeline, notes)?;
-    Ok(())
-}
-
-/// Step n; all that it touches, and what is to be seen of it, is noted as it comes.
+/// Step n: its events, and then what it does. All that it touches, and what is to be seen of it, is noted as it comes.
 #[inline(always)]
 #[tactic(auto, unfolding(crate::specs::Run::step, crate::specs::Run::footprint, crate::specs::Run::observed))]
-fn step_watched<const NW: usize, const PAGES: usize, T: Touches>(
+fn make_step<const NW: usize, const PAGES: usize, T: Touches>(
     parts: &mut Parts<NW, PAGES>,
     n: u32,
     timeline: &Timeline,
@@ -155,8 +39,8 @@ fn step_watched<const NW: usize, const PAGES: usize, T: Touches>(
     ensures noted { OnOk result (T.noted notes.new ≡ noting (keeping T.KEEPS T.OBSERVES) (T.noted notes.old)
         (footprint NW PAGES timeline.now n (state_of parts.old)) (observed NW PAGES timeline.now n (state_of parts.old))) }
 {
-    let before = begin(parts, n, timeline)?;
-    act_watched(parts, before, timeline, notes)?;
+    parts.memory.happen(n, timeline)?;
+    parts.act(Feed::of_step(n, timeline), notes)?;
     Ok(())
 }
 
@@ -271,7 +155,7 @@ impl<const NW: usize, const PAGES: usize> Machine<NW, PAGES> {
         ensures counted { OnOk result (work.new ≡ counted work.old) }
         ensures uncounted { OnErr result (work.new ≡ work.old) }
     {
-        step_watched(&mut self.parts, n, timeline, notes)?;
+        make_step(&mut self.parts, n, timeline, notes)?;
         work.raise();
         Ok(())
     }
@@ -290,7 +174,7 @@ impl<const NW: usize, const PAGES: usize> Machine<NW, PAGES> {
         ensures counted { OnOk result (work.new ≡ counted work.old) }
         ensures uncounted { OnErr result (work.new ≡ work.old) }
     {
-        step_unnoted(&mut self.parts, n, timeline)?;
+        make_step(&mut self.parts, n, timeline, &mut NoTouches)?;
         work.raise();
         Ok(())
     }
@@ -317,9 +201,11 @@ impl<const NW: usize, const PAGES: usize> Machine<NW, PAGES> {
         ensures uncounted { OnErr result (work.new ≡ work.old) }
     {
         if T::KEEPS {
-            step_noted(&mut self.parts, &mut self.touches, n, timeline, notes)?;
+            self.touches.clear();
+            make_step(&mut self.parts, n, timeline, &mut self.touches)?;
+            self.touches.tell(notes)?;
         } else {
-            step_unnoted(&mut self.parts, n, timeline)?;
+            make_step(&mut self.parts, n, timeline, &mut NoTouches)?;
         }
         work.raise();
         Ok(())

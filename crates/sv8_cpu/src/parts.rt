@@ -4,23 +4,21 @@ ghost use Rattle.std.specs.Prelude.{◌≡◌, ◌<◌, ◌≤◌, ◌/◌, [], 
 ghost use Rattle.sv8_isa.specs.Registers.{HasRegisters};
 ghost use Rattle.sv8_model.specs.Does.{kept, noting, keeping};
 ghost use Rattle.sv8_cpu.specs.Run.{step};
-ghost use Rattle.sv8_time.specs.Schedule.{bytes_below};
 ghost use Rattle.sv8_trap.specs.Table.{taken};
 ghost use Rattle.sv8_phys.specs.Memory.{ram_size};
-ghost use Rattle.sv8_phys.specs.Contents.{arrived};
 ghost use Rattle.sv8_iu.specs.Instruction.{raised};
 ghost use Rattle.sv8_cpu.specs.Step.{trap_seen, refusal_seen, answered, executed, carried_out, fetched, instruction, continued, requested, interruptible, awake, action};
+ghost use Rattle.sv8_memory.specs.Feeding.{IsFed};
 ghost use Rattle.sv8_memory.specs.View.{units_of};
-ghost use Rattle.sv8_cpu.specs.Whole.{inner_of_parts, MachineDoes};
+ghost use Rattle.sv8_cpu.specs.Whole.{inner_of_parts, Acts};
 
 use std::alloc::AllocError;
 use sv8_isa::{Group, Instr, decode, group};
 use sv8_iu::{
     AccessRequest, Response, asked, carry_out_plainly, complete, low_word, raised_by, take_trap,
 };
-use sv8_memory::Memory;
+use sv8_memory::{Feed, Memory};
 use sv8_phys::{Observation, Touches};
-use sv8_time::Timeline;
 use sv8_trap::{Processor, Trap, highest_level};
 
 /// The state of a machine, kept in one place so that a step changes it where it stands.
@@ -71,19 +69,17 @@ impl<const NW: usize, const PAGES: usize> Parts<NW, PAGES> {
     fn make_access<T: Touches>(
         &mut self,
         instr: Instr,
-        before: u32,
-        timeline: &Timeline,
+        feed: Feed<'_>,
         notes: &mut T,
     ) -> Result<(), AllocError>
         requires registers { HasRegisters instr }
         requires no_trap { taken (raised NW self.old.processor instr) ≡ None }
-        requires delivered { self.old.memory.phys.taken ≤ bytes_below before timeline.now.inputs }
-        ensures ok { OnOk result (MachineDoes (keeping T.KEEPS T.OBSERVES) (arrived before timeline.now) (executed NW (ram_size PAGES) (inner_of_parts self.old) instr None)
+        requires fed { IsFed feed self.old.memory.phys }
+        ensures { OnOk result (Acts (keeping T.KEEPS T.OBSERVES) feed.entry (executed NW (ram_size PAGES) (inner_of_parts self.old) instr None)
             self.old self.new (T.noted notes.old) (T.noted notes.new)) }
-        ensures taken { OnOk result (self.new.memory.phys.taken ≤ bytes_below before timeline.now.inputs) }
     {
         let request = asked(&self.processor, instr);
-        let response = self.memory.access(request, before, timeline, notes)?;
+        let response = self.memory.access(request, feed, notes)?;
         show_refusal(response, notes)?;
         answer(&mut self.processor, instr, response);
         Ok(())
@@ -94,15 +90,13 @@ impl<const NW: usize, const PAGES: usize> Parts<NW, PAGES> {
     fn execute<T: Touches>(
         &mut self,
         instr: Instr,
-        before: u32,
-        timeline: &Timeline,
+        feed: Feed<'_>,
         notes: &mut T,
     ) -> Result<(), AllocError>
         requires registers { HasRegisters instr }
-        requires delivered { self.old.memory.phys.taken ≤ bytes_below before timeline.now.inputs }
-        ensures ok { OnOk result (MachineDoes (keeping T.KEEPS T.OBSERVES) (arrived before timeline.now) (executed NW (ram_size PAGES) (inner_of_parts self.old) instr (taken (raised NW self.old.processor instr)))
+        requires fed { IsFed feed self.old.memory.phys }
+        ensures { OnOk result (Acts (keeping T.KEEPS T.OBSERVES) feed.entry (executed NW (ram_size PAGES) (inner_of_parts self.old) instr (taken (raised NW self.old.processor instr)))
             self.old self.new (T.noted notes.old) (T.noted notes.new)) }
-        ensures taken { OnOk result (self.new.memory.phys.taken ≤ bytes_below before timeline.now.inputs) }
     {
         match raised_by(&self.processor, instr) {
             Some(trap) => {
@@ -111,7 +105,7 @@ impl<const NW: usize, const PAGES: usize> Parts<NW, PAGES> {
                 Ok(())
             }
             None => {
-                self.make_access(instr, before, timeline, notes)?;
+                self.make_access(instr, feed, notes)?;
                 Ok(())
             }
         }
@@ -122,16 +116,14 @@ impl<const NW: usize, const PAGES: usize> Parts<NW, PAGES> {
     fn carry_out_word<T: Touches>(
         &mut self,
         word: u32,
-        before: u32,
-        timeline: &Timeline,
+        feed: Feed<'_>,
         notes: &mut T,
     ) -> Result<(), AllocError>
-        requires delivered { self.old.memory.phys.taken ≤ bytes_below before timeline.now.inputs }
-        ensures ok { OnOk result (MachineDoes (keeping T.KEEPS T.OBSERVES) (arrived before timeline.now) (carried_out NW (ram_size PAGES) (inner_of_parts self.old) word)
+        requires fed { IsFed feed self.old.memory.phys }
+        ensures { OnOk result (Acts (keeping T.KEEPS T.OBSERVES) feed.entry (carried_out NW (ram_size PAGES) (inner_of_parts self.old) word)
             self.old self.new (T.noted notes.old) (T.noted notes.new)) }
-        ensures taken { OnOk result (self.new.memory.phys.taken ≤ bytes_below before timeline.now.inputs) }
     {
-        self.execute(decode(word), before, timeline, notes)?;
+        self.execute(decode(word), feed, notes)?;
         Ok(())
     }
 
@@ -140,25 +132,23 @@ impl<const NW: usize, const PAGES: usize> Parts<NW, PAGES> {
     fn carry_out_fetched<T: Touches>(
         &mut self,
         word: u32,
-        before: u32,
-        timeline: &Timeline,
+        feed: Feed<'_>,
         notes: &mut T,
     ) -> Result<(), AllocError>
-        requires delivered { self.old.memory.phys.taken ≤ bytes_below before timeline.now.inputs }
-        ensures ok { OnOk result (MachineDoes (keeping T.KEEPS T.OBSERVES) (arrived before timeline.now) (carried_out NW (ram_size PAGES) (inner_of_parts self.old) word)
+        requires fed { IsFed feed self.old.memory.phys }
+        ensures { OnOk result (Acts (keeping T.KEEPS T.OBSERVES) feed.entry (carried_out NW (ram_size PAGES) (inner_of_parts self.old) word)
             self.old self.new (T.noted notes.old) (T.noted notes.new)) }
-        ensures taken { OnOk result (self.new.memory.phys.taken ≤ bytes_below before timeline.now.inputs) }
     {
         match group(word) {
             Group::Memory => {
-                if !self.carry_out_access(word, before, timeline, notes)? {
-                    self.carry_out_word(word, before, timeline, notes)?;
+                if !self.carry_out_access(word, feed, notes)? {
+                    self.carry_out_word(word, feed, notes)?;
                 }
                 Ok(())
             }
             _ => {
                 if !carry_out_plainly(&mut self.processor, word) {
-                    self.carry_out_word(word, before, timeline, notes)?;
+                    self.carry_out_word(word, feed, notes)?;
                 }
                 Ok(())
             }
@@ -170,14 +160,12 @@ impl<const NW: usize, const PAGES: usize> Parts<NW, PAGES> {
     fn carry_out<T: Touches>(
         &mut self,
         response: Response,
-        before: u32,
-        timeline: &Timeline,
+        feed: Feed<'_>,
         notes: &mut T,
     ) -> Result<(), AllocError>
-        requires delivered { self.old.memory.phys.taken ≤ bytes_below before timeline.now.inputs }
-        ensures ok { OnOk result (MachineDoes (keeping T.KEEPS T.OBSERVES) (arrived before timeline.now) (fetched NW (ram_size PAGES) self.old.processor response (units_of self.old.memory))
+        requires fed { IsFed feed self.old.memory.phys }
+        ensures { OnOk result (Acts (keeping T.KEEPS T.OBSERVES) feed.entry (fetched NW (ram_size PAGES) self.old.processor response (units_of self.old.memory))
             self.old self.new (T.noted notes.old) (T.noted notes.new)) }
-        ensures taken { OnOk result (self.new.memory.phys.taken ≤ bytes_below before timeline.now.inputs) }
     {
         match response {
             Response::Refused(trap) => {
@@ -186,7 +174,7 @@ impl<const NW: usize, const PAGES: usize> Parts<NW, PAGES> {
                 Ok(())
             }
             Response::Value(value) => {
-                self.carry_out_fetched(low_word(value), before, timeline, notes)?;
+                self.carry_out_fetched(low_word(value), feed, notes)?;
                 Ok(())
             }
         }
@@ -197,21 +185,19 @@ impl<const NW: usize, const PAGES: usize> Parts<NW, PAGES> {
     #[inline(never)]
     fn run_any_instruction<T: Touches>(
         &mut self,
-        before: u32,
-        timeline: &Timeline,
+        feed: Feed<'_>,
         notes: &mut T,
     ) -> Result<(), AllocError>
-        requires delivered { self.old.memory.phys.taken ≤ bytes_below before timeline.now.inputs }
-        ensures ok { OnOk result (MachineDoes (keeping T.KEEPS T.OBSERVES) (arrived before timeline.now) (instruction NW (ram_size PAGES) (inner_of_parts self.old))
+        requires fed { IsFed feed self.old.memory.phys }
+        ensures { OnOk result (Acts (keeping T.KEEPS T.OBSERVES) feed.entry (instruction NW (ram_size PAGES) (inner_of_parts self.old))
             self.old self.new (T.noted notes.old) (T.noted notes.new)) }
-        ensures taken { OnOk result (self.new.memory.phys.taken ≤ bytes_below before timeline.now.inputs) }
     {
         let request = AccessRequest::Fetch {
             supervisor: self.processor.registers().psr().s,
             at: self.processor.pc(),
         };
-        let response = self.memory.access(request, before, timeline, notes)?;
-        self.carry_out(response, before, timeline, notes)?;
+        let response = self.memory.access(request, feed, notes)?;
+        self.carry_out(response, feed, notes)?;
         Ok(())
     }
 
@@ -219,24 +205,22 @@ impl<const NW: usize, const PAGES: usize> Parts<NW, PAGES> {
     #[inline(always)]
     fn run_instruction<T: Touches>(
         &mut self,
-        before: u32,
-        timeline: &Timeline,
+        feed: Feed<'_>,
         notes: &mut T,
     ) -> Result<(), AllocError>
-        requires delivered { self.old.memory.phys.taken ≤ bytes_below before timeline.now.inputs }
-        ensures ok { OnOk result (MachineDoes (keeping T.KEEPS T.OBSERVES) (arrived before timeline.now) (instruction NW (ram_size PAGES) (inner_of_parts self.old))
+        requires fed { IsFed feed self.old.memory.phys }
+        ensures { OnOk result (Acts (keeping T.KEEPS T.OBSERVES) feed.entry (instruction NW (ram_size PAGES) (inner_of_parts self.old))
             self.old self.new (T.noted notes.old) (T.noted notes.new)) }
-        ensures taken { OnOk result (self.new.memory.phys.taken ≤ bytes_below before timeline.now.inputs) }
     {
         let supervisor = self.processor.registers().psr().s;
         let at = self.processor.pc();
         match self.memory.fetch_in_place(supervisor, at, notes)? {
             Some(value) => {
-                self.carry_out_fetched(low_word(value), before, timeline, notes)?;
+                self.carry_out_fetched(low_word(value), feed, notes)?;
                 Ok(())
             }
             None => {
-                self.run_any_instruction(before, timeline, notes)?;
+                self.run_any_instruction(feed, notes)?;
                 Ok(())
             }
         }
@@ -245,21 +229,15 @@ impl<const NW: usize, const PAGES: usize> Parts<NW, PAGES> {
     /// Passes over an annulled slot, or carries an instruction out.
     #[inline(always)]
     #[tactic(auto, unfolding(crate::specs::Step::continued))]
-    fn go_on<T: Touches>(
-        &mut self,
-        before: u32,
-        timeline: &Timeline,
-        notes: &mut T,
-    ) -> Result<(), AllocError>
-        requires delivered { self.old.memory.phys.taken ≤ bytes_below before timeline.now.inputs }
-        ensures ok { OnOk result (MachineDoes (keeping T.KEEPS T.OBSERVES) (arrived before timeline.now) (continued NW (ram_size PAGES) (inner_of_parts self.old))
+    fn go_on<T: Touches>(&mut self, feed: Feed<'_>, notes: &mut T) -> Result<(), AllocError>
+        requires fed { IsFed feed self.old.memory.phys }
+        ensures { OnOk result (Acts (keeping T.KEEPS T.OBSERVES) feed.entry (continued NW (ram_size PAGES) (inner_of_parts self.old))
             self.old self.new (T.noted notes.old) (T.noted notes.new)) }
-        ensures taken { OnOk result (self.new.memory.phys.taken ≤ bytes_below before timeline.now.inputs) }
     {
         if self.processor.annul() {
             self.processor.skip_slot();
         } else {
-            self.run_instruction(before, timeline, notes)?;
+            self.run_instruction(feed, notes)?;
         }
         Ok(())
     }
@@ -270,18 +248,16 @@ impl<const NW: usize, const PAGES: usize> Parts<NW, PAGES> {
     fn serve<T: Touches>(
         &mut self,
         levels: u32,
-        before: u32,
-        timeline: &Timeline,
+        feed: Feed<'_>,
         notes: &mut T,
     ) -> Result<(), AllocError>
-        requires delivered { self.old.memory.phys.taken ≤ bytes_below before timeline.now.inputs }
-        ensures ok { OnOk result (MachineDoes (keeping T.KEEPS T.OBSERVES) (arrived before timeline.now) (requested NW (ram_size PAGES) (inner_of_parts self.old) levels)
+        requires fed { IsFed feed self.old.memory.phys }
+        ensures { OnOk result (Acts (keeping T.KEEPS T.OBSERVES) feed.entry (requested NW (ram_size PAGES) (inner_of_parts self.old) levels)
             self.old self.new (T.noted notes.old) (T.noted notes.new)) }
-        ensures taken { OnOk result (self.new.memory.phys.taken ≤ bytes_below before timeline.now.inputs) }
     {
         match highest_level(levels) {
             None => {
-                self.go_on(before, timeline, notes)?;
+                self.go_on(feed, notes)?;
                 Ok(())
             }
             Some(level) => {
@@ -297,62 +273,36 @@ impl<const NW: usize, const PAGES: usize> Parts<NW, PAGES> {
     #[tactic(auto, unfolding(crate::specs::Step::interruptible))]
     fn go_on_or_interrupt<T: Touches>(
         &mut self,
-        before: u32,
-        timeline: &Timeline,
+        feed: Feed<'_>,
         notes: &mut T,
     ) -> Result<(), AllocError>
-        requires delivered { self.old.memory.phys.taken ≤ bytes_below before timeline.now.inputs }
-        ensures ok { OnOk result (MachineDoes (keeping T.KEEPS T.OBSERVES) (arrived before timeline.now) (interruptible NW (ram_size PAGES) (inner_of_parts self.old))
+        requires fed { IsFed feed self.old.memory.phys }
+        ensures { OnOk result (Acts (keeping T.KEEPS T.OBSERVES) feed.entry (interruptible NW (ram_size PAGES) (inner_of_parts self.old))
             self.old self.new (T.noted notes.old) (T.noted notes.new)) }
-        ensures taken { OnOk result (self.new.memory.phys.taken ≤ bytes_below before timeline.now.inputs) }
     {
         if self.processor.registers().psr().et {
             let levels = self.processor.unmasked_levels();
             let pending = self.memory.pending_among(levels, notes)?;
-            self.serve(pending, before, timeline, notes)?;
+            self.serve(pending, feed, notes)?;
         } else {
-            self.go_on(before, timeline, notes)?;
+            self.go_on(feed, notes)?;
         }
-        Ok(())
-    }
-
-    /// The timer's step, and then the rest.
-    #[inline(always)]
-    #[tactic(auto, unfolding(crate::specs::Step::awake))]
-    fn tick_and_go_on<T: Touches>(
-        &mut self,
-        before: u32,
-        timeline: &Timeline,
-        notes: &mut T,
-    ) -> Result<(), AllocError>
-        requires delivered { self.old.memory.phys.taken ≤ bytes_below before timeline.now.inputs }
-        ensures ok { OnOk result (MachineDoes (keeping T.KEEPS T.OBSERVES) (arrived before timeline.now) (awake NW (ram_size PAGES) (inner_of_parts self.old))
-            self.old self.new (T.noted notes.old) (T.noted notes.new)) }
-        ensures taken { OnOk result (self.new.memory.phys.taken ≤ bytes_below before timeline.now.inputs) }
-    {
-        self.memory.tick(notes)?;
-        self.go_on_or_interrupt(before, timeline, notes)?;
         Ok(())
     }
 
     /// What a step does behind its events: in error mode nothing.
     #[inline(always)]
     #[tactic(auto, unfolding(crate::specs::Step::action))]
-    pub fn act<T: Touches>(
-        &mut self,
-        before: u32,
-        timeline: &Timeline,
-        notes: &mut T,
-    ) -> Result<(), AllocError>
-        requires delivered { self.old.memory.phys.taken ≤ bytes_below before timeline.now.inputs }
-        ensures ok { OnOk result (MachineDoes (keeping T.KEEPS T.OBSERVES) (arrived before timeline.now) (action NW (ram_size PAGES) (inner_of_parts self.old))
+    pub fn act<T: Touches>(&mut self, feed: Feed<'_>, notes: &mut T) -> Result<(), AllocError>
+        requires fed { IsFed feed self.old.memory.phys }
+        ensures { OnOk result (Acts (keeping T.KEEPS T.OBSERVES) feed.entry (action NW (ram_size PAGES) (inner_of_parts self.old))
             self.old self.new (T.noted notes.old) (T.noted notes.new)) }
-        ensures taken { OnOk result (self.new.memory.phys.taken ≤ bytes_below before timeline.now.inputs) }
     {
         if !self.processor.is_running() {
             return Ok(());
         }
-        self.tick_and_go_on(before, timeline, notes)?;
+        self.memory.tick(notes)?;
+        self.go_on_or_interrupt(feed, notes)?;
         Ok(())
     }
 }

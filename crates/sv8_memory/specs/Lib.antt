@@ -3,5 +3,6 @@ pub mod Access
 pub mod Events
 pub mod DeviceLaws
 pub mod WordPokes
+pub mod Feeding
 pub mod View
 pub mod Locating

@@ -7,13 +7,14 @@ ghost use Rattle.sv8_model.specs.Outside.{Outside};
 ghost use Rattle.sv8_model.specs.Does.{DoesUnnoted};
 ghost use Rattle.sv8_phys.specs.declared.timer.Timer.{Timer};
 ghost use Rattle.sv8_phys.specs.Memory.{bytes_in, ram_size};
-ghost use Rattle.sv8_time.specs.Schedule.{bytes_below};
-ghost use Rattle.sv8_phys.specs.Contents.{arrived, outside_of};
+ghost use Rattle.sv8_phys.specs.Contents.{outside_of};
 ghost use Rattle.sv8_iu.specs.Requests.{space_of};
 ghost use Rattle.sv8_memory.specs.Units.{served};
+ghost use Rattle.sv8_memory.specs.Feeding.{bytes_fed, IsFed};
 ghost use Rattle.sv8_memory.specs.Access.{access};
 ghost use Rattle.sv8_memory.specs.View.{Serves, timed_units, IsTaken};
 
+use crate::feed::Feed;
 use crate::locating::reach_of;
 use crate::physical::{Physical, counts_bytes, load_type, store_type};
 use crate::spaces::instruction_space;
@@ -21,7 +22,6 @@ use std::alloc::AllocError;
 use sv8_iu::{AccessRequest, Space};
 use sv8_mmu::{Buffer, Reach, VirtualAccess, address_in_ram, is_device};
 use sv8_phys::{NoTouches, Size};
-use sv8_time::Timeline;
 
 /// The word that a fetch gives.
 #[inline(always)]
@@ -85,20 +85,19 @@ pub fn waiting_at_once<const PAGES: usize>(
     physical: &Physical<PAGES>,
     size: Size,
     at: u32,
-    before: u32,
-    timeline: &Timeline,
+    feed: Feed<'_>,
 ) -> Result<Option<u64>, AllocError>
-    requires delivered { physical.now.phys.taken ≤ bytes_below before timeline.now.inputs }
+    requires fed { IsFed feed physical.now.phys }
     ensures { IfOk result (λ found. IfSome found (λ count. (asi : ℕ) (timer : Timer) → space_of asi ≡ Space.Virtual
         → DoesUnnoted (access (ram_size PAGES) (timed_units physical.now timer) (AccessRequest.Load size asi at))
-        (outside_of physical.now.phys (arrived before timeline.now)) (outside_of physical.now.phys (arrived before timeline.now)) (served (timed_units physical.now timer) count))) }
+        (outside_of physical.now.phys (bytes_fed feed.entry)) (outside_of physical.now.phys (bytes_fed feed.entry)) (served (timed_units physical.now timer) count))) }
 {
     if physical.mmu.translates() || !counts_bytes(size, u64::from(at)) {
         return Ok(None);
     }
     let count = physical
         .phys
-        .waiting_noted(before, timeline, &mut NoTouches)?;
+        .waiting_noted(feed.before, feed.timeline, &mut NoTouches)?;
     Ok(Some(u64::from(count)))
 }
 

@@ -1,9 +1,7 @@
 //! The events of a step: poked bytes and interrupt requests.
 
 ghost use Rattle.std.specs.Prelude.{◌≡◌, ℕ, ◌+◌, ◌*◌, ◌%◌, ◌<◌, ◌≤◌, ◌∷◌, [], OnOk, length};
-ghost use Rattle.sv8_time.specs.Schedule.{bytes_below};
 ghost use Rattle.sv8_phys.specs.Memory.{ram_size};
-ghost use Rattle.sv8_phys.specs.Contents.{arrived};
 ghost use Rattle.sv8_mmu.specs.Kept.{AllStand};
 ghost use Rattle.sv8_memory.specs.Events.{marked, with_events};
 ghost use Rattle.sv8_memory.specs.WordPokes.{byte_poked, word_poked, words_poked, AreInside};
@@ -134,14 +132,4 @@ pub fn happen<const PAGES: usize>(
     }
     happen_at(phys, buffer, n, timeline)?;
     Ok(())
-}
-
-/// The step up to which input bytes have arrived when step n does what it does.
-#[inline(always)]
-pub fn end_of(n: u32, timeline: &Timeline) -> u32
-    ensures arrived { arrived result timeline.now ≡ arrived (n + 1) timeline.now }
-    ensures below { bytes_below result timeline.now.inputs ≡ bytes_below (n + 1) timeline.now.inputs }
-{
-    timeline.bounds();
-    if n < u32::MAX { n + 1 } else { n }
 }

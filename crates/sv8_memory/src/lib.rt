@@ -4,6 +4,7 @@
 
 mod at_once;
 mod events;
+mod feed;
 pub mod laws;
 mod locating;
 mod memory;
@@ -11,5 +12,5 @@ mod physical;
 mod spaces;
 mod stores;
 
-pub use events::end_of;
+pub use feed::Feed;
 pub use memory::Memory;

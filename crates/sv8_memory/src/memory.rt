@@ -5,19 +5,20 @@ ghost use Rattle.sv8_model.specs.Action as model;
 ghost use Rattle.sv8_model.specs.Action.{result_of};
 ghost use Rattle.sv8_model.specs.Does.{Does, DoesUnnoted, keeping};
 ghost use Rattle.sv8_phys.specs.declared.timer.Timer.{Timer};
-ghost use Rattle.sv8_time.specs.Schedule.{bytes_below};
 ghost use Rattle.sv8_phys.specs.Memory.{bytes_in, ram_size, with_page};
-ghost use Rattle.sv8_phys.specs.Contents.{arrived, outside_of};
+ghost use Rattle.sv8_phys.specs.Contents.{outside_of};
 ghost use Rattle.sv8_phys.specs.Devices.{tick};
 ghost use Rattle.sv8_mmu.specs.Registers.{registers_at_reset, translates};
 ghost use Rattle.sv8_memory.specs.Events.{with_events};
 ghost use Rattle.sv8_iu.specs.Requests.{space_of, IsAligned};
+ghost use Rattle.sv8_memory.specs.Feeding.{bytes_fed, IsFed};
 ghost use Rattle.sv8_memory.specs.Access.{access};
 ghost use Rattle.sv8_memory.specs.Units.{served};
 ghost use Rattle.sv8_memory.specs.View.{IsTaken, MemoryDoes, timed_units, units_of};
 
 use crate::at_once::{fetched_at_once, is_stored_at_once, loaded_at_once, waiting_at_once};
 use crate::events::happen;
+use crate::feed::Feed;
 use crate::physical::Physical;
 use crate::spaces::{access, load_translated, load_untranslated};
 use crate::stores::{store_translated, store_untranslated};
@@ -120,7 +121,7 @@ impl<const PAGES: usize> Memory<PAGES> {
         Ok(pending)
     }
 
-    /// Makes an access. The bytes that came in at the console at the steps below `before` have arrived.
+    /// Makes an access. The bytes of `feed` have come in at the console.
     ///
     /// # Errors
     ///
@@ -129,24 +130,16 @@ impl<const PAGES: usize> Memory<PAGES> {
     pub fn access<T: Touches>(
         &mut self,
         request: AccessRequest,
-        before: u32,
-        timeline: &Timeline,
+        feed: Feed<'_>,
         notes: &mut T,
     ) -> Result<Response, AllocError>
         requires aligned { IsAligned request }
-        requires delivered { self.old.phys.taken ≤ bytes_below before timeline.now.inputs }
-        ensures ok { IfOk result (λ r. MemoryDoes (keeping T.KEEPS T.OBSERVES) (arrived before timeline.now) (access (ram_size PAGES) (units_of self.old) request)
+        requires fed { IsFed feed self.old.phys }
+        ensures ok { IfOk result (λ r. MemoryDoes (keeping T.KEEPS T.OBSERVES) (bytes_fed feed.entry) (access (ram_size PAGES) (units_of self.old) request)
             self.old self.new r (T.noted notes.old) (T.noted notes.new)) }
-        ensures taken { OnOk result (self.new.phys.taken ≤ bytes_below before timeline.now.inputs) }
+        ensures fed { OnOk result (IsFed feed.entry self.new.phys) }
     {
-        let response = access(
-            &mut self.physical,
-            &mut self.buffer,
-            request,
-            before,
-            timeline,
-            notes,
-        )?;
+        let response = access(&mut self.physical, &mut self.buffer, request, feed, notes)?;
         Ok(response)
     }
 
@@ -205,7 +198,7 @@ impl<const PAGES: usize> Memory<PAGES> {
         Ok(found)
     }
 
-    /// What a load of user or supervisor data gives once the bytes of the steps below `before` have come in, where it is known at
+    /// What a load of user or supervisor data gives once the bytes of `feed` have come in, where it is known at
     /// once: it is one of RAM, as `loaded_at_once` has it, or counts the bytes that wait at the console, at an address that is not
     /// translated.
     ///
@@ -218,19 +211,18 @@ impl<const PAGES: usize> Memory<PAGES> {
         size: Size,
         asi: u8,
         at: u32,
-        before: u32,
-        timeline: &Timeline,
+        feed: Feed<'_>,
     ) -> Result<Option<u64>, AllocError>
         requires space { space_of asi ≡ Space.Virtual }
         requires aligned { at % bytes_in size ≡ 0 }
-        requires delivered { self.now.phys.taken ≤ bytes_below before timeline.now.inputs }
+        requires fed { IsFed feed self.now.phys }
         ensures { IfOk result (λ found. IfSome found (λ value. (timer : Timer) → DoesUnnoted (access (ram_size PAGES) (timed_units self.now timer) (AccessRequest.Load size asi at))
-            (outside_of self.now.phys (arrived before timeline.now)) (outside_of self.now.phys (arrived before timeline.now)) (served (timed_units self.now timer) value))) }
+            (outside_of self.now.phys (bytes_fed feed.entry)) (outside_of self.now.phys (bytes_fed feed.entry)) (served (timed_units self.now timer) value))) }
     {
         match self.loaded_at_once(size, asi, at)? {
             Some(value) => Ok(Some(value)),
             None => {
-                let found = waiting_at_once(&self.physical, size, at, before, timeline)?;
+                let found = waiting_at_once(&self.physical, size, at, feed)?;
                 Ok(found)
             }
         }
@@ -268,27 +260,24 @@ impl<const PAGES: usize> Memory<PAGES> {
         size: Size,
         asi: u8,
         at: u32,
-        before: u32,
-        timeline: &Timeline,
+        feed: Feed<'_>,
         notes: &mut T,
     ) -> Result<Response, AllocError>
         requires translated { translates self.old.mmu ≡ TRANSLATED }
         requires space { space_of asi ≡ Space.Virtual }
         requires aligned { at % bytes_in size ≡ 0 }
-        requires delivered { self.old.phys.taken ≤ bytes_below before timeline.now.inputs }
-        ensures ok { IfOk result (λ r. MemoryDoes (keeping T.KEEPS T.OBSERVES) (arrived before timeline.now) (access (ram_size PAGES) (units_of self.old) (AccessRequest.Load size asi at))
+        requires fed { IsFed feed self.old.phys }
+        ensures ok { IfOk result (λ r. MemoryDoes (keeping T.KEEPS T.OBSERVES) (bytes_fed feed.entry) (access (ram_size PAGES) (units_of self.old) (AccessRequest.Load size asi at))
             self.old self.new r (T.noted notes.old) (T.noted notes.new)) }
-        ensures taken { OnOk result (self.new.phys.taken ≤ bytes_below before timeline.now.inputs) }
+        ensures fed { OnOk result (IsFed feed.entry self.new.phys) }
     {
         let physical = &mut self.physical;
         let buffer = &mut self.buffer;
         if TRANSLATED {
-            let response = load_translated(
-                physical, buffer, size, asi, at, before, timeline, notes,
-            )?;
+            let response = load_translated(physical, buffer, size, asi, at, feed, notes)?;
             return Ok(response);
         }
-        let response = load_untranslated(physical, buffer, size, asi, at, before, timeline, notes)?;
+        let response = load_untranslated(physical, buffer, size, asi, at, feed, notes)?;
         Ok(response)
     }
 

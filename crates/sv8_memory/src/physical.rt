@@ -2,21 +2,20 @@
 
 ghost use Rattle.std.specs.Prelude.{◌≡◌, ℕ, ◌+◌, ◌*◌, ◌%◌, ◌/◌, ◌≤◌, ◌<◌, ◌∷◌, [], ◌||◌, List, true, not, nat_lt, None, IfOk, OnOk, OnErr, MatchOption};
 ghost use Rattle.sv8_model.specs.Does.{keeping, noting};
-ghost use Rattle.sv8_time.specs.Schedule.{bytes_below};
 ghost use Rattle.sv8_phys.specs.declared.timer.Timer.{Timer};
 ghost use Rattle.sv8_phys.specs.Memory.{bytes_in, ram_size};
-ghost use Rattle.sv8_phys.specs.Contents.{arrived};
 ghost use Rattle.sv8_mmu.specs.Kept.{DiffersInPage};
 ghost use Rattle.sv8_mmu.specs.Registers.{translates};
 ghost use Rattle.sv8_memory.specs.Units.{served, failed, is_hidden};
+ghost use Rattle.sv8_memory.specs.Feeding.{bytes_fed, IsFed};
 ghost use Rattle.sv8_memory.specs.Access.{access, access_seen, seen_if, load_type, store_type, bus_fault, fetched_from, load_answer, is_word, takes_byte, counts_bytes, plainly_loaded, loaded_from, answer_to_store, stored_at, exchanged_at};
 ghost use Rattle.sv8_memory.specs.View.{MemoryDoes, units_of};
 
+use crate::feed::Feed;
 use std::alloc::AllocError;
 use sv8_iu::{AccessRequest, Response, low_word};
 use sv8_mmu::{AccessType, Fault, FaultType, Mmu, TableLevel};
 use sv8_phys::{AccessKind, BusError, INPUT, Observation, Phys, Size, Touches, WAITING};
-use sv8_time::Timeline;
 use sv8_trap::Trap;
 
 /// Physical memory of `PAGES` pages of RAM with the devices, and the memory management unit's registers.
@@ -285,24 +284,25 @@ impl<const PAGES: usize> Physical<PAGES> {
         asi: u8,
         va: u32,
         pa: u64,
-        before: u32,
-        timeline: &Timeline,
+        feed: Feed<'_>,
         notes: &mut T,
     ) -> Result<Response, AllocError>
         requires aligned { pa % bytes_in size ≡ 0 }
-        requires delivered { self.old.phys.taken ≤ bytes_below before timeline.now.inputs }
-        ensures ok { IfOk result (λ r. MemoryDoes (keeping T.KEEPS T.OBSERVES) (arrived before timeline.now) (loaded_from (ram_size PAGES) (units_of self.old) size asi va pa)
+        requires fed { IsFed feed self.old.phys }
+        ensures ok { IfOk result (λ r. MemoryDoes (keeping T.KEEPS T.OBSERVES) (bytes_fed feed.entry) (loaded_from (ram_size PAGES) (units_of self.old) size asi va pa)
             self.old self.new r (T.noted notes.old) (T.noted notes.new)) }
         ensures kept { self.new.phys.ram ≡ self.old.phys.ram }
         ensures pointer { self.new.mmu.table_pointer ≡ self.old.mmu.table_pointer }
-        ensures taken { OnOk result (self.new.phys.taken ≤ bytes_below before timeline.now.inputs) }
+        ensures fed { OnOk result (IsFed feed.entry self.new.phys) }
     {
         if takes_byte(size, pa) {
-            let byte = self.phys.take_input_noted(before, timeline, notes)?;
+            let byte = self
+                .phys
+                .take_input_noted(feed.before, feed.timeline, notes)?;
             notes.observe(seen(AccessKind::Load, size, va, pa))?;
             Ok(Response::Value(byte as u64))
         } else if counts_bytes(size, pa) {
-            let count = self.phys.waiting_noted(before, timeline, notes)?;
+            let count = self.phys.waiting_noted(feed.before, feed.timeline, notes)?;
             notes.observe(seen(AccessKind::Load, size, va, pa))?;
             Ok(Response::Value(count as u64))
         } else {
@@ -319,23 +319,22 @@ impl<const PAGES: usize> Physical<PAGES> {
         asi: u8,
         va: u32,
         pa: u64,
-        before: u32,
-        timeline: &Timeline,
+        feed: Feed<'_>,
         notes: &mut T,
     ) -> Result<Response, AllocError>
         requires aligned { pa % bytes_in size ≡ 0 }
-        requires delivered { self.old.phys.taken ≤ bytes_below before timeline.now.inputs }
-        ensures ok { IfOk result (λ r. MemoryDoes (keeping T.KEEPS T.OBSERVES) (arrived before timeline.now) (loaded_from (ram_size PAGES) (units_of self.old) size asi va pa)
+        requires fed { IsFed feed self.old.phys }
+        ensures ok { IfOk result (λ r. MemoryDoes (keeping T.KEEPS T.OBSERVES) (bytes_fed feed.entry) (loaded_from (ram_size PAGES) (units_of self.old) size asi va pa)
             self.old self.new r (T.noted notes.old) (T.noted notes.new)) }
         ensures kept { self.new.phys.ram ≡ self.old.phys.ram }
         ensures pointer { self.new.mmu.table_pointer ≡ self.old.mmu.table_pointer }
-        ensures taken { OnOk result (self.new.phys.taken ≤ bytes_below before timeline.now.inputs) }
+        ensures fed { OnOk result (IsFed feed.entry self.new.phys) }
     {
         if pa < self.phys.ram_size() {
             let response = self.load_ram(size, va, pa, notes)?;
             return Ok(response);
         }
-        let response = self.load_device(size, asi, va, pa, before, timeline, notes)?;
+        let response = self.load_device(size, asi, va, pa, feed, notes)?;
         Ok(response)
     }
 

@@ -2,16 +2,16 @@
 
 ghost use Rattle.std.specs.Prelude.{◌≡◌, ℕ, ◌%◌, ◌/◌, ◌≤◌, ◌<◌, List, false, IfOk, OnOk};
 ghost use Rattle.sv8_model.specs.Does.{keeping};
-ghost use Rattle.sv8_time.specs.Schedule.{bytes_below};
 ghost use Rattle.sv8_phys.specs.declared.size.Size.{Size};
 ghost use Rattle.sv8_mmu.specs.Registers.{translates};
 ghost use Rattle.sv8_phys.specs.Memory.{bytes_in, ram_size};
-ghost use Rattle.sv8_phys.specs.Contents.{arrived};
 ghost use Rattle.sv8_memory.specs.Units.{served};
 ghost use Rattle.sv8_iu.specs.Requests.{space_of, IsAligned};
+ghost use Rattle.sv8_memory.specs.Feeding.{bytes_fed, IsFed};
 ghost use Rattle.sv8_memory.specs.Access.{load_type, physical_place, fetched_in, loaded_in, reach_of, instruction_space, is_word, register_loaded, probed, access};
 ghost use Rattle.sv8_memory.specs.View.{MemoryDoes, units_of, Serves};
 
+use crate::feed::Feed;
 use crate::locating::{Place, locate, physical_place, reach_of};
 use crate::physical::{Physical, is_word, load_type};
 use crate::stores::{exchange, store};
@@ -19,7 +19,6 @@ use std::alloc::AllocError;
 use sv8_iu::{AccessRequest, Response, Space, space_of};
 use sv8_mmu::{Buffer, Reach, VirtualAccess, probe_by_address};
 use sv8_phys::{Size, Touches};
-use sv8_time::Timeline;
 use sv8_trap::Trap;
 
 /// The address space that instructions are fetched from.
@@ -75,16 +74,15 @@ fn load_virtual<const PAGES: usize, T: Touches>(
     size: Size,
     asi: u8,
     at: u32,
-    before: u32,
-    timeline: &Timeline,
+    feed: Feed<'_>,
     notes: &mut T,
 ) -> Result<Response, AllocError>
     requires aligned { at % bytes_in size ≡ 0 }
-    requires delivered { physical.old.phys.taken ≤ bytes_below before timeline.now.inputs }
+    requires fed { IsFed feed physical.old.phys }
     requires serves { Serves physical.old buffer.old }
-    ensures ok { IfOk result (λ r. MemoryDoes (keeping T.KEEPS T.OBSERVES) (arrived before timeline.now) (loaded_in (ram_size PAGES) (units_of physical.old) size asi at Space.Virtual)
+    ensures ok { IfOk result (λ r. MemoryDoes (keeping T.KEEPS T.OBSERVES) (bytes_fed feed.entry) (loaded_in (ram_size PAGES) (units_of physical.old) size asi at Space.Virtual)
         physical.old physical.new r (T.noted notes.old) (T.noted notes.new)) }
-    ensures taken { OnOk result (physical.new.phys.taken ≤ bytes_below before timeline.now.inputs) }
+    ensures fed { OnOk result (IsFed feed.entry physical.new.phys) }
     ensures serves { Serves physical.new buffer.new }
 {
     let access = VirtualAccess {
@@ -102,7 +100,7 @@ fn load_virtual<const PAGES: usize, T: Touches>(
     )? {
         Place::Failed(response) => Ok(response),
         Place::At(pa) => {
-            let response = physical.load(size, asi, at, pa, before, timeline, notes)?;
+            let response = physical.load(size, asi, at, pa, feed, notes)?;
             Ok(response)
         }
     }
@@ -147,26 +145,25 @@ fn load<const PAGES: usize, T: Touches>(
     size: Size,
     asi: u8,
     at: u32,
-    before: u32,
-    timeline: &Timeline,
+    feed: Feed<'_>,
     notes: &mut T,
 ) -> Result<Response, AllocError>
     requires aligned { at % bytes_in size ≡ 0 }
-    requires delivered { physical.old.phys.taken ≤ bytes_below before timeline.now.inputs }
+    requires fed { IsFed feed physical.old.phys }
     requires serves { Serves physical.old buffer.old }
-    ensures ok { IfOk result (λ r. MemoryDoes (keeping T.KEEPS T.OBSERVES) (arrived before timeline.now) (loaded_in (ram_size PAGES) (units_of physical.old) size asi at (space_of asi))
+    ensures ok { IfOk result (λ r. MemoryDoes (keeping T.KEEPS T.OBSERVES) (bytes_fed feed.entry) (loaded_in (ram_size PAGES) (units_of physical.old) size asi at (space_of asi))
         physical.old physical.new r (T.noted notes.old) (T.noted notes.new)) }
-    ensures taken { OnOk result (physical.new.phys.taken ≤ bytes_below before timeline.now.inputs) }
+    ensures fed { OnOk result (IsFed feed.entry physical.new.phys) }
     ensures serves { Serves physical.new buffer.new }
 {
     match space_of(asi) {
         Space::Virtual => {
-            let response = load_virtual(physical, buffer, size, asi, at, before, timeline, notes)?;
+            let response = load_virtual(physical, buffer, size, asi, at, feed, notes)?;
             Ok(response)
         }
         Space::Physical(high) => {
             let place = physical_place(high, at);
-            let response = physical.load(size, asi, at, place, before, timeline, notes)?;
+            let response = physical.load(size, asi, at, place, feed, notes)?;
             Ok(response)
         }
         Space::Probing => {
@@ -192,21 +189,20 @@ pub fn load_untranslated<const PAGES: usize, T: Touches>(
     size: Size,
     asi: u8,
     at: u32,
-    before: u32,
-    timeline: &Timeline,
+    feed: Feed<'_>,
     notes: &mut T,
 ) -> Result<Response, AllocError>
     requires untranslated { translates physical.old.mmu ≡ false }
     requires space { space_of asi ≡ Space.Virtual }
     requires aligned { at % bytes_in size ≡ 0 }
-    requires delivered { physical.old.phys.taken ≤ bytes_below before timeline.now.inputs }
+    requires fed { IsFed feed physical.old.phys }
     requires serves { Serves physical.old buffer.now }
-    ensures ok { IfOk result (λ r. MemoryDoes (keeping T.KEEPS T.OBSERVES) (arrived before timeline.now) (access (ram_size PAGES) (units_of physical.old) (AccessRequest.Load size asi at))
+    ensures ok { IfOk result (λ r. MemoryDoes (keeping T.KEEPS T.OBSERVES) (bytes_fed feed.entry) (access (ram_size PAGES) (units_of physical.old) (AccessRequest.Load size asi at))
         physical.old physical.new r (T.noted notes.old) (T.noted notes.new)) }
-    ensures taken { OnOk result (physical.new.phys.taken ≤ bytes_below before timeline.now.inputs) }
+    ensures fed { OnOk result (IsFed feed.entry physical.new.phys) }
     ensures serves { Serves physical.new buffer.now }
 {
-    let response = physical.load(size, asi, at, at as u64, before, timeline, notes)?;
+    let response = physical.load(size, asi, at, at as u64, feed, notes)?;
     Ok(response)
 }
 
@@ -218,39 +214,37 @@ pub fn load_translated<const PAGES: usize, T: Touches>(
     size: Size,
     asi: u8,
     at: u32,
-    before: u32,
-    timeline: &Timeline,
+    feed: Feed<'_>,
     notes: &mut T,
 ) -> Result<Response, AllocError>
     requires aligned { at % bytes_in size ≡ 0 }
-    requires delivered { physical.old.phys.taken ≤ bytes_below before timeline.now.inputs }
+    requires fed { IsFed feed physical.old.phys }
     requires serves { Serves physical.old buffer.old }
-    ensures ok { IfOk result (λ r. MemoryDoes (keeping T.KEEPS T.OBSERVES) (arrived before timeline.now) (loaded_in (ram_size PAGES) (units_of physical.old) size asi at Space.Virtual)
+    ensures ok { IfOk result (λ r. MemoryDoes (keeping T.KEEPS T.OBSERVES) (bytes_fed feed.entry) (loaded_in (ram_size PAGES) (units_of physical.old) size asi at Space.Virtual)
         physical.old physical.new r (T.noted notes.old) (T.noted notes.new)) }
-    ensures taken { OnOk result (physical.new.phys.taken ≤ bytes_below before timeline.now.inputs) }
+    ensures fed { OnOk result (IsFed feed.entry physical.new.phys) }
     ensures serves { Serves physical.new buffer.new }
 {
-    let response = load_virtual(physical, buffer, size, asi, at, before, timeline, notes)?;
+    let response = load_virtual(physical, buffer, size, asi, at, feed, notes)?;
     Ok(response)
 }
 
-/// Makes an access. The bytes that came in at the console at the steps below `before` have arrived.
+/// Makes an access. The bytes of `feed` have come in at the console.
 #[inline(always)]
 #[tactic(auto, unfolding(crate::specs::Access::access))]
 pub fn access<const PAGES: usize, T: Touches>(
     physical: &mut Physical<PAGES>,
     buffer: &mut Buffer,
     request: AccessRequest,
-    before: u32,
-    timeline: &Timeline,
+    feed: Feed<'_>,
     notes: &mut T,
 ) -> Result<Response, AllocError>
     requires aligned { IsAligned request }
-    requires delivered { physical.old.phys.taken ≤ bytes_below before timeline.now.inputs }
+    requires fed { IsFed feed physical.old.phys }
     requires serves { Serves physical.old buffer.old }
-    ensures ok { IfOk result (λ r. MemoryDoes (keeping T.KEEPS T.OBSERVES) (arrived before timeline.now) (access (ram_size PAGES) (units_of physical.old) request)
+    ensures ok { IfOk result (λ r. MemoryDoes (keeping T.KEEPS T.OBSERVES) (bytes_fed feed.entry) (access (ram_size PAGES) (units_of physical.old) request)
         physical.old physical.new r (T.noted notes.old) (T.noted notes.new)) }
-    ensures taken { OnOk result (physical.new.phys.taken ≤ bytes_below before timeline.now.inputs) }
+    ensures fed { OnOk result (IsFed feed.entry physical.new.phys) }
     ensures serves { Serves physical.new buffer.new }
 {
     match request {
@@ -260,7 +254,7 @@ pub fn access<const PAGES: usize, T: Touches>(
             Ok(response)
         }
         AccessRequest::Load { size, asi, at } => {
-            let response = load(physical, buffer, size, asi, at, before, timeline, notes)?;
+            let response = load(physical, buffer, size, asi, at, feed, notes)?;
             Ok(response)
         }
         AccessRequest::Store {

@@ -2,19 +2,18 @@
 
 ghost use Rattle.std.specs.Prelude.{◌≡◌, ℕ, ◌%◌, ◌≤◌, List, MatchBool, IfOk, IfSome, OnOk};
 ghost use Rattle.sv8_model.specs.Does.{DoesUnnoted};
-ghost use Rattle.sv8_time.specs.Schedule.{bytes_below};
 ghost use Rattle.sv8_phys.specs.Memory.{bytes_in, ram_size};
-ghost use Rattle.sv8_phys.specs.Contents.{arrived, outside_of};
+ghost use Rattle.sv8_phys.specs.Contents.{outside_of};
 ghost use Rattle.sv8_iu.specs.Requests.{space_of};
+ghost use Rattle.sv8_memory.specs.Feeding.{bytes_fed, IsFed};
 ghost use Rattle.sv8_memory.specs.Access.{access};
 ghost use Rattle.sv8_memory.specs.View.{units_of};
 ghost use Rattle.sv8_cpu.specs.Lockstep.{counted_down, CountsDown, IsLoaded, IsStored};
 
 use std::alloc::AllocError;
 use sv8_iu::{AccessRequest, Response, Space};
-use sv8_memory::Memory;
+use sv8_memory::{Feed, Memory};
 use sv8_phys::{NoTouches, Size};
-use sv8_time::Timeline;
 
 /// A step of a timer that does not expire.
 #[inline(always)]
@@ -42,7 +41,7 @@ pub fn count_down_both<const PAGES: usize>(
     Ok(())
 }
 
-/// The value that both memories give a load once the bytes of the steps below `before` have come in, where both are known at once,
+/// The value that both memories give a load once the bytes of their feeds have come in, where both are known at once,
 /// and are the same.
 #[inline(always)]
 pub fn load_from_both<const PAGES: usize>(
@@ -51,21 +50,20 @@ pub fn load_from_both<const PAGES: usize>(
     size: Size,
     asi: u8,
     at: u32,
-    before: u32,
-    timeline: &Timeline,
-    other_timeline: &Timeline,
+    feed: Feed<'_>,
+    other_feed: Feed<'_>,
 ) -> Result<Option<u64>, AllocError>
     requires space { space_of asi ≡ Space.Virtual }
     requires aligned { at % bytes_in size ≡ 0 }
-    requires delivered { memory.now.phys.taken ≤ bytes_below before timeline.now.inputs }
-    requires other_delivered { other.now.phys.taken ≤ bytes_below before other_timeline.now.inputs }
-    ensures own { IfOk result (λ found. IfSome found (IsLoaded size asi at (arrived before timeline.now) memory.now)) }
-    ensures others { IfOk result (λ found. IfSome found (IsLoaded size asi at (arrived before other_timeline.now) other.now)) }
+    requires fed { IsFed feed memory.now.phys }
+    requires others_fed { IsFed other_feed other.now.phys }
+    ensures own { IfOk result (λ found. IfSome found (IsLoaded size asi at (bytes_fed feed.entry) memory.now)) }
+    ensures others { IfOk result (λ found. IfSome found (IsLoaded size asi at (bytes_fed other_feed.entry) other.now)) }
 {
-    let Some(value) = memory.loaded_in_step(size, asi, at, before, timeline)? else {
+    let Some(value) = memory.loaded_in_step(size, asi, at, feed)? else {
         return Ok(None);
     };
-    let Some(other_value) = other.loaded_in_step(size, asi, at, before, other_timeline)? else {
+    let Some(other_value) = other.loaded_in_step(size, asi, at, other_feed)? else {
         return Ok(None);
     };
     if value == other_value {
