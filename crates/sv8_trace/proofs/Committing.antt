@@ -1,6 +1,5 @@
 -- What was prepared is put in its place.
-use Rattle.std.proofs.Common.{◌≡◌, ◌≢◌, ℕ, suc, ◌+◌, ◌*◌, ◌/◌, ◌%◌, ◌<◌, ◌≤◌, List, [], ◌∷◌, ◌++◌, length, take, get_or, set, Bool, true, cond, ltb, Option, Some, None, MatchOption, sym, ◌∙◌, ap, arith, inl, inr, ◌⊎◌, lt-ltb, le-ltb, length-take-le, get_or-set_same, get_or-set_other, mul_comm, div-lt_iff_lt-mul}
-use Rattle.std.specs.Bool.{⊤}
+use Rattle.std.proofs.Common.{◌≡◌, ◌≢◌, ℕ, ◌+◌, ◌*◌, ◌/◌, ◌%◌, ◌<◌, ◌≤◌, List, [], ◌∷◌, ◌++◌, length, take, get_or, set, true, cond, ltb, None, sym, ◌∙◌, ap, arith, inl, inr, ◌⊎◌, lt-ltb, le-ltb, length-take-le, get_or-set_same, get_or-set_other, mul_comm, div-lt_iff_lt-mul}
 use Rattle.std.proofs.lemmas.Bool.{cases_order, cases_lt}
 use Rattle.std.proofs.lemmas.List.{get_or_append_left, get_or_default, get_or-take, get_or_past}
 use Rattle.std.proofs.Math.Seq.{get_or-append_seam}
@@ -14,9 +13,8 @@ use Rattle.sv8_cpu.specs.Recorded.{machine}
 use Rattle.sv8_trace.specs.declared.interval.Interval.{Interval}
 use Rattle.sv8_trace.specs.declared.prepared.Staged.{Staged}
 use Rattle.sv8_trace.specs.Recording.{Recording, blank, no_interval, trace_of}
-use Rattle.sv8_trace.specs.Prepared.{placed, list_at, prepared_trace, IsPageColumn, IsPreparedFor, IsPlaced}
-use Rattle.sv8_trace.specs.Placing.{placed_pages_in, placed_levels_in, with_kept}
-use Rattle.sv8_trace.specs.Overlaid.{AreFull}
+use Rattle.sv8_trace.specs.Prepared.{placed, list_at, prepared_trace, IsPreparedFor, IsPlaced}
+use Rattle.sv8_trace.specs.Placing.{with_kept}
 
 -- one item more has got what stands for it
 pub more_put : (X O : Type 0) (put : O → X → X) (dx : X) (none : O) (i : ℕ) (yielded : List O) (o : O) (first now : List X) (m m' : X) → i ≡ length yielded → i < length now → m ≡ get_or now i m → m' ≡ put o m
@@ -43,21 +41,6 @@ more_put X O put dx none i yielded o first now m m' count h is made done j = go 
         let n : j ≢ i = omega arith in
         get_or-set_other now i j m' dx n ∙ done j ∙ rw (le-ltb j i (omega arith), le-ltb j (i + 1) (omega arith))
 
--- columns of whole pages, and of levels, for the checkpoints that stay
-pub full_pages : (pages : ℕ) (r : Recording) (s : Staged) → IsPreparedFor pages r s → (n : ℕ) → n ≡ s.count + 1 → (p : ℕ) → MatchOption (get_or s.pages.items p None) ⊤ (AreFull n)
-full_pages pages r s fits n e p = go (get_or s.pages.items p None) (fits.whole_pages p)
-  where
-    go : (o : Option (List (List ℕ))) → MatchOption o ⊤ (IsPageColumn s.count) → MatchOption o ⊤ (AreFull n)
-    go None w = w
-    go (Some c) w = (omega (arith, e, w.0), λ i h. w.1 i (omega (arith, w.0, h)))
-
-pub full_levels : (pages : ℕ) (r : Recording) (s : Staged) → IsPreparedFor pages r s → (n : ℕ) → n ≡ s.count + 1 → (l : ℕ) → MatchOption (get_or s.levels.items l None) ⊤ (λ c. length c ≡ n)
-full_levels pages r s fits n e l = go (get_or s.levels.items l None) (fits.whole_levels l)
-  where
-    go : (o : Option (List Bool)) → MatchOption o ⊤ (λ c. length c ≡ suc s.count) → MatchOption o ⊤ (λ c. length c ≡ n)
-    go None w = w
-    go (Some c) w = omega (arith, e, w)
-
 pub count_left : (pages : ℕ) (r : Recording) (s : Staged) → IsPreparedFor pages r s → (points cut : List State) (intervals : List Interval) → intervals ≡ r.intervals → length points ≡ length intervals + 1
     → cut ≡ take (s.count + 1) points → length cut ≡ s.count + 1
 count_left pages r s fits points cut intervals same long is =
@@ -70,7 +53,7 @@ module _ (windows pages k : ℕ) (pos : 0 < k) (r : Recording) (s : Staged) (fit
     (points_are : points ≡ r.points) (intervals_are : intervals ≡ r.intervals) (long : length points ≡ length intervals + 1)
     (cut_is : cut ≡ take (s.count + 1) points) (short_is : short ≡ take s.count intervals)
     (last_long : length last ≡ length cut)
-    (last_is : (i : ℕ) → i < length cut → get_or last i blank ≡ placed_levels_in s.levels.items i (placed_pages_in s.pages.items i (get_or cut i blank)))
+    (last_is : (i : ℕ) → i < length cut → get_or last i blank ≡ placed s i (get_or cut i blank))
     (lists_long : length lists ≡ length short)
     (lists_are : (i : ℕ) → i < length short → get_or lists i no_interval ≡ with_kept (get_or s.kept.items i None) (get_or short i no_interval)) where
   cut_fits : s.count ≤ length intervals
@@ -91,7 +74,7 @@ module _ (windows pages k : ℕ) (pos : 0 < k) (r : Recording) (s : Staged) (fit
   point_is : (i : ℕ) → i ≤ s.count → get_or last i blank ≡ placed s i (get_or r.points i blank)
   point_is i h =
       let v : i < length cut = omega (arith, cut_count, h) in
-      last_is i v ∙ ap (λ x. placed_levels_in s.levels.items i (placed_pages_in s.pages.items i x)) (cut_point i h)
+      last_is i v ∙ ap (placed s i) (cut_point i h)
 
   interval_is : (i : ℕ) → i < s.count → get_or lists i no_interval ≡ with_kept (get_or s.kept.items i None) (get_or r.intervals i no_interval)
   interval_is i h =

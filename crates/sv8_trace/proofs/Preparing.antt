@@ -1,12 +1,12 @@
 -- The steps of a preparation.
-use Rattle.std.proofs.Common.{◌≡◌, ◌≢◌, ℕ, zero, suc, ◌+◌, ◌*◌, ◌/◌, ◌%◌, ◌<◌, ◌≤◌, ◌==◌, List, [], length, get_or, set, map, take, drop, drop-cons, add-one, replicate, Bool, true, false, ◌&&◌, cond, leb, ltb, min, Option, Some, None, option_map, unwrap_or, MatchOption, refl, sym, ◌∙◌, ap, ap₂, subst, arith, inl, inr, ◌⊎◌, lt-ltb, le-ltb, eq-eqb, ne_eqb, length-take-le, length-set, get_or-set_same, get_or-set_other, div-lt_iff_lt-mul, le-div_iff_mul-le, mul_comm}
-use Rattle.std.specs.Bool.{⊤}
+use Rattle.std.proofs.Common.{◌≡◌, ◌≢◌, ℕ, suc, ◌+◌, ◌*◌, ◌/◌, ◌%◌, ◌<◌, ◌≤◌, ◌==◌, List, [], length, get_or, set, map, take, drop, drop-cons, add-one, replicate, Bool, true, false, ◌&&◌, cond, leb, ltb, min, Option, Some, None, option_map, unwrap_or, refl, sym, ◌∙◌, ap, ap₂, subst, arith, inl, inr, ◌⊎◌, lt-ltb, le-ltb, eq-eqb, ne_eqb, length-take-le, length-set, get_or-set_same, get_or-set_other, div-lt_iff_lt-mul, le-div_iff_mul-le, mul_comm}
+use Rattle.std.specs.List.{All}
 use Rattle.std.proofs.lemmas.Bool.{cases_lt, cases_eq}
 use Rattle.std.proofs.lemmas.List.{get_or-take, set-set, get_or_default, length-map}
 use Rattle.std.proofs.Math.ListN.{get_or-map}
 use Rattle.std.proofs.Math.Nat.{mul-div_cancel_left, div-add-mod}
 use Rattle.sv8_model.specs.Cells.{Cell, Value, ram_byte, pending_level, byte, held, same_cell}
-use Rattle.sv8_phys.specs.Memory.{ram_size, page_of}
+use Rattle.sv8_phys.specs.Memory.{ram_size, page_of, with_page}
 use Rattle.sv8_history.specs.Machine.{Machine}
 use Rattle.sv8_history.specs.Trace.{Trace}
 use Rattle.sv8_history.specs.Patches as history
@@ -14,31 +14,20 @@ use Rattle.sv8_notes.specs.declared.kept.Kept.{Kept}
 use Rattle.sv8_notes.specs.Kept.{kept_in}
 use Rattle.sv8_notes.specs.Steps.{IsFirstBelow}
 use Rattle.sv8_cpu.specs.State.{State}
-use Rattle.sv8_cpu.specs.Recorded.{machine, get, put}
+use Rattle.sv8_cpu.specs.Recorded.{machine, put}
 use Rattle.sv8_trace.specs.declared.prepared.Staged.{Staged}
+use Rattle.sv8_trace.specs.declared.interval.Interval.{Interval}
 use Rattle.sv8_trace.specs.declared.patch.Patch.{Patch}
 use Rattle.sv8_trace.specs.Patch.{change_of, changes_of}
 use Rattle.sv8_trace.specs.Recording.{Recording, blank, no_interval, trace_of}
-use Rattle.sv8_trace.specs.Prepared.{placed, placed_pages, placed_levels, list_at, prepared_trace, IsPageColumn, IsPreparedFor, Near}
+use Rattle.sv8_trace.specs.Columns.{AreFull, IsWhole, item, put_from, placed_pages, placed_levels}
+use Rattle.sv8_trace.specs.Prepared.{placed, list_at, prepared_trace, IsPreparedFor, Near}
 use Rattle.sv8_trace.specs.Patching.{IsFirstWrite, PointsSet, RaisedAt}
 use Rattle.sv8_trace.specs.Placing.{IsSound, AreSound}
 use Rattle.sv8_trace.proofs.Nearness.{near_all, near_along}
-use Rattle.sv8_trace.proofs.Placed.{page_byte, page_length, pages_get, pages_set, levels_get, levels_set, shown_byte, shown_level}
+use Rattle.sv8_trace.proofs.Placed.{page_byte, page_length, get_none, none_there, there_set, item_full, item_set, whole_items, any_levels, ram_places, level_places, put_set, idle, page_places, level_count, ram_long, byte_at, level_at, page_at}
 
 -- ---- nothing but a cut
-
-no_pages : (p n i : ℕ) (ram : List ℕ) → placed_pages p (replicate n None) i ram ≡ ram
-no_pages p zero i ram = refl
-no_pages p (suc n) i ram = no_pages (suc p) n i ram
-
-no_levels : (l n i : ℕ) (ps : List Bool) → placed_levels l (replicate n None) i ps ≡ ps
-no_levels l zero i ps = refl
-no_levels l (suc n) i ps = no_levels (suc l) n i ps
-
-pub get_none : {X : Type 0} (n i : ℕ) → get_or {A = Option X} (replicate n None) i None ≡ None
-get_none zero i = refl
-get_none (suc n) zero = refl
-get_none (suc n) (suc i) = get_none n i
 
 before_cut : (k n count : ℕ) → 0 < k → ltb (n / k) count ≡ ltb n (k * count)
 before_cut k n count pos = go (cases_lt n (k * count))
@@ -57,10 +46,7 @@ staged_cut windows pages k r s pos columns levels lists = record {
 }
   where
     at : (i : ℕ) → placed s i (get_or r.points i blank) ≡ get_or r.points i blank
-    at i =
-        let p : placed_pages 0 s.pages.items i (get_or r.points i blank).memory.ram ≡ (get_or r.points i blank).memory.ram = ap (λ cs. placed_pages 0 cs i (get_or r.points i blank).memory.ram) columns ∙ no_pages 0 pages i _ in
-        let l : placed_levels 0 s.levels.items i (get_or r.points i blank).memory.pending ≡ (get_or r.points i blank).memory.pending = ap (λ cs. placed_levels 0 cs i (get_or r.points i blank).memory.pending) levels ∙ no_levels 0 16 i _ in
-        ap₂ (λ ram ps. record (get_or r.points i blank) { memory = record (get_or r.points i blank).memory { ram = ram; pending = ps } }) p l
+    at i = idle s.pages.items s.levels.items 0 i _ (rw columns (none_there _ pages)) (rw levels (none_there _ 16)) (omega arith)
 
 -- ---- kept values
 
@@ -99,22 +85,22 @@ kept_put windows pages k r s count mid now l step c o below long counts me ne la
 
 -- ---- what stands in a cell of a checkpoint that is to be
 
-whole_at : (pages i : ℕ) (r : Recording) (s : Staged) → IsPreparedFor pages r s → i ≤ s.count → (q : ℕ) → MatchOption (get_or s.pages.items q None) ⊤ (λ c. length (get_or c i []) ≡ 4096)
-whole_at pages i r s fits h q = go (get_or s.pages.items q None) (fits.whole_pages q)
-  where
-    go : (o : Option (List (List ℕ))) → MatchOption o ⊤ (IsPageColumn s.count) → MatchOption o ⊤ (λ c. length (get_or c i []) ≡ 4096)
-    go None w = w
-    go (Some c) w = w.1 i h
-
 module _ (pages i : ℕ) (r : Recording) (s : Staged) (fits : IsPreparedFor pages r s) (le : i ≤ s.count) (p : State) (contents : IsSound pages p.memory) where
-  room : 4096 * length s.pages.items ≤ length p.memory.ram
-  room = omega (arith, ap (λ n. 4096 * n) fits.pages_count, contents.size)
+  pub byte_in : (a : ℕ) (o : Option (List (List ℕ))) → get_or s.pages.items (a / 4096) None ≡ o
+      → get_or (placed s i p).memory.ram a 0 ≡ unwrap_or (option_map (λ page. get_or page (a % 4096) 0) (option_map (λ c. get_or c i []) o)) (get_or p.memory.ram a 0)
+  byte_in a o e =
+      byte_at pages s.pages.items s.levels.items fits.columns i p contents a
+      ∙ ap (λ x. unwrap_or (option_map (λ page. get_or page (a % 4096) 0) x) (get_or p.memory.ram a 0)) (item_full (suc s.count) i (a / 4096) s.pages.items o [] fits.full_pages (omega arith) e)
 
-  pub byte_at : (a : ℕ) (o : Option (List (List ℕ))) → get_or s.pages.items (a / 4096) None ≡ o → get (ram_byte a) (placed s i p) ≡ byte (shown_byte o i a (get_or p.memory.ram a 0))
-  byte_at a o e = ap byte (pages_get s.pages.items i p.memory.ram room (whole_at pages i r s fits le) a ∙ ap (λ x. shown_byte x i a (get_or p.memory.ram a 0)) e)
+  pub page_in : (q : ℕ) (o : Option (List (List ℕ))) → q < pages → get_or s.pages.items q None ≡ o → page_of (placed s i p).memory.ram q ≡ unwrap_or (option_map (λ c. get_or c i []) o) (page_of p.memory.ram q)
+  page_in q o h e =
+      page_at pages s.pages.items s.levels.items fits.columns i p contents q h
+      ∙ ap (λ x. unwrap_or x (page_of p.memory.ram q)) (item_full (suc s.count) i q s.pages.items o [] fits.full_pages (omega arith) e)
 
-  pub level_at : (l : ℕ) (o : Option (List Bool)) → l ≤ 15 → get_or s.levels.items l None ≡ o → get (pending_level l) (placed s i p) ≡ held (shown_level o i (get_or p.memory.pending l false))
-  level_at l o h e = ap held (levels_get s.levels.items i p.memory.pending l (omega (arith, contents.count)) ∙ ap (λ x. shown_level x i (get_or p.memory.pending l false)) e)
+  pub level_in : (l : ℕ) (o : Option (List Bool)) → get_or s.levels.items l None ≡ o → get_or (placed s i p).memory.pending l false ≡ unwrap_or (option_map (λ c. get_or c i false) o) (get_or p.memory.pending l false)
+  level_in l o e =
+      level_at pages s.pages.items s.levels.items fits.columns i p contents l
+      ∙ ap (λ x. unwrap_or x (get_or p.memory.pending l false)) (item_full (suc s.count) i l s.levels.items o false fits.full_levels (omega arith) e)
 
 -- ---- one patch after another
 
@@ -142,177 +128,132 @@ first_write_is m v c from end recorded (Some s) le few h = record {
 
 -- ---- the points and the slots
 
-pub contents_at : (pages i : ℕ) (xs : List State) (r : Recording) → AreSound pages xs → xs ≡ r.points → i < length xs → IsSound pages (get_or r.points i blank).memory
-contents_at pages i xs r sound is h = subst (λ ps. IsSound pages (get_or ps i blank).memory) is (sound i h)
+pub sound_at : (pages i : ℕ) (r : Recording) (s : Staged) (points : List State) (intervals : List Interval) → AreSound pages points → length points ≡ length intervals + 1 → ◌≡◌ {A = Recording} (record { points = points; intervals = intervals }) r
+    → IsPreparedFor pages r s → i ≤ s.count → IsSound pages (get_or r.points i blank).memory
+sound_at pages i r s points intervals sound long is fits h =
+    subst (λ ps. IsSound pages (get_or ps i blank).memory) (ap (λ (r : Recording). r.points) is) (sound i (omega (arith, long, ap (λ (r : Recording). length r.intervals) is, fits.count, h)))
 
 pub slot_is : {X : Type 0} (cs : List (Option X)) (i : ℕ) (o p : Option X) → i < length cs → o ≡ get_or cs i o → o ≡ p → get_or cs i None ≡ p
 slot_is cs i o p h e f = get_or_default cs i None o h ∙ sym e ∙ f
 
--- ---- a byte is set in the checkpoints
+-- ---- a byte, or a level, is set in the checkpoints
 
--- a column has the page of checkpoint i as it is to be
-pub record HasPage (a i : ℕ) (s : Staged) (p : State) (c : List (List ℕ)) : Type 0 where
-  pub whole : length (get_or c i []) ≡ 4096
-  pub bytes : (j : ℕ) → j < 4096 → get_or (get_or c i []) j 0 ≡ get_or (placed_pages 0 s.pages.items i p.memory.ram) (4096 * (a / 4096) + j) 0
+module _ (pages i : ℕ) (r : Recording) (s now : Staged) (fits : IsPreparedFor pages r s) (le : i ≤ s.count) (p : State) (contents : IsSound pages p.memory) where
+  pub page_whole : (q : ℕ) → q < pages → length (page_of (placed s i p).memory.ram q) ≡ 4096
+  page_whole q h = page_length (placed s i p).memory.ram q (omega (arith, ram_long pages s.pages.items s.levels.items fits.columns i p contents, h))
 
-module _ (pages i a : ℕ) (r : Recording) (s : Staged) (fits : IsPreparedFor pages r s) (le : i ≤ s.count) (p : State) (contents : IsSound pages p.memory) where
-  enough : 4096 * length s.pages.items ≤ length p.memory.ram
-  enough = omega (arith, ap (λ n. 4096 * n) fits.pages_count, contents.size)
-
-  byte_of_page : (o : Option (List (List ℕ))) → get_or s.pages.items (a / 4096) None ≡ o → (j : ℕ) → j < 4096
-      → get_or (placed_pages 0 s.pages.items i p.memory.ram) (4096 * (a / 4096) + j) 0 ≡ shown_byte o i (4096 * (a / 4096) + j) (get_or p.memory.ram (4096 * (a / 4096) + j) 0)
-  byte_of_page o e j h =
-      let d : (4096 * (a / 4096) + j) / 4096 ≡ a / 4096 = omega arith in
-      pages_get s.pages.items i p.memory.ram enough (whole_at pages i r s fits le) (4096 * (a / 4096) + j)
-      ∙ ap (λ x. shown_byte x i (4096 * (a / 4096) + j) (get_or p.memory.ram (4096 * (a / 4096) + j) 0)) (ap (λ q. get_or s.pages.items q None) d ∙ e)
-
-  pub page_taken : (c : List (List ℕ)) → get_or s.pages.items (a / 4096) None ≡ Some c → HasPage a i s p c
-  page_taken c e = record {
-    whole = let w = whole_at pages i r s fits le (a / 4096) in rw e at w;
-    bytes = λ j h.
-        let m : (4096 * (a / 4096) + j) % 4096 ≡ j = omega arith in
-        sym (byte_of_page (Some c) e j h ∙ ap (λ x. get_or (get_or c i []) x 0) m);
-  }
-
-  pub page_gathered : (c : List (List ℕ)) → get_or s.pages.items (a / 4096) None ≡ None → a < ram_size pages → get_or c i [] ≡ page_of p.memory.ram (a / 4096) → HasPage a i s p c
-  page_gathered c e h is = record {
-    whole = ap length is ∙ page_long;
-    bytes = λ j l. ap (λ x. get_or x j 0) is ∙ page_byte p.memory.ram (a / 4096) j l ∙ sym (byte_of_page None e j l);
-  }
-    where
-      page_long : length (page_of p.memory.ram (a / 4096)) ≡ 4096
-      page_long = page_length p.memory.ram (a / 4096) (omega (arith, contents.size, h))
-
-  -- with a byte set there, or not
-  pub byte_set : (now : Staged) (c d : List (List ℕ)) (v : ℕ) (b : Bool) → a < ram_size pages → HasPage a i s p c → get_or d i [] ≡ cond b (set (get_or c i []) (a % 4096) v) (get_or c i [])
-      → now.pages.items ≡ set (set s.pages.items (a / 4096) None) (a / 4096) (Some d) → now.levels.items ≡ s.levels.items
+  -- a column that has the page of the checkpoint comes with a byte set there, or not
+  pub byte_set : (a : ℕ) (c d : List (List ℕ)) (v : ℕ) (b : Bool) → a < ram_size pages → length d ≡ suc s.count → get_or c i [] ≡ page_of (placed s i p).memory.ram (a / 4096)
+      → get_or d i [] ≡ cond b (set (get_or c i []) (a % 4096) v) (get_or c i []) → now.pages.items ≡ set (set s.pages.items (a / 4096) None) (a / 4096) (Some d) → now.levels.items ≡ s.levels.items
       → placed now i p ≡ cond b (put (ram_byte a) (byte v) (placed s i p)) (placed s i p)
-  byte_set now c d v b h has is pages_are levels_are =
+  byte_set a c d v b h long has is pages_are levels_are =
       ap₂ (λ ram ps. record p { memory = record p.memory { ram = ram; pending = ps } }) ram_is (ap (λ cs. placed_levels 0 cs i p.memory.pending) levels_are) ∙ whole_state b
     where
-      below : a / 4096 < length s.pages.items
-      below = omega (arith, fits.pages_count, h)
+      ram : List ℕ
+      ram = (placed s i p).memory.ram
 
-      one : now.pages.items ≡ set s.pages.items (a / 4096) (Some d)
-      one = pages_are ∙ set-set s.pages.items (a / 4096) None (Some d)
+      below : a / 4096 < length (map (item i) s.pages.items)
+      below = omega (arith, page_places pages s.pages.items s.levels.items fits.columns i p contents, h)
 
-      law : (j : ℕ) → j < 4096 → get_or (get_or d i []) j 0 ≡ cond (b && j == a % 4096) v (get_or (placed_pages 0 s.pages.items i p.memory.ram) (4096 * (a / 4096) + j) 0)
-      law j l = ap (λ x. get_or x j 0) is ∙ go b (cases_eq j (a % 4096))
-        where
-          go : (b : Bool) → (j ≡ a % 4096) ⊎ (j ≢ a % 4096) → get_or (cond b (set (get_or c i []) (a % 4096) v) (get_or c i [])) j 0 ≡ cond (b && j == a % 4096) v (get_or (placed_pages 0 s.pages.items i p.memory.ram) (4096 * (a / 4096) + j) 0)
-          go false x = has.bytes j l
-          go true (inl e) = let w : a % 4096 < length (get_or c i []) = omega (arith, has.whole) in rw (e, eq-eqb (a % 4096) (a % 4096) refl) (get_or-set_same (get_or c i []) (a % 4096) v 0 w)
-          go true (inr n) = rw (ne_eqb j (a % 4096) n) (get_or-set_other (get_or c i []) (a % 4096) j v 0 n ∙ has.bytes j l)
+      page_is : get_or d i [] ≡ cond b (set (page_of ram (a / 4096)) (a % 4096) v) (page_of ram (a / 4096))
+      page_is = is ∙ ap (λ x. cond b (set x (a % 4096) v) x) has
 
-      d_whole : length (get_or d i []) ≡ 4096
-      d_whole = ap length is ∙ go b
-        where
-          go : (b : Bool) → length (cond b (set (get_or c i []) (a % 4096) v) (get_or c i [])) ≡ 4096
-          go true = length-set (get_or c i []) (a % 4096) v ∙ has.whole
-          go false = has.whole
+      whole : length (page_of ram (a / 4096)) ≡ 4096
+      whole = page_whole (a / 4096) (omega (arith, h))
 
-      ram_is : placed_pages 0 now.pages.items i p.memory.ram ≡ cond b (set (placed_pages 0 s.pages.items i p.memory.ram) a v) (placed_pages 0 s.pages.items i p.memory.ram)
-      ram_is = pages_set s.pages.items now.pages.items d i a v b p.memory.ram enough below (whole_at pages i r s fits le) one d_whole law
+      set_whole : (b : Bool) → length (cond b (set (page_of ram (a / 4096)) (a % 4096) v) (page_of ram (a / 4096))) ≡ 4096
+      set_whole true = length-set (page_of ram (a / 4096)) (a % 4096) v ∙ whole
+      set_whole false = whole
 
-      whole_state : (b : Bool) → record p { memory = record p.memory { ram = cond b (set (placed_pages 0 s.pages.items i p.memory.ram) a v) (placed_pages 0 s.pages.items i p.memory.ram); pending = placed_levels 0 s.levels.items i p.memory.pending } }
+      same : (y : ℕ) → y / 4096 ≡ a / 4096 → get_or (page_of ram (a / 4096)) (y % 4096) 0 ≡ get_or ram y 0
+      same y e = page_byte ram (a / 4096) (y % 4096) (omega arith) ∙ ap (λ x. get_or ram x 0) (omega (arith, e))
+
+      law : (y : ℕ) → y / 4096 ≡ a / 4096 → (b : Bool) → (y ≡ a) ⊎ (y ≢ a) → get_or (cond b (set (page_of ram (a / 4096)) (a % 4096) v) (page_of ram (a / 4096))) (y % 4096) 0 ≡ cond (b && y == a) v (get_or ram y 0)
+      law y e true (inl q) = let w : a % 4096 < length (page_of ram (a / 4096)) = omega (arith, whole) in rw (q, eq-eqb a a refl) (get_or-set_same (page_of ram (a / 4096)) (a % 4096) v 0 w)
+      law y e true (inr n) =
+          let m : y % 4096 ≢ a % 4096 = omega (arith, n, e) in
+          rw (ne_eqb y a n) (get_or-set_other (page_of ram (a / 4096)) (a % 4096) (y % 4096) v 0 m ∙ same y e)
+      law y e false q = same y e
+
+      ram_is : placed_pages 0 now.pages.items i p.memory.ram ≡ cond b (set ram a v) ram
+      ram_is =
+          ap (λ os. put_from with_page 0 os p.memory.ram) (item_set i (a / 4096) s.pages.items now.pages.items d [] (omega (arith, long, le)) pages_are)
+          ∙ put_set (ram_places pages) (map (item i) s.pages.items) (get_or d i []) a v b p.memory.ram contents.size (page_places pages s.pages.items s.levels.items fits.columns i p contents)
+          (whole_items i s.pages.items fits.columns.whole_pages) (there_set IsWhole (map (item i) s.pages.items) (a / 4096) (get_or d i []) below (whole_items i s.pages.items fits.columns.whole_pages) (ap length page_is ∙ set_whole b))
+          (omega (arith, h)) (λ y l e. ap (λ x. get_or x (y % 4096) 0) page_is ∙ law y e b (cases_eq y a))
+
+      whole_state : (b : Bool) → record p { memory = record p.memory { ram = cond b (set ram a v) ram; pending = placed_levels 0 s.levels.items i p.memory.pending } }
           ≡ cond b (put (ram_byte a) (byte v) (placed s i p)) (placed s i p)
       whole_state true = refl
       whole_state false = refl
 
+  -- the same of a level
+  pub level_set : (l : ℕ) (c d : List Bool) (v b : Bool) → l ≤ 15 → length d ≡ suc s.count → get_or c i false ≡ get_or (placed s i p).memory.pending l false
+      → get_or d i false ≡ cond b v (get_or c i false) → now.levels.items ≡ set (set s.levels.items l None) l (Some d) → now.pages.items ≡ s.pages.items
+      → placed now i p ≡ cond b (put (pending_level l) (held v) (placed s i p)) (placed s i p)
+  level_set l c d v b h long has is levels_are pages_are =
+      ap₂ (λ ram ps. record p { memory = record p.memory { ram = ram; pending = ps } }) (ap (λ cs. placed_pages 0 cs i p.memory.ram) pages_are) levels_is ∙ whole_state b
+    where
+      pending : List Bool
+      pending = (placed s i p).memory.pending
+
+      law : (y : ℕ) → y ≡ l → (b : Bool) → cond b v (get_or pending l false) ≡ cond (b && y == l) v (get_or pending y false)
+      law y e true = rw (e, eq-eqb l l refl)
+      law y e false = rw e
+
+      levels_is : placed_levels 0 now.levels.items i p.memory.pending ≡ cond b (set pending l v) pending
+      levels_is =
+          ap (λ os. put_from set 0 os p.memory.pending) (item_set i l s.levels.items now.levels.items d false (omega (arith, long, le)) levels_are)
+          ∙ put_set level_places (map (item i) s.levels.items) (get_or d i false) l v b p.memory.pending contents.count (level_count pages s.pages.items s.levels.items fits.columns i p contents)
+          (any_levels _) (any_levels _) (omega (arith, h)) (λ y k e. is ∙ ap (cond b v) has ∙ law y e b)
+
+      whole_state : (b : Bool) → record p { memory = record p.memory { ram = placed_pages 0 s.pages.items i p.memory.ram; pending = cond b (set pending l v) pending } }
+          ≡ cond b (put (pending_level l) (held v) (placed s i p)) (placed s i p)
+      whole_state true = refl
+      whole_state false = refl
+
 -- what was prepared still fits
-pub fits_pages : (pages : ℕ) (r : Recording) (s now : Staged) (p : ℕ) (d : List (List ℕ)) → IsPreparedFor pages r s → p < pages → IsPageColumn s.count d
+pub fits_pages : (pages : ℕ) (r : Recording) (s now : Staged) (p : ℕ) (d : List (List ℕ)) → IsPreparedFor pages r s → p < pages → All IsWhole d → length d ≡ suc s.count
     → now.count ≡ s.count → now.pages.items ≡ set (set s.pages.items p None) p (Some d) → now.levels.items ≡ s.levels.items → now.kept.items ≡ s.kept.items → IsPreparedFor pages r now
-fits_pages pages r s now p d fits h column count pages_are levels kept = record {
+fits_pages pages r s now p d fits h whole long count pages_are levels kept = record {
   count = rw count fits.count;
-  pages_count = ap length one ∙ length-set s.pages.items p (Some d) ∙ fits.pages_count;
-  levels_count = ap length levels ∙ fits.levels_count;
-  no_level = ap (λ cs. get_or cs 0 None) levels ∙ fits.no_level;
+  columns = record {
+    pages_count = ap length one ∙ length-set s.pages.items p (Some d) ∙ fits.columns.pages_count;
+    levels_count = ap length levels ∙ fits.columns.levels_count;
+    no_level = ap (λ cs. get_or cs 0 None) levels ∙ fits.columns.no_level;
+    whole_pages = rw one (there_set (All IsWhole) s.pages.items p d below fits.columns.whole_pages whole);
+  };
+  full_pages = rw (one, count) (there_set _ s.pages.items p d below fits.full_pages long);
+  full_levels = let w = fits.full_levels in rw (levels, count) w;
   lists_count = ap length kept ∙ fits.lists_count ∙ sym count;
-  whole_pages = λ q. go q (cases_eq q p);
-  whole_levels = λ l. let w = fits.whole_levels l in rw (levels, count) w;
 }
   where
+    below : p < length s.pages.items
+    below = omega (arith, fits.columns.pages_count, h)
+
     one : now.pages.items ≡ set s.pages.items p (Some d)
     one = pages_are ∙ set-set s.pages.items p None (Some d)
 
-    go : (q : ℕ) → (q ≡ p) ⊎ (q ≢ p) → MatchOption (get_or now.pages.items q None) ⊤ (IsPageColumn now.count)
-    go q (inl e) = let w : p < length s.pages.items = omega (arith, fits.pages_count, h) in rw (one, e, get_or-set_same s.pages.items p (Some d) None w, count) column
-    go q (inr n) = let w = fits.whole_pages q in rw (one, get_or-set_other s.pages.items p q (Some d) None n, count) w
+-- a column that was gathered
+pub gathered : {X : Type 0} (f : State → X) (d : X) (n i : ℕ) (points : List State) (c : List X) → c ≡ map f (take n points) → i < n → n ≤ length points → get_or c i d ≡ f (get_or points i blank)
+gathered f d n i points c is h fits =
+    let long : length (map f (take n points)) ≡ n = length-map (take n points) f ∙ length-take-le n points fits in
+    ap (λ xs. get_or xs i d) is ∙ get_or_default (map f (take n points)) i d (f blank) (omega (arith, long, h)) ∙ get_or-map f (take n points) i blank ∙ ap f (get_or-take n points i blank h)
 
-pub fits_levels : (pages : ℕ) (r : Recording) (s now : Staged) (l : ℕ) (d : List Bool) → IsPreparedFor pages r s → 1 ≤ l → l ≤ 15 → length d ≡ suc s.count
-    → now.count ≡ s.count → now.levels.items ≡ set (set s.levels.items l None) l (Some d) → now.pages.items ≡ s.pages.items → now.kept.items ≡ s.kept.items → IsPreparedFor pages r now
-fits_levels pages r s now l d fits some h column count levels_are pages_are kept = record {
-  count = rw count fits.count;
-  pages_count = ap length pages_are ∙ fits.pages_count;
-  levels_count = ap length one ∙ length-set s.levels.items l (Some d) ∙ fits.levels_count;
-  no_level = let n : 0 ≢ l = omega arith in ap (λ cs. get_or cs 0 None) one ∙ get_or-set_other s.levels.items l 0 (Some d) None n ∙ fits.no_level;
-  lists_count = ap length kept ∙ fits.lists_count ∙ sym count;
-  whole_pages = λ q. let w = fits.whole_pages q in rw (pages_are, count) w;
-  whole_levels = λ q. go q (cases_eq q l);
-}
-  where
-    one : now.levels.items ≡ set s.levels.items l (Some d)
-    one = levels_are ∙ set-set s.levels.items l None (Some d)
-
-    go : (q : ℕ) → (q ≡ l) ⊎ (q ≢ l) → MatchOption (get_or now.levels.items q None) ⊤ (λ c. length c ≡ suc now.count)
-    go q (inl e) = let w : l < length s.levels.items = omega (arith, fits.levels_count, h) in rw (one, e, get_or-set_same s.levels.items l (Some d) None w, count) column
-    go q (inr n) = let w = fits.whole_levels q in rw (one, get_or-set_other s.levels.items l q (Some d) None n, count) w
-
--- ---- a level is set in the checkpoints
-pub level_set : (i l : ℕ) (s now : Staged) (p : State) (d : List Bool) (v b : Bool) → l < length s.levels.items
-    → get_or d i false ≡ cond b v (get_or (placed_levels 0 s.levels.items i p.memory.pending) l false)
-    → now.levels.items ≡ set (set s.levels.items l None) l (Some d) → now.pages.items ≡ s.pages.items
-    → placed now i p ≡ cond b (put (pending_level l) (held v) (placed s i p)) (placed s i p)
-level_set i l s now p d v b h law levels_are pages_are =
-    ap₂ (λ ram ps. record p { memory = record p.memory { ram = ram; pending = ps } }) (ap (λ cs. placed_pages 0 cs i p.memory.ram) pages_are)
-    (levels_set s.levels.items now.levels.items d i l v b p.memory.pending h (levels_are ∙ set-set s.levels.items l None (Some d)) law)
-    ∙ whole_state b
-  where
-    whole_state : (b : Bool) → record p { memory = record p.memory { ram = placed_pages 0 s.pages.items i p.memory.ram; pending = cond b (set (placed_levels 0 s.levels.items i p.memory.pending) l v) (placed_levels 0 s.levels.items i p.memory.pending) } }
-        ≡ cond b (put (pending_level l) (held v) (placed s i p)) (placed s i p)
-    whole_state true = refl
-    whole_state false = refl
-
--- the level of checkpoint i, as a column that was taken, or gathered, has it
-pub level_of : (pages i l : ℕ) (r : Recording) (s : Staged) (p : State) → IsSound pages p.memory → l ≤ 15 → (o : Option (List Bool)) → get_or s.levels.items l None ≡ o
-    → get_or (placed_levels 0 s.levels.items i p.memory.pending) l false ≡ shown_level o i (get_or p.memory.pending l false)
-level_of pages i l r s p contents h o e = levels_get s.levels.items i p.memory.pending l (omega (arith, contents.count)) ∙ ap (λ x. shown_level x i (get_or p.memory.pending l false)) e
-
-pub gathered_page : (p n i : ℕ) (points : List State) (c : List (List ℕ)) → c ≡ map (λ s. page_of s.memory.ram p) (take n points) → i < n → n ≤ length points
-    → get_or c i [] ≡ page_of (get_or points i blank).memory.ram p
-gathered_page p n i points c is h fits =
-    let long : length (map (λ (s : State). page_of s.memory.ram p) (take n points)) ≡ n = length-map (take n points) (λ (s : State). page_of s.memory.ram p) ∙ length-take-le n points fits in
-    ap (λ xs. get_or xs i []) is
-    ∙ get_or_default (map (λ (s : State). page_of s.memory.ram p) (take n points)) i [] (page_of blank.memory.ram p) (omega (arith, long, h))
-    ∙ get_or-map (λ (s : State). page_of s.memory.ram p) (take n points) i blank
-    ∙ ap (λ (s : State). page_of s.memory.ram p) (get_or-take n points i blank h)
-
-pub set_whole : (a count v low end : ℕ) (c d : List (List ℕ)) → length c ≡ suc count → ((i : ℕ) → i ≤ count → length (get_or c i []) ≡ 4096) → length d ≡ length c
-    → ((i : ℕ) → get_or d i [] ≡ cond (leb low i && ltb i end) (set (get_or c i []) (a % 4096) v) (get_or c i [])) → IsPageColumn count d
-set_whole a count v low end c d long whole same law = (same ∙ long, λ i h. ap length (law i) ∙ go (leb low i && ltb i end) i h)
+pub set_whole : (a count v low end : ℕ) (c d : List (List ℕ)) → length d ≡ suc count → ((i : ℕ) → i ≤ count → length (get_or c i []) ≡ 4096)
+    → ((i : ℕ) → get_or d i [] ≡ cond (leb low i && ltb i end) (set (get_or c i []) (a % 4096) v) (get_or c i [])) → All IsWhole d
+set_whole a count v low end c d long whole law i e h = ap length (get_or_default d i e [] h ∙ law i) ∙ go (leb low i && ltb i end) i (omega (arith, long, h))
   where
     go : (b : Bool) (i : ℕ) → i ≤ count → length (cond b (set (get_or c i []) (a % 4096) v) (get_or c i [])) ≡ 4096
     go true i h = length-set (get_or c i []) (a % 4096) v ∙ whole i h
     go false i h = whole i h
 
 -- how many checkpoints a column has
-pub taken_long : (pages p : ℕ) (r : Recording) (s : Staged) (c : List (List ℕ)) → IsPreparedFor pages r s → get_or s.pages.items p None ≡ Some c → length c ≡ suc s.count
-taken_long pages p r s c fits e = let w = fits.whole_pages p in let v = rw e at w in v.0
-
-pub taken_level_long : (pages l : ℕ) (r : Recording) (s : Staged) (c : List Bool) → IsPreparedFor pages r s → get_or s.levels.items l None ≡ Some c → length c ≡ suc s.count
-taken_level_long pages l r s c fits e = let w = fits.whole_levels l in rw e at w
+pub taken_long : {X : Type 0} (count q : ℕ) (cs : List (Option (List X))) (c : List X) → AreFull count cs → get_or cs q None ≡ Some c → length c ≡ count
+taken_long count q cs c full e = let w = full q in rw e at w
 
 pub gathered_long : {X : Type 0} (f : State → X) (count : ℕ) (points : List State) (c : List X) → c ≡ map f (take (count + 1) points) → count + 1 ≤ length points → length c ≡ suc count
 gathered_long f count points c is h = ap length is ∙ length-map (take (count + 1) points) f ∙ length-take-le (count + 1) points h ∙ add-one count
-
-pub gathered_level : (l n i : ℕ) (points : List State) (c : List Bool) → c ≡ map (λ s. get_or s.memory.pending l false) (take n points) → i < n → n ≤ length points
-    → get_or c i false ≡ get_or (get_or points i blank).memory.pending l false
-gathered_level l n i points c is h fits =
-    let long : length (map (λ (s : State). get_or s.memory.pending l false) (take n points)) ≡ n = length-map (take n points) (λ (s : State). get_or s.memory.pending l false) ∙ length-take-le n points fits in
-    ap (λ xs. get_or xs i false) is
-    ∙ get_or_default (map (λ (s : State). get_or s.memory.pending l false) (take n points)) i false (get_or blank.memory.pending l false) (omega (arith, long, h))
-    ∙ get_or-map (λ (s : State). get_or s.memory.pending l false) (take n points) i blank
-    ∙ ap (λ (s : State). get_or s.memory.pending l false) (get_or-take n points i blank h)
 
 pub not_kept : (i count : ℕ) (o : Option Value) → count ≤ i → cond (ltb i count) o None ≡ None
 not_kept i count o h = rw (le-ltb i count h)
@@ -343,12 +284,10 @@ points_kept windows pages k r mid now rest i h = ap (λ (s : Staged). placed s (
 pub finished_fits : (pages : ℕ) (r : Recording) (s now : Staged) → now ≡ record s { pages = now.pages } → now.pages.items ≡ s.pages.items → IsPreparedFor pages r s → IsPreparedFor pages r now
 finished_fits pages r s now rest columns fits = record {
   count = rw count fits.count;
-  pages_count = ap length columns ∙ fits.pages_count;
-  levels_count = ap (λ (x : Staged). length x.levels.items) rest ∙ fits.levels_count;
-  no_level = ap (λ (x : Staged). get_or x.levels.items 0 None) rest ∙ fits.no_level;
+  columns = let w = fits.columns in rw (columns, ap (λ (x : Staged). x.levels.items) rest) w;
+  full_pages = let w = fits.full_pages in rw (columns, count) w;
+  full_levels = let w = fits.full_levels in rw (ap (λ (x : Staged). x.levels.items) rest, count) w;
   lists_count = ap (λ (x : Staged). length x.kept.items) rest ∙ fits.lists_count ∙ sym count;
-  whole_pages = λ p. let w = fits.whole_pages p in rw (columns, count) w;
-  whole_levels = λ l. let w = fits.whole_levels l in rw (ap (λ (x : Staged). x.levels.items) rest, count) w;
 }
   where
     count : now.count ≡ s.count

@@ -6,6 +6,7 @@ pub mod Marks
 pub mod Touching
 pub mod Showing
 pub mod Patch
+pub mod Columns
 pub mod Prepared
 pub mod Patching
 pub mod Placing

@@ -1,18 +1,11 @@
 -- The parts of a commit, for the clauses of the code that makes it.
-use Rattle.std.specs.Prelude.{◌≡◌, ℕ, ◌<◌, List, length, slice_index_or, Bool, Option, unwrap_or}
+use Rattle.std.specs.Prelude.{◌≡◌, ℕ, ◌<◌, List, length, slice_index_or, Option, unwrap_or}
 use Rattle.sv8_phys.specs.Memory.{ram_size}
 use Rattle.sv8_phys.specs.Contents.{Contents}
 use Rattle.sv8_notes.specs.declared.kept.Kept.{Kept}
 use Rattle.sv8_cpu.specs.State.{State}
 use Rattle.sv8_trace.specs.declared.interval.Interval.{Interval}
 use Rattle.sv8_trace.specs.Recording.{blank}
-use Rattle.sv8_trace.specs.Prepared.{placed_pages, placed_levels}
-
-abbrev pub placed_pages_in : List (Option (List (List ℕ))) → ℕ → State → State
-placed_pages_in columns i s = record s { memory = record s.memory { ram = placed_pages 0 columns i s.memory.ram } }
-
-abbrev pub placed_levels_in : List (Option (List Bool)) → ℕ → State → State
-placed_levels_in columns i s = record s { memory = record s.memory { pending = placed_levels 0 columns i s.memory.pending } }
 
 abbrev pub with_kept : Option (List Kept) → Interval → Interval
 with_kept o i = record i { kept = unwrap_or o i.kept }

@@ -1,17 +1,17 @@
 //! The checkpoints of a trace.
 
-ghost use Rattle.std.specs.Prelude.{◌≡◌, ℕ, ◌/◌, ◌<◌, ◌≤◌, ◌++◌, ◌∷◌, [], map, take, length, slice_index_or, false, None, MatchOption, ⊤, IfOk, OnOk, OnErr};
+ghost use Rattle.std.specs.Prelude.{◌≡◌, ℕ, ◌/◌, ◌<◌, ◌≤◌, ◌++◌, ◌∷◌, [], map, take, length, slice_index_or, false, IfOk, OnOk, OnErr};
 ghost use Rattle.sv8_phys.specs.Memory.{ram_size, page_of};
 ghost use Rattle.sv8_trace.specs.Checkpoints.{IsCheckpoint};
 ghost use Rattle.sv8_trace.specs.Recording.{blank};
-ghost use Rattle.sv8_trace.specs.Placing.{placed_pages_in, placed_levels_in, AreSound};
-ghost use Rattle.sv8_trace.specs.Overlaid.{AreFull};
+ghost use Rattle.sv8_trace.specs.Placing.{AreSound};
+ghost use Rattle.sv8_trace.specs.Columns.{overlaid, AreFull, AreColumns};
 
 mod columns;
 mod overlay;
 
 use crate::checkpoint::Checkpoint;
-use crate::points::columns::{copy_levels, copy_pages, cut_levels, cut_pages, put_all};
+use crate::points::columns::{copy_all, cut_all, put_all};
 use crate::points::overlay::{byte_under, level_under, page_under, put_levels, put_pages};
 use std::alloc::{AllocError, Global};
 use std::marker::Model;
@@ -40,14 +40,15 @@ pub(crate) struct Points<const NW: usize, const PAGES: usize> {
 impl<const NW: usize, const PAGES: usize> Model for Points<NW, PAGES> {
     ghost use Rattle.std.specs.Prelude.{List, ◌≤◌};
     ghost use Rattle.sv8_cpu.specs.State.{State};
-    ghost use Rattle.sv8_trace.specs.Overlaid.{taken, all_overlaid, AreIdleFrom, AreOverlaid};
+    ghost use Rattle.sv8_trace.specs.Columns.{AreIdleFrom};
+    ghost use Rattle.sv8_trace.specs.Overlaid.{taken, all_overlaid, AreOverlaid};
 
     ghost Value = { List State };
 
     ghost view = { λ p. all_overlaid p.pages.items p.levels.items 0 (taken p.machines.items) };
 
     ghost invariant = { λ p. (2 ≤ NW) × (NW ≤ 32) × (PAGES ≤ 65536) × AreOverlaid PAGES p.pages.items p.levels.items (taken p.machines.items)
-        × AreIdleFrom p.idle p.pages.items p.levels.items };
+        × AreIdleFrom p.idle p.pages.items × AreIdleFrom p.idle p.levels.items };
 }
 
 impl<const NW: usize, const PAGES: usize> Points<NW, PAGES> {
@@ -214,21 +215,19 @@ impl<const NW: usize, const PAGES: usize> Points<NW, PAGES> {
         ensures sound { AreSound PAGES self.new }
     {
         self.machines.truncate(count);
-        cut_pages(&mut self.pages, count);
-        cut_levels(&mut self.levels, count);
+        cut_all(&mut self.pages, count);
+        cut_all(&mut self.levels, count);
         self.idle = self.idle.min(count);
     }
 
     /// Puts other pages and levels in their places. It takes no memory.
     pub(crate) fn place(&mut self, pages: Vec<Option<PageColumn>>, levels: Vec<Option<LevelColumn>>)
-        requires pages { length pages.items ≡ PAGES }
-        requires levels { length levels.items ≡ 16 }
-        requires none { slice_index_or levels.items 0 None ≡ None }
-        requires whole_pages { (p : ℕ) → MatchOption (slice_index_or pages.items p None) ⊤ (AreFull (length self.old)) }
-        requires whole_levels { (l : ℕ) → MatchOption (slice_index_or levels.items l None) ⊤ (λ c. length c ≡ length self.old) }
+        requires columns { AreColumns PAGES pages.items levels.items }
+        requires full_pages { AreFull (length self.old) pages.items }
+        requires full_levels { AreFull (length self.old) levels.items }
         ensures length { length self.new ≡ length self.old }
         ensures placed { (i : ℕ) → i < length self.old
-            → slice_index_or self.new i blank ≡ placed_levels_in levels.items i (placed_pages_in pages.items i (slice_index_or self.old i blank)) }
+            → slice_index_or self.new i blank ≡ overlaid pages.items levels.items i (slice_index_or self.old i blank) }
         ensures sound { AreSound PAGES self.new }
     {
         put_all(&mut self.pages, pages);
@@ -246,8 +245,8 @@ impl<const NW: usize, const PAGES: usize> Points<NW, PAGES> {
         ensures sound { IfOk result (λ p. AreSound PAGES p) }
     {
         let machines = self.machines.clone()?;
-        let pages = copy_pages(alloc, &self.pages)?;
-        let levels = copy_levels(alloc, &self.levels)?;
+        let pages = copy_all(alloc, &self.pages)?;
+        let levels = copy_all(alloc, &self.levels)?;
         Ok(Points {
             machines,
             pages,

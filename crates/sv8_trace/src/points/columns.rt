@@ -1,7 +1,7 @@
 //! Places for columns, one for each page or level, most of which are empty.
 
-ghost use Rattle.std.specs.Prelude.{◌≡◌, length, map, IfOk};
-ghost use Rattle.sv8_trace.specs.Overlaid.{cut_column, put_over, ArePut};
+ghost use Rattle.std.specs.Prelude.{◌≡◌, length, map, take, option_map, IfOk};
+ghost use Rattle.sv8_trace.specs.Columns.{put_over, ArePut};
 
 use std::alloc::{AllocError, Global};
 use sv8_notes::{LevelColumn, PageColumn};
@@ -28,92 +28,86 @@ pub(crate) fn put_all<T: Drop>(places: &mut Vec<Option<T>>, columns: Vec<Option<
     }
 }
 
-/// Leaves the first checkpoints in a column.
-fn cut_page(place: &mut Option<PageColumn>, count: usize)
-    ensures { place.new ≡ cut_column count place.old }
+/// What has a part of each checkpoint, from that of step 0 on.
+pub(crate) trait Column: Drop {
+    ghost use Rattle.std.specs.Prelude.{◌≡◌, ℕ, IfOk};
+
+    ghost cut: { ℕ → Self → Self };
+
+    /// Leaves the first checkpoints.
+    fn cut(&mut self, count: usize)
+        ensures { self.new ≡ cut count self.old };
+
+    /// The same once more, which shares what can be shared.
+    fn twin(&self, alloc: Global) -> Result<Self, AllocError>
+        ensures { IfOk result (λ c. c ≡ self.now) };
+}
+
+impl Column for PageColumn {
+    ghost cut = { take };
+
+    fn cut(&mut self, count: usize) {
+        self.truncate(count);
+    }
+
+    fn twin(&self, alloc: Global) -> Result<Self, AllocError> {
+        self.copy(alloc)
+    }
+}
+
+impl Column for LevelColumn {
+    ghost cut = { take };
+
+    fn cut(&mut self, count: usize) {
+        self.truncate(count);
+    }
+
+    fn twin(&self, _alloc: Global) -> Result<Self, AllocError> {
+        self.copy()
+    }
+}
+
+/// Leaves the first checkpoints in a column, if there is one.
+fn cut<C: Column>(place: &mut Option<C>, count: usize)
+    ensures { place.new ≡ option_map (C.cut count) place.old }
 {
     if let Some(column) = place {
-        column.truncate(count);
+        column.cut(count);
     }
 }
 
 /// Leaves the first checkpoints in each column.
-pub(crate) fn cut_pages(places: &mut Vec<Option<PageColumn>>, count: usize)
-    ensures { places.new.items ≡ map (cut_column count) places.old.items }
+pub(crate) fn cut_all<C: Column>(places: &mut Vec<Option<C>>, count: usize)
+    ensures { places.new.items ≡ map (option_map (C.cut count)) places.old.items }
 {
     for index in 0..places.len() {
-        cut_page(&mut places[index], count);
-    }
-}
-
-/// Leaves the first checkpoints in a column.
-fn cut_level(place: &mut Option<LevelColumn>, count: usize)
-    ensures { place.new ≡ cut_column count place.old }
-{
-    if let Some(column) = place {
-        column.truncate(count);
-    }
-}
-
-/// Leaves the first checkpoints in each column.
-pub(crate) fn cut_levels(places: &mut Vec<Option<LevelColumn>>, count: usize)
-    ensures { places.new.items ≡ map (cut_column count) places.old.items }
-{
-    for index in 0..places.len() {
-        cut_level(&mut places[index], count);
+        cut(&mut places[index], count);
     }
 }
 
 /// A column once more, if there is one.
-fn copy_page(alloc: Global, place: &Option<PageColumn>) -> Result<Option<PageColumn>, AllocError>
+fn copy<C: Column>(alloc: Global, place: &Option<C>) -> Result<Option<C>, AllocError>
     ensures { IfOk result (λ o. o ≡ place.now) }
 {
     match place {
         None => Ok(None),
         Some(column) => {
-            let copy = column.copy(alloc)?;
-            Ok(Some(copy))
-        }
-    }
-}
-
-/// The same columns once more, which share their pages.
-pub(crate) fn copy_pages(
-    alloc: Global,
-    places: &[Option<PageColumn>],
-) -> Result<Vec<Option<PageColumn>>, AllocError>
-    ensures { IfOk result (λ v. v.items ≡ places.now) }
-{
-    let mut copies = Vec::with_capacity(alloc, places.len())?;
-    for place in places {
-        copies.push(copy_page(alloc, place)?)?;
-    }
-    Ok(copies)
-}
-
-/// A column once more, if there is one.
-fn copy_level(place: &Option<LevelColumn>) -> Result<Option<LevelColumn>, AllocError>
-    ensures { IfOk result (λ o. o ≡ place.now) }
-{
-    match place {
-        None => Ok(None),
-        Some(column) => {
-            let copy = column.copy()?;
-            Ok(Some(copy))
+            let twin = column.twin(alloc)?;
+            Ok(Some(twin))
         }
     }
 }
 
 /// The same columns once more.
-pub(crate) fn copy_levels(
+pub(crate) fn copy_all<C: Column>(
     alloc: Global,
-    places: &[Option<LevelColumn>],
-) -> Result<Vec<Option<LevelColumn>>, AllocError>
+    places: &[Option<C>],
+) -> Result<Vec<Option<C>>, AllocError>
     ensures { IfOk result (λ v. v.items ≡ places.now) }
 {
     let mut copies = Vec::with_capacity(alloc, places.len())?;
     for place in places {
-        copies.push(copy_level(place)?)?;
+        copies.push(copy(alloc, place)?)?;
     }
     Ok(copies)
 }

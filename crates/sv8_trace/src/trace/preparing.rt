@@ -13,7 +13,7 @@ ghost use Rattle.sv8_notes.specs.Steps.{IsFirstBelow};
 ghost use Rattle.sv8_cpu.specs.Recorded.{machine, get, put};
 ghost use Rattle.sv8_trace.specs.Patch.{change_of, changes_of, IsPatch};
 ghost use Rattle.sv8_trace.specs.Recording.{Recording, blank, no_interval, recorded, trace_of};
-ghost use Rattle.sv8_trace.specs.Prepared.{list_at, placed, prepared_trace, IsPreparedFor, IsPageColumn, Near};
+ghost use Rattle.sv8_trace.specs.Prepared.{list_at, placed, prepared_trace, IsPreparedFor, Near};
 ghost use Rattle.sv8_trace.specs.Patching.{IsFirstWrite, KeptPut, PointsSet, RaisedAt};
 
 use crate::patch::{Cause, Patch};

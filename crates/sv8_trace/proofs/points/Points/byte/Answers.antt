@@ -1,6 +1,7 @@
-use Rattle.std.proofs.Common.{rules, vec_len, ◌≡◌, ◌<◌, ◌/◌, length, get_or, ap, refl, ◌∙◌, arith}
+use Rattle.std.proofs.Common.{rules, vec_len, ◌≡◌, ◌<◌, ◌/◌, ◌%◌, unwrap_or, option_map, length, get_or, ap, refl, ◌∙◌, arith}
 use Rattle.sv8_trace.specs.Recording.{blank}
-use Rattle.sv8_trace.specs.Overlaid.{live, byte_over, taken}
+use Rattle.sv8_trace.specs.Columns.{item}
+use Rattle.sv8_trace.specs.Overlaid.{taken}
 use Rattle.sv8_trace.proofs.Preparing.{slot_is}
 use Rattle.sv8_trace.proofs.Overlays.{there, in_taken, taken_at, byte_is_seen}
 use Rattle.sv8_trace.proofs.points.Points.byte.Goals as goal
@@ -19,8 +20,8 @@ returns g c =
     let i = c.args.index in
     let fits = c.self.invariant.3 in
     let here = there ps ls ms c.args.self.now i c.self.view_is c.requires.index in
-    let place : c.args.address / 4096 < length ps = omega (arith, fits.pages_count, c.requires.address) in
+    let place : c.args.address / 4096 < length ps = omega (arith, fits.columns.pages_count, c.requires.address) in
     let column = slot_is ps (c.args.address / 4096) c.index-column.result.now c.index-column.result.now place c.index-column.ensures refl in
-    c.byte_under.ensures ∙ ap (λ s. byte_over i c.args.address (live i c.index-column.result.now) (get_or s.memory.ram c.args.address 0)) c.deref-taken.ensures
+    c.byte_under.ensures ∙ ap (λ s. unwrap_or (option_map (λ page. get_or page (c.args.address % 4096) 0) (item i c.index-column.result.now)) (get_or s.memory.ram c.args.address 0)) c.deref-taken.ensures
     ∙ byte_is_seen g.row.PAGES ps ls (taken ms) fits i (in_taken ms i here) c.index.result.now.value (taken_at ms i c.index.result.now here c.index.ensures) c.args.address c.index-column.result.now column
     ∙ ap (λ points. get_or (get_or points i blank).memory.ram c.args.address 0) c.self.view_is

@@ -1,7 +1,8 @@
-use Rattle.std.proofs.Common.{rules, vec_len, ◌≡◌, ◌<◌, ◌/◌, length, get_or, ap, refl, ◌∙◌, arith}
+use Rattle.std.proofs.Common.{rules, vec_len, ◌≡◌, ◌<◌, ◌/◌, unwrap_or, length, get_or, ap, refl, ◌∙◌, arith}
 use Rattle.sv8_phys.specs.Memory.{page_of}
 use Rattle.sv8_trace.specs.Recording.{blank}
-use Rattle.sv8_trace.specs.Overlaid.{live, page_over, taken}
+use Rattle.sv8_trace.specs.Columns.{item}
+use Rattle.sv8_trace.specs.Overlaid.{taken}
 use Rattle.sv8_trace.proofs.Preparing.{slot_is}
 use Rattle.sv8_trace.proofs.Overlays.{there, in_taken, taken_at, page_is_seen}
 use Rattle.sv8_trace.proofs.points.Points.page.Goals as goal
@@ -22,8 +23,8 @@ returns g c =
     let here = there ps ls ms c.args.self.now i c.self.view_is c.requires.index in
     let p = c.args.address / 4096 in
     let below : c.args.address / 4096 < g.row.PAGES = omega (arith, c.requires.address) in
-    let place : c.args.address / 4096 < length ps = omega (arith, fits.pages_count, below) in
+    let place : c.args.address / 4096 < length ps = omega (arith, fits.columns.pages_count, below) in
     let column = slot_is ps p c.index-column.result.now c.index-column.result.now place c.index-column.ensures refl in
-    c.in_ok-page.ensures ∙ ap (λ s. page_over i (live i c.index-column.result.now) (page_of s.memory.ram p)) c.deref-taken.ensures
+    c.in_ok-page.ensures ∙ ap (λ s. unwrap_or (item i c.index-column.result.now) (page_of s.memory.ram p)) c.deref-taken.ensures
     ∙ page_is_seen g.row.PAGES ps ls (taken ms) fits i (in_taken ms i here) c.index.result.now.value (taken_at ms i c.index.result.now here c.index.ensures) p below c.index-column.result.now column
     ∙ ap (λ points. page_of (get_or points i blank).memory.ram p) c.self.view_is

@@ -20,6 +20,7 @@ invariant_of-self-2 g c =
       pushed_fits g.row.PAGES c.self.inside.pages.items c.self.inside.levels.items (taken c.self.inside.machines.items) (taken c.push.new.self.items) c.in_ok-machine.machine.value inv.3 more
           (sound_of g.row.PAGES c.args.machine c.in_ok-machine.machine.value c.in_ok-machine.ensures.ok c.ram_size-size.ensures.contents),
       inv.4,
+      inv.5,
     )
 
 pub returns-clause-pushed : goal.returns-clause-pushed

@@ -1,6 +1,7 @@
 use Rattle.std.proofs.Common.{rules, refl, vec_len, ◌≡◌, ◌-◌, length, take, drop, get_or, ap, ◌∙◌, arith}
 use Rattle.sv8_trace.specs.Recording.{blank}
-use Rattle.sv8_trace.specs.Overlaid.{pages_from, taken}
+use Rattle.sv8_trace.specs.Columns.{pages_from}
+use Rattle.sv8_trace.specs.Overlaid.{taken}
 use Rattle.sv8_trace.proofs.Overlays.{there, idle_is, in_taken, taken_at, snapshot_is, all_but_first}
 use Rattle.sv8_trace.proofs.points.Points.snapshot.Goals as goal
 
@@ -18,7 +19,7 @@ returns-then-self-index g c =
     let i = c.args.index in
     let here = there ps ls ms c.args.self.now i c.self.view_is c.requires in
     c.in_ok-machine.ensures ∙ c.deref-taken.ensures ∙ taken_at ms i c.index.result.now here c.index.ensures
-    ∙ idle_is g.row.PAGES ps ls (taken ms) c.self.inside.idle i _ c.self.invariant.3 c.self.invariant.4 c.if-self-index.true (in_taken ms i here) refl
+    ∙ idle_is g.row.PAGES ps ls (taken ms) c.self.inside.idle i _ c.self.invariant.3 c.self.invariant.4 c.self.invariant.5 c.if-self-index.true (in_taken ms i here) refl
     ∙ ap (λ points. get_or points i blank) c.self.view_is
 
 pub returns : goal.returns

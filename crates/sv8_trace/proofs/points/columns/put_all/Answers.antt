@@ -1,5 +1,5 @@
 use Rattle.std.proofs.Common.{rules, arith, ◌<◌, None, ap, length, length-append, length-set, append_assoc}
-use Rattle.sv8_trace.specs.Overlaid.{put_over}
+use Rattle.sv8_trace.specs.Columns.{put_over}
 use Rattle.sv8_trace.proofs.Committing.{more_put}
 use Rattle.sv8_trace.proofs.points.columns.put_all.Goals as goal
 

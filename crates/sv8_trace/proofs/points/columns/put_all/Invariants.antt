@@ -1,5 +1,5 @@
 use Rattle.std.proofs.Common.{◌≡◌, ◌++◌, ℕ, None, length, get_or, cond, ltb}
-use Rattle.sv8_trace.specs.Overlaid.{put_over}
+use Rattle.sv8_trace.specs.Columns.{put_over}
 use Rattle.sv8_trace.proofs.points.columns.put_all.Given as goal
 
 abbrev pub invariant-loop-column : goal.invariant-loop-column

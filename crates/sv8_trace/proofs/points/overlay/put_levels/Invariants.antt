@@ -1,5 +1,5 @@
 use Rattle.std.proofs.Common.{◌≡◌, ◌+◌, ◌≤◌, length}
-use Rattle.sv8_trace.specs.Overlaid.{levels_from}
+use Rattle.sv8_trace.specs.Columns.{levels_from}
 use Rattle.sv8_trace.proofs.points.overlay.put_levels.Given as goal
 
 abbrev pub invariant-loop-rest : goal.invariant-loop-rest

@@ -1,5 +1,5 @@
 use Rattle.std.proofs.Common.{◌≡◌, ◌+◌, length}
-use Rattle.sv8_trace.specs.Overlaid.{pages_from}
+use Rattle.sv8_trace.specs.Columns.{pages_from}
 use Rattle.sv8_trace.proofs.points.overlay.put_pages.Given as goal
 
 abbrev pub invariant-loop-rest : goal.invariant-loop-rest

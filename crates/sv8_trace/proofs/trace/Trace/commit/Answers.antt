@@ -1,8 +1,9 @@
-use Rattle.std.proofs.Common.{ap, sym, subst, arith}
+use Rattle.std.proofs.Common.{◌≡◌, suc, length, ap, sym, subst, arith}
 use Rattle.sv8_trace.specs.declared.prepared.Staged.{Staged}
 use Rattle.sv8_trace.specs.Recording.{Recording}
+use Rattle.sv8_trace.specs.Columns.{AreFull}
 use Rattle.sv8_trace.specs.Prepared.{IsPreparedFor, IsPlaced}
-use Rattle.sv8_trace.proofs.Committing.{placed_is, count_left, full_pages, full_levels}
+use Rattle.sv8_trace.proofs.Committing.{placed_is, count_left}
 use Rattle.sv8_trace.proofs.trace.Trace.commit.Goals as goal
 
 pub place-requires : goal.place-requires
@@ -13,7 +14,8 @@ place-requires g c =
     let staged : Staged = record { count = c.prepared.inside.count; pages = c.prepared.inside.pages; levels = c.prepared.inside.levels; kept = c.prepared.inside.kept } in
     let fits = subst (IsPreparedFor g.row.PAGES r) (sym c.prepared.view_is) c.requires in
     let n = count_left g.row.PAGES r staged fits c.self.inside.points c.truncate.new.self c.self.inside.intervals.items intervals inv.5 c.truncate.ensures.first in
-    (omega arith, (fits.pages_count, (fits.levels_count, (fits.no_level, (full_pages g.row.PAGES r staged fits _ n, full_levels g.row.PAGES r staged fits _ n)))))
+    let count : suc staged.count ≡ length c.truncate.new.self = omega (arith, n) in
+    (omega arith, (fits.columns, (subst (λ m. AreFull m staged.pages.items) count fits.full_pages, subst (λ m. AreFull m staged.levels.items) count fits.full_levels)))
 
 pub returns : goal.returns
 returns g c =
