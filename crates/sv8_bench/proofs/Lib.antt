@@ -5,4 +5,3 @@ pub mod Alike
 pub mod Edited
 pub mod Walking
 pub mod Together
-pub mod Untouched

@@ -4,5 +4,4 @@ pub mod Shown
 pub mod Workbench
 pub mod Alike
 pub mod Walks
-pub mod Touching
 pub mod Edits

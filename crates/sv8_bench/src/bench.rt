@@ -18,7 +18,6 @@ mod edits;
 mod lockstep;
 mod patches;
 mod queries;
-mod touching;
 mod walks;
 
 use crate::bench::affected::{Affected, commit, prepare};
@@ -166,6 +165,13 @@ impl<const NW: usize, const PAGES: usize, const K: u32> Bench<NW, PAGES, K> {
         ensures { result.now ≡ self.now.kept.timeline }
     {
         &self.timeline
+    }
+
+    /// The recorded run, as far as it goes. What it shows of a step needs none to be made.
+    pub fn trace(&self) -> &Trace<NW, PAGES, K>
+        ensures { result.now ≡ self.now.recording }
+    {
+        &self.trace
     }
 
     /// The sizes that its type names: nothing is done, but what is known of every workbench is known of this one.

@@ -12,5 +12,4 @@ pub use shown::Shown;
 pub use sv8_cpu::Mmu;
 pub use sv8_phys::Timer;
 pub use sv8_source::{DefinedName, Listed, NameKind};
-pub use sv8_trace::{Checkpoint, Sign};
 pub use walk::Walk;

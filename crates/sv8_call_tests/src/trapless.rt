@@ -3,8 +3,10 @@
 use crate::untouched::{Small, TRANSLATES, workbench};
 use std::alloc::Global;
 use std::test::Fail;
-use sv8_bench::{BenchFault, Sign};
+use sv8_bench::BenchFault;
 use sv8_phys::Watch;
+use sv8_search::{checkpoint, flag_shown, shows_none};
+use sv8_trace::Sign;
 
 /// A program that takes a trap in step 4, whose handler goes back in steps 5 and 6. Its first line is `wr %g0, 0xa0, %psr`,
 /// which enables traps.
@@ -134,7 +136,7 @@ const ENDED: [Read; 4] = [
 fn answers(bench: &Small, ranges: &[Range]) -> bool {
     let mut holds = true;
     for &(from, to, due) in ranges {
-        holds = holds && bench.shows_none(Sign::Trap, from, to) == due;
+        holds = holds && shows_none(bench, Sign::Trap, from, to) == due;
     }
     holds
 }
@@ -143,7 +145,7 @@ fn answers(bench: &Small, ranges: &[Range]) -> bool {
 fn answers_types(bench: &Small, ranges: &[TypedRange]) -> bool {
     let mut holds = true;
     for &(trap_type, from, to, due) in ranges {
-        holds = holds && bench.shows_none(Sign::TrapType(trap_type), from, to) == due;
+        holds = holds && shows_none(bench, Sign::TrapType(trap_type), from, to) == due;
     }
     holds
 }
@@ -156,7 +158,7 @@ fn flags(bench: &Small, flagged: &[Flagged]) -> bool {
     let mut holds = true;
     for &(sign, first, due) in flagged {
         let mut flags = [first; 4];
-        bench.flag_shown(sign, 4, &mut flags);
+        flag_shown(bench, sign, 4, &mut flags);
         holds = holds && flags == due;
     }
     holds
@@ -164,7 +166,7 @@ fn flags(bench: &Small, flagged: &[Flagged]) -> bool {
 
 /// What is read of the checkpoint of a step.
 fn read(bench: &Small, step: u32) -> Option<(bool, u32, usize)> {
-    match bench.checkpoint(step) {
+    match checkpoint(bench, step) {
         Some(it) if it.output_end.piece == 0 => {
             Some((it.running, it.taken, it.output_end.place))
         }

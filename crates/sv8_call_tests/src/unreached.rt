@@ -5,6 +5,7 @@ use std::alloc::{AllocError, Global};
 use std::test::Fail;
 use sv8_bench::BenchFault;
 use sv8_phys::Watch;
+use sv8_search::is_unreached;
 
 /// A program that turns translation on in step 7, the last one of its interval, and off in step 8. One entry, at 400
 /// (hexadecimal), maps each address to itself.
@@ -86,7 +87,7 @@ const NEVER_TURNED: [Range; 2] = [(0x200, 0, 16, true), (0x20, 0, 9, false)];
 fn answers(bench: &Small, ranges: &[Range]) -> bool {
     let mut holds = true;
     for &(address, from, to, due) in ranges {
-        let told = bench.is_unreached(u32::from(address), from, to);
+        let told = is_unreached(bench, u32::from(address), from, to);
         holds = holds && told == due;
     }
     holds

@@ -4,6 +4,7 @@ use std::alloc::Global;
 use std::test::Fail;
 use sv8_bench::{Bench, BenchFault};
 use sv8_phys::TouchKind;
+use sv8_search::is_untouched;
 
 /// A machine with one page of RAM, and a checkpoint every four steps.
 pub(crate) type Small = Bench<8, 1, 4>;
@@ -115,7 +116,7 @@ pub(crate) fn workbench(alloc: Global, texts: &[&[u8]]) -> Result<Small, Fail> {
 fn answers(bench: &Small, kind: TouchKind, ranges: &[Range]) -> bool {
     let mut holds = true;
     for &(address, count, from, to, due) in ranges {
-        let told = bench.is_untouched(kind, u32::from(address), u32::from(count), from, to);
+        let told = is_untouched(bench, kind, u32::from(address), u32::from(count), from, to);
         holds = holds && told == due;
     }
     holds

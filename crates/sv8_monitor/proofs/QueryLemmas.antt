@@ -1,28 +1,12 @@
 -- Lemmas on answers to questions about one workbench.
-use Rattle.std.proofs.Common.{◌≡◌, ℕ, ◌+◌, ◌-◌, ◌<◌, ◌≤◌, ◌⊎◌, Bool, true, false, ◌&&◌, leb, ltb, List, [], take, drop, Some, None, refl, inl, inr, arith, tests}
+use Rattle.std.proofs.Common.{◌≡◌, ℕ, ◌+◌, ◌-◌, ◌<◌, ◌≤◌, ◌⊎◌, Bool, true, false, ◌&&◌, leb, ltb, List, [], take, drop, refl, inl, inr, arith, tests}
 use Rattle.sv8_time.specs.Schedule.{Schedule}
 use Rattle.sv8_source.specs.Listing.{ListedLine}
-use Rattle.sv8_bench.specs.declared.fault.BenchFault.TheVariants.{StepTooLarge}
 use Rattle.sv8_commands.specs.Text.{numbered_text}
 use Rattle.sv8_shell.specs.Text.{listing_line}
-use Rattle.sv8_monitor.specs.Comparing.{range_refusal}
 use Rattle.sv8_monitor.specs.Events.{events_text}
 
--- ---- ranges of steps
-
-pub range-right : (from to : ℕ) → from ≤ 1000000 → to ≤ 1000000 → range_refusal from to ≡ None
-range-right from to p q =
-    let first : ltb 1000000 from ≡ false = search (arith, tests) in
-    let second : ltb 1000000 to ≡ false = search (arith, tests) in
-    rw (first, second) refl
-
--- the second one is looked at where the first one is right
-pub range-wrong : (from to : ℕ) → (1000000 < from) ⊎ ((from ≤ 1000000) × (1000000 < to)) → range_refusal from to ≡ Some StepTooLarge
-range-wrong from to (inl p) = let first : ltb 1000000 from ≡ true = search (arith, tests) in rw first refl
-range-wrong from to (inr (p, q)) =
-    let first : ltb 1000000 from ≡ false = search (arith, tests) in
-    let second : ltb 1000000 to ≡ true = search (arith, tests) in
-    rw (first, second) refl
+-- ---- events
 
 -- no step is above its end
 pub events-none : (s : Schedule) (from to : ℕ) → to ≤ from → events_text s from to ≡ []

@@ -3,9 +3,8 @@ use Rattle.std.specs.Prelude.{ℕ, ◌+◌, ◌-◌, ◌*◌, Bool, true, false,
 use Rattle.sv8_mmu.specs.Place.{place_of}
 use Rattle.sv8_source.specs.Listing.{listing}
 use Rattle.sv8_source.specs.Names.{names}
-use Rattle.sv8_watch.specs.declared.condition.Condition.{Condition}
 use Rattle.sv8_bench.specs.declared.fault.BenchFault.{BenchFault}
-use Rattle.sv8_bench.specs.declared.fault.BenchFault.TheVariants.{NoSuchLine, BadAddress}
+use Rattle.sv8_bench.specs.declared.fault.BenchFault.TheVariants.{NoSuchLine}
 use Rattle.sv8_bench.specs.Faults.{step_refusal}
 use Rattle.sv8_bench.specs.Kept.{Kept}
 use Rattle.sv8_bench.specs.Shown.{machine_state}
@@ -14,21 +13,12 @@ use Rattle.sv8_commands.specs.Text.{numbered_text}
 use Rattle.sv8_shell.specs.Text.{listing_line}
 use Rattle.sv8_monitor.specs.declared.question.Query.{Query}
 use Rattle.sv8_monitor.specs.declared.question.Query.TheVariants.{Steps, Windows, Where, Lines, Names, Events}
-use Rattle.sv8_monitor.specs.Search.{are_inside, found_at, steps_told}
-use Rattle.sv8_monitor.specs.Comparing.{range_refusal, differences}
+use Rattle.sv8_search.specs.Search.{found_at, steps_refusal, steps_told}
+use Rattle.sv8_search.specs.Comparing.{range_refusal, differences}
 use Rattle.sv8_monitor.specs.Events.{events_text}
 use Rattle.sv8_monitor.specs.Texts.{steps_text, windows_text, place_text, names_text, differences_text}
 
 -- ---- refusals
-
-abbrev pub if_none : Option BenchFault → Option BenchFault → Option BenchFault
-if_none (Some fault) other = Some fault
-if_none None other = other
-
--- both steps are looked at first
-abbrev pub steps_refusal : ℕ → ℕ → List Condition → Kept → Option BenchFault
-steps_refusal from to conditions k =
-    if_none (step_refusal from) (if_none (step_refusal to) (if are_inside (4096 * k.pages) conditions then None else Some BadAddress))
 
 -- lines that are there, or none in front of one or behind the last
 abbrev pub are_lines : ℕ → ℕ → Kept → Bool

@@ -1,10 +1,7 @@
 pub mod Conditions
 pub mod Questions
-pub mod Search
-pub mod Plans
 pub mod Texts
 pub mod Events
-pub mod Comparing
 pub mod Answers
 pub mod Pair
 pub mod Session

@@ -21,7 +21,7 @@ use Rattle.sv8_monitor.specs.declared.question.Question.{Question}
 use Rattle.sv8_monitor.specs.declared.question.Question.TheVariants.{Now, Before, BeforeCommand, Keep, Part, Differ}
 use Rattle.sv8_monitor.specs.Questions.{question_of}
 use Rattle.sv8_monitor.specs.Answers.{query_outcome, differ_outcome}
-use Rattle.sv8_monitor.specs.Comparing.{range_refusal, IsParted}
+use Rattle.sv8_search.specs.Comparing.{range_refusal, IsParted}
 use Rattle.sv8_monitor.specs.Texts.{parted_text}
 use Rattle.sv8_monitor.specs.Pair.{Pair}
 

@@ -14,10 +14,10 @@ use Rattle.sv8_mmu.specs.TableLevels.{level_number}
 use Rattle.sv8_source.specs.Names.{Named}
 use Rattle.sv8_source.specs.declared.names.NameKind.{NameKind}
 use Rattle.sv8_source.specs.declared.names.NameKind.TheVariants as name_kind
-use Rattle.sv8_monitor.specs.declared.difference.Difference.{Difference}
+use Rattle.sv8_search.specs.declared.difference.Difference.{Difference}
 use Rattle.sv8_regs.specs.Ring.{Registers, read}
 use Rattle.sv8_commands.specs.Text.{hex_digit, hex_byte, hex_word, numbered_text}
-use Rattle.sv8_monitor.specs.declared.found.Found.{Found}
+use Rattle.sv8_search.specs.declared.found.Found.{Found}
 
 -- ---- a step
 

@@ -1,25 +1,20 @@
 //! The answer to each question of one workbench.
 
-ghost use Rattle.std.specs.Prelude.{◌≡◌, ℕ, ◌+◌, ◌-◌, ◌*◌, ◌<◌, ◌≤◌, ◌++◌, length, map, true, OnOk, OnErr, IfOk, IfErr, IfSome, None};
+ghost use Rattle.std.specs.Prelude.{◌≡◌, ◌+◌, ◌-◌, ◌<◌, ◌≤◌, ◌++◌, map, true};
 ghost use Rattle.sv8_source.specs.View.{named_of};
-ghost use Rattle.sv8_bench.specs.Faults.{step_refusal, IsQueryFault};
-ghost use Rattle.sv8_bench.specs.Workbench.{IsAnswered};
 ghost use Rattle.sv8_session.specs.Put.{Puts};
 ghost use Rattle.sv8_shell.specs.Put.{Replies};
 ghost use Rattle.sv8_commands.specs.Text.{ok_line};
-ghost use Rattle.sv8_monitor.specs.Answers.{steps_refusal, are_lines, lines_told, query_outcome};
+ghost use Rattle.sv8_monitor.specs.Answers.{are_lines, lines_told, query_outcome};
 ghost use Rattle.sv8_monitor.specs.Events.{events_text};
-ghost use Rattle.sv8_monitor.specs.Search.{found_at, steps_told, are_inside};
-ghost use Rattle.sv8_monitor.specs.Texts.{steps_text, windows_text, place_text, names_text};
+ghost use Rattle.sv8_monitor.specs.Texts.{windows_text, place_text, names_text};
 ghost use Rattle.sv8_monitor.specs.declared.question.Query.TheVariants.{Steps, Windows, Where, Lines, Names, Events};
 
 use crate::conditions::Conditions;
 use crate::event_lines::put_events;
-use crate::found::Found;
 use crate::lines::{add_place, put_names};
-use crate::piece::put_pieces;
+use crate::piece::tell_pieces;
 use crate::question::Query;
-use crate::search::steps;
 use crate::window_lines::put_windows;
 use std::io::Write;
 use sv8_bench::{Bench, BenchFault, DefinedName, LAST_STEP};
@@ -27,6 +22,7 @@ use sv8_commands::put::{WriteFault, accept, done, refuse};
 use sv8_commands::text::Text;
 use sv8_cpu::Place;
 use sv8_regs::Regs;
+use sv8_search::steps;
 use sv8_shell::listing::add_lines;
 use sv8_shell::refusal::refusal_of;
 use sv8_time::Timeline;
@@ -66,18 +62,8 @@ fn answer_steps<const NW: usize, const PAGES: usize, const K: u32, W: Write>(
         (query_outcome (Steps from to count conditions) bench.old.kept) bench.new.kept }
 {
     match steps(bench, from, to, count, conditions.as_slice()) {
-        Ok(found) => tell_steps(writer, found.as_slice()),
+        Ok(found) => tell_pieces(writer, found.as_slice()),
         Err(fault) => refuse(writer, refusal_of(fault)),
-    }
-}
-
-fn tell_steps<W: Write>(writer: &mut W, found: &[Found]) -> Result<(), WriteFault>
-    ensures { Puts result (W.contents writer.old) (W.contents writer.new) (steps_text found.now ++ ok_line) }
-{
-    let mut text = Text::new();
-    match put_pieces(writer, &mut text, found) {
-        Ok(()) => accept(writer, &mut text),
-        Err(fault) => Err(fault),
     }
 }
 

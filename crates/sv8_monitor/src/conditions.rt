@@ -1,6 +1,6 @@
 //! Conditions on steps, and how words read as them.
 
-ghost use Rattle.std.specs.Prelude.{◌≡◌, ℕ, ◌+◌, ◌-◌, ◌<◌, ◌≤◌, ◌++◌, ◌∷◌, [], List, length, Some, None, MatchResult, MatchOption};
+ghost use Rattle.std.specs.Prelude.{◌≡◌, ◌+◌, ◌-◌, ◌<◌, ◌≤◌, ◌++◌, ◌∷◌, [], List, length, Some, None, MatchResult};
 ghost use Rattle.sv8_commands.specs.Words.{words_of};
 ghost use Rattle.sv8_monitor.specs.Conditions.{first_up_to, first_span, pc_of, load_of, store_of, touch_of, change_of, trap_type_of, every_of, condition_of, conditions_of};
 

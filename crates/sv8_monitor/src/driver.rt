@@ -1,5 +1,5 @@
 //! A run: reads a script to its end, and writes the answers.
-ghost use Rattle.std.specs.Prelude.{◌≡◌, OnOk, IfSome};
+ghost use Rattle.std.specs.Prelude.{OnOk, IfSome};
 ghost use Rattle.sv8_session.specs.Script.{lines_within, IsTooLong};
 ghost use Rattle.sv8_session.specs.Run.{OnRead, OnWrite, OnTooMany};
 ghost use Rattle.sv8_monitor.specs.Session.{kept_of, orders_in, orders_of, EndsByQuit, HasNoQuit, Answered, AnsweredGiven, Cut};

@@ -6,7 +6,6 @@ ghost use Rattle.sv8_commands.specs.Put.{Gains};
 ghost use Rattle.sv8_commands.specs.Text.{hex_word};
 ghost use Rattle.sv8_monitor.specs.Texts.{page_text, place_text, name_kind_text, name_line, names_text, parted_text, difference_line};
 
-use crate::difference::Difference;
 use crate::piece::Piece;
 use crate::step_lines::add_physical;
 use std::io::Write;
@@ -14,6 +13,7 @@ use sv8_bench::{DefinedName, NameKind};
 use sv8_commands::put::{WriteFault, add_all};
 use sv8_commands::text::{Text, hex_word};
 use sv8_cpu::{PagePlace, Place};
+use sv8_search::Difference;
 
 /// The level of an entry, and its access field.
 fn add_page(text: &mut Text, page: Option<PagePlace>)

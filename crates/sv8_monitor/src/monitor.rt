@@ -11,14 +11,12 @@ ghost use Rattle.sv8_commands.specs.Text.{ok_line};
 ghost use Rattle.sv8_monitor.specs.Answers.{differ_outcome};
 ghost use Rattle.sv8_monitor.specs.Questions.{asks, is_answerable};
 ghost use Rattle.sv8_monitor.specs.Session.{Both, Order, ask, begins_read, kept_of, language, new_pair, shell};
-ghost use Rattle.sv8_monitor.specs.Texts.{parted_text, differences_text};
+ghost use Rattle.sv8_monitor.specs.Texts.{parted_text};
 ghost use Rattle.sv8_monitor.specs.declared.question.Question.TheVariants.{BeforeCommand, Keep, Part, Differ};
 
 use crate::answers::answer_query;
-use crate::compare::{differ, part};
-use crate::difference::Difference;
 use crate::lines::add_parted;
-use crate::piece::put_pieces;
+use crate::piece::tell_pieces;
 use crate::question::{Question, parse_question};
 use std::alloc::{AllocError, Global};
 use std::io::Write;
@@ -27,6 +25,7 @@ use sv8_bench::{Bench, BenchFault, LAST_STEP};
 use sv8_commands::put::{WriteFault, accept, done, refuse};
 use sv8_commands::text::Text;
 use sv8_commands::{Command, bad_command};
+use sv8_search::{differ, part};
 use sv8_session::{Begun, Commands};
 use sv8_shell::refusal::refusal_of;
 use sv8_shell::{Effect, Shell, answer, answer_line};
@@ -312,17 +311,7 @@ fn compare_memories<const NW: usize, const PAGES: usize, const K: u32, W: Write>
 {
     now.sizes();
     match differ(now, before, at_now, at_before, count) {
-        Ok(found) => tell_differences(writer, found.as_slice()),
+        Ok(found) => tell_pieces(writer, found.as_slice()),
         Err(fault) => refuse(writer, refusal_of(fault)),
-    }
-}
-
-fn tell_differences<W: Write>(writer: &mut W, differences: &[Difference]) -> Result<(), WriteFault>
-    ensures { Puts result (W.contents writer.old) (W.contents writer.new) (differences_text differences.now ++ ok_line) }
-{
-    let mut text = Text::new();
-    match put_pieces(writer, &mut text, differences) {
-        Ok(()) => accept(writer, &mut text),
-        Err(fault) => Err(fault),
     }
 }

@@ -1,10 +1,12 @@
 //! Pieces of an answer's text, one after the other.
 
+ghost use Rattle.std.specs.Prelude.{◌++◌};
+ghost use Rattle.sv8_session.specs.Put.{Puts};
 ghost use Rattle.sv8_commands.specs.Put.{Gains};
-ghost use Rattle.sv8_commands.specs.Text.{numbered_text};
+ghost use Rattle.sv8_commands.specs.Text.{numbered_text, ok_line};
 
 use std::io::Write;
-use sv8_commands::put::{WriteFault, make_room};
+use sv8_commands::put::{WriteFault, accept, make_room};
 use sv8_commands::text::Text;
 
 /// How long the text of a piece is at most.
@@ -56,4 +58,16 @@ pub fn put_pieces<W: Write, P: Piece>(
         }
     }
     Ok(())
+}
+
+/// Answers the texts of all pieces.
+pub fn tell_pieces<W: Write, P: Piece>(writer: &mut W, pieces: &[P]) -> Result<(), WriteFault>
+    ensures { Puts result (W.contents writer.old) (W.contents writer.new)
+        (numbered_text (λ i p. P.piece_text p) 0 pieces.now ++ ok_line) }
+{
+    let mut text = Text::new();
+    match put_pieces(writer, &mut text, pieces) {
+        Ok(()) => accept(writer, &mut text),
+        Err(fault) => Err(fault),
+    }
 }

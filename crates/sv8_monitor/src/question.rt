@@ -1,6 +1,6 @@
 //! What the monitor is asked, and how a line reads as a question.
 
-ghost use Rattle.std.specs.Prelude.{◌≡◌, ℕ, ◌∷◌, [], List, Some, None, MatchResult, option_and_then, option_map};
+ghost use Rattle.std.specs.Prelude.{◌≡◌, Some, None, MatchResult, option_and_then, option_map};
 ghost use Rattle.sv8_commands.specs.Words.{words_of};
 ghost use Rattle.sv8_commands.specs.Commands.{command_of};
 ghost use Rattle.sv8_monitor.specs.declared.question.Question.TheVariants.{Now};

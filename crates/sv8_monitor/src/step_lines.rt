@@ -4,10 +4,10 @@ ghost use Rattle.std.specs.Prelude.{◌≡◌, ◌+◌, ◌≤◌, ◌++◌, len
 ghost use Rattle.sv8_commands.specs.Text.{hex_byte};
 ghost use Rattle.sv8_monitor.specs.Texts.{physical, fetch_text, outcome_text, kind_text, access_text, byte_text, flag_text, step_place, items_text, step_text};
 
-use crate::found::Found;
 use crate::piece::Piece;
 use sv8_commands::text::{Text, hex_byte, hex_digit};
 use sv8_phys::AccessKind;
+use sv8_search::Found;
 use sv8_watch::{Access, Fetch, Happening, Outcome};
 
 /// A physical address.

@@ -4,9 +4,10 @@ use Rattle.sv8_shell.specs.Refusal.{refusal_of}
 use Rattle.sv8_commands.specs.Text.{ok_line}
 use Rattle.sv8_shell.specs.Outcome.{told, refused}
 use Rattle.sv8_shell.proofs.AnswerLemmas.{reply-done, reply-due}
-use Rattle.sv8_monitor.specs.Comparing.{range_refusal}
+use Rattle.sv8_search.specs.Comparing.{range_refusal}
 use Rattle.sv8_monitor.specs.Events.{events_text}
-use Rattle.sv8_monitor.proofs.QueryLemmas.{range-right, range-wrong, events-none}
+use Rattle.sv8_search.proofs.Faults.{range-right, range-wrong}
+use Rattle.sv8_monitor.proofs.QueryLemmas.{events-none}
 use Rattle.sv8_monitor.proofs.answers.answer_events.Goals as goal
 
 pub returns-then-first-gt-LAST_STEP : goal.returns-then-first-gt-LAST_STEP

@@ -1,5 +1,0 @@
-use Rattle.sv8_bench.specs.Touching.{NonePokes}
-use Rattle.sv8_bench.proofs.bench.touching.pokes_between.Given as goal
-
-abbrev pub invariant-loop-n : goal.invariant-loop-n
-invariant-loop-n l = NonePokes l.timeline l.address l.count l.from l.n

@@ -1,5 +1,0 @@
-use Rattle.sv8_monitor.proofs.Sought.{starts}
-use Rattle.sv8_monitor.proofs.descent.interval_start.Goals as goal
-
-pub returns : goal.returns
-returns g c = starts g.row.K c.args.to c.args.end _ c.requires.some_steps c.requires.ordered c.max.ensures

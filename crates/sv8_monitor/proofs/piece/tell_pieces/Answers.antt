@@ -1,0 +1,7 @@
+use Rattle.std.proofs.Common.{[]}
+use Rattle.sv8_commands.specs.Text.{ok_line}
+use Rattle.sv8_commands.proofs.PutLemmas.{Puts-gained}
+use Rattle.sv8_monitor.proofs.piece.tell_pieces.Goals as goal
+
+pub returns-in-Ok : goal.returns-in-Ok
+returns-in-Ok g c = Puts-gained c.accept.result _ _ _ [] _ _ ok_line (rw c.new-text.ensures at c.in-Ok.ensures) c.accept.ensures

@@ -1,0 +1,15 @@
+pub mod Searching
+pub mod Compared
+pub mod OldBytes
+pub mod Turned
+pub mod Falling
+pub mod Untouched
+pub mod Passed
+pub mod Passing
+pub mod Walked
+pub mod Planning
+pub mod Sought
+pub mod Differing
+pub mod Parting
+pub mod Faults
+pub mod Shown

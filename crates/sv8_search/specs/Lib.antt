@@ -1,0 +1,4 @@
+pub mod Search
+pub mod Comparing
+pub mod Touching
+pub mod Plans
