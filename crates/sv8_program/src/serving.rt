@@ -14,20 +14,6 @@ pub const PAGES: usize = 256;
 /// The steps from one checkpoint of a program to the next.
 pub const CHECKPOINT_STEPS: u32 = 256;
 
-/// Runs a script on what it is lent.
-fn run_on<S: Commands, R: Read, W: Write>(
-    alloc: Global,
-    state: &mut S::State,
-    reader: &mut R,
-    writer: &mut W,
-) -> End
-    ensures run { IsTrue (is_run_end result) }
-    ensures serves { Serves S.language (S.kept state.old) result (R.remaining reader.old) (R.remaining reader.new)
-        (W.contents writer.old) (W.contents writer.new) }
-{
-    end_of(run::<S, R, W>(alloc, state, reader, writer))
-}
-
 /// Runs a script on a new state.
 pub fn serve<S: Commands, R: Read, W: Write>(alloc: Global, reader: &mut R, writer: &mut W) -> End
     requires { S.has_states }
@@ -38,7 +24,7 @@ pub fn serve<S: Commands, R: Read, W: Write>(alloc: Global, reader: &mut R, writ
     let Ok(mut state) = S::new_state(alloc) else {
         return End::Memory;
     };
-    run_on::<S, R, W>(alloc, &mut state, reader, writer)
+    end_of(run::<S, R, W>(alloc, &mut state, reader, writer))
 }
 
 /// Calls `serve` over the number of register windows that was chosen. The commands are a type with three parameters: windows, pages, and steps from

@@ -5,7 +5,7 @@
 
 ghost use Rattle.std.specs.Prelude.{◌≡◌, ℕ, ◌+◌, ◌-◌, ◌*◌, ◌^◌, ◌≤◌, ◌<◌, ◌⊎◌, [], ◌∷◌, ◌++◌, true, false, length, None, Some, IsOk, IfSome, IfOk, MatchResult, Ok, Err, slice_get};
 ghost use Rattle.sv8_asm.specs.Size.{size};
-ghost use Rattle.sv8_source.specs.Edits.{Replaces, Continues, Within};
+ghost use Rattle.sv8_source.specs.Edits.{Within};
 ghost use Rattle.sv8_source.specs.Image.{words};
 ghost use Rattle.sv8_source.specs.Kept.{is_equ, Alike};
 ghost use Rattle.sv8_source.specs.Layout.{start, laid, valued};
@@ -19,7 +19,7 @@ use crate::reading::ReadLine;
 use crate::valued::Behind;
 use std::alloc::{AllocError, Global};
 use std::rc::Rc;
-use sv8_asm::{Symbols, assemble, size_of};
+use sv8_asm::{assemble, size_of};
 use sv8_syntax::{Label, Statement, Stmt};
 
 /// The assembly that an edit leads to, and the words of the image that may differ: those from `first` up to `end`.
@@ -105,25 +105,6 @@ fn words_of(at: u32, count: usize, limit: u32) -> (u64, u64)
     }
 }
 
-/// A line with its bytes that may stand in the place of another one, if this text is such a line.
-fn replacement(
-    alloc: Global,
-    names: &Symbols,
-    number: u32,
-    place: &Placed,
-    text: &[u8],
-) -> Option<(Placed, Vec<u8>)>
-    ensures text { IfSome result (λ x. x.0.text ≡ text.now) }
-    ensures replaces { IfSome result (λ x. Replaces names.now number place.now x.0 x.1.items) }
-{
-    let line = ReadLine::new(alloc, text).ok()?;
-    if !is_alike(place.stmt(), line.stmt(), place.at()) {
-        return None;
-    }
-    let bytes = assemble(alloc, line.stmt(), number, place.at(), names).ok()?;
-    Some((Placed::new(line, place.at()), bytes))
-}
-
 /// One line becomes another one that has its label and moves nothing; none where the text is no such line.
 fn in_place(old: &Assembled, alloc: Global, limit: u32, number: u32, text: &[u8]) -> Option<Edited>
     requires made { assembled (record { limit = limit; lines = place_texts old.now.layout.places }) ≡ Ok old.now }
@@ -137,33 +118,15 @@ fn in_place(old: &Assembled, alloc: Global, limit: u32, number: u32, text: &[u8]
     let index = number as usize - 1;
     let place = place_in(old.places(), index);
     let before = bytes_in(old.code(), index).len();
-    let (line, bytes) = replacement(alloc, names, number, place, text)?;
-    let (first, end) = words_of(place.at(), before.max(bytes.len()), limit);
-    let parts = old.with_line(alloc, index, index + 1, line, bytes, old.at())?;
-    Some(Edited { parts, first, end })
-}
-
-/// A line with its bytes that may stand behind all others and defines no name, and the location behind it, if this text is
-/// such a line.
-fn continuation(
-    alloc: Global,
-    names: &Symbols,
-    limit: u32,
-    number: u32,
-    at: u32,
-    text: &[u8],
-) -> Option<(Placed, Vec<u8>, u32)>
-    ensures text { IfSome result (λ x. x.0.text ≡ text.now) }
-    ensures continues { IfSome result (λ x. Continues names.now limit number at x.0 x.1.items x.2) }
-{
     let line = ReadLine::new(alloc, text).ok()?;
-    if has_label(&line.stmt().label) || is_equ(&line.stmt().statement) {
+    if !is_alike(place.stmt(), line.stmt(), place.at()) {
         return None;
     }
-    let size = size_of(line.stmt(), at).ok()?;
-    let next = moved(limit, at, size).ok()?;
-    let bytes = assemble(alloc, line.stmt(), number, at, names).ok()?;
-    Some((Placed::new(line, at), bytes, next))
+    let bytes = assemble(alloc, line.stmt(), number, place.at(), names).ok()?;
+    let (first, end) = words_of(place.at(), before.max(bytes.len()), limit);
+    let line = Placed::new(line, place.at());
+    let parts = old.with_line(alloc, index, index + 1, line, bytes, old.at())?;
+    Some(Edited { parts, first, end })
 }
 
 /// One line comes behind all others and defines no name; none where the text is no such line.
@@ -175,9 +138,16 @@ fn behind(old: &Assembled, alloc: Global, limit: u32, text: &[u8]) -> Option<Edi
 {
     let names = old.symbols()?;
     let count = old.places().len();
-    let (line, bytes, next) = continuation(alloc, names, limit, count as u32 + 1, old.at(), text)?;
-    let (first, end) = words_of(old.at(), bytes.len(), limit);
-    let parts = old.with_line(alloc, count, count, line, bytes, next)?;
+    let line = ReadLine::new(alloc, text).ok()?;
+    if has_label(&line.stmt().label) || is_equ(&line.stmt().statement) {
+        return None;
+    }
+    let at = old.at();
+    let size = size_of(line.stmt(), at).ok()?;
+    let next = moved(limit, at, size).ok()?;
+    let bytes = assemble(alloc, line.stmt(), count as u32 + 1, at, names).ok()?;
+    let (first, end) = words_of(at, bytes.len(), limit);
+    let parts = old.with_line(alloc, count, count, Placed::new(line, at), bytes, next)?;
     Some(Edited { parts, first, end })
 }
 

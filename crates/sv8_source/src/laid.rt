@@ -3,14 +3,13 @@
 //! The layout pass reads each line, gives its names their values and finds the location of each line. The value pass
 //! then assembles each line, now that all names are known, so that a line may use a name that a later one defines.
 
-ghost use Rattle.std.specs.Prelude.{◌≡◌, ℕ, ℤ, ◌+◌, ◌-◌, ◌^◌, ◌<◌, ◌≤◌, ◌⊎◌, List, [], ◌++◌, ◌∷◌, IsOk, IfSome, IfOk, OnOk, MatchResult, Ok, Err, vec_items, length, pos, map, All};
+ghost use Rattle.std.specs.Prelude.{◌≡◌, ℕ, ℤ, ◌+◌, ◌-◌, ◌^◌, ◌<◌, ◌≤◌, ◌⊎◌, List, [], ◌++◌, ◌∷◌, IfSome, IfOk, OnOk, MatchResult, Ok, Err, vec_items, length, pos, map, All};
 ghost use Rattle.sv8_syntax.specs.Names.{IsLabel, Defines};
 ghost use Rattle.sv8_syntax.specs.Reading.{reading};
-ghost use Rattle.sv8_asm.specs.Size.{size};
-ghost use Rattle.sv8_source.specs.Layout.{define, define_label, define_equ, moved, admitted, with_stmt, with_line, laid, valued, start, HasSize};
+ghost use Rattle.sv8_source.specs.Layout.{define, define_label, define_equ, moved, with_stmt, with_line, laid, valued, start, HasSize};
 ghost use Rattle.sv8_source.specs.Edits.{Sound};
 ghost use Rattle.sv8_source.specs.Kept.{code_bytes};
-ghost use Rattle.sv8_source.specs.Spaced.{Spaced, next_at};
+ghost use Rattle.sv8_source.specs.Spaced.{Spaced};
 ghost use Rattle.sv8_source.specs.Text.{texts, place_texts};
 
 use crate::assembled::Assembled;
@@ -167,29 +166,6 @@ pub(crate) fn moved(limit: u32, at: u32, size: u32) -> Result<u32, LineFault>
     }
 }
 
-/// The names of a statement are defined, and the location after it found.
-#[tactic(auto, unfolding(crate::specs::Layout::admitted))]
-fn admit(
-    alloc: Global,
-    limit: u32,
-    line: u32,
-    at: u32,
-    stmt: &Stmt,
-    symbols: &mut Symbols,
-) -> Result<u32, LineFault>
-    requires { Defines stmt.now }
-    ensures value { MatchResult result (λ next. admitted limit line at stmt.now symbols.old ≡ Ok (symbols.new, next))
-        (λ e. (e ≡ LineFault.OutOfMemory) ⊎ (admitted limit line at stmt.now symbols.old ≡ Err e)) }
-    ensures sized { IfOk result (λ _. IsOk (size stmt.now at)) }
-    ensures next { IfOk result (λ next. next ≡ next_at stmt.now at) }
-{
-    define_label(alloc, &stmt.label, line, at, symbols)?;
-    define_equ(alloc, &stmt.statement, symbols)?;
-    let size = size_of(stmt, at)?;
-    let next = moved(limit, at, size)?;
-    Ok(next)
-}
-
 impl Laid {
     pub fn new(alloc: Global) -> Laid
         ensures { result ≡ start }
@@ -201,8 +177,8 @@ impl Laid {
         }
     }
 
-    /// One more line, that was read.
-    #[tactic(auto, using(crate::proofs::SpacedPlaces::Spaced_push), unfolding(crate::specs::Layout::with_stmt))]
+    /// One more line, that was read: its names are defined, and the location after it found.
+    #[tactic(auto, using(crate::proofs::SpacedPlaces::Spaced_push), unfolding(crate::specs::Layout::admitted, crate::specs::Layout::with_stmt))]
     fn add_read(
         &mut self,
         alloc: Global,
@@ -213,14 +189,11 @@ impl Laid {
         ensures { MatchResult result (λ _. with_stmt limit number line.value.text line.value.stmt self.old ≡ Ok self.new)
             (λ e. (e ≡ LineFault.OutOfMemory) ⊎ (with_stmt limit number line.value.text line.value.stmt self.old ≡ Err e)) }
     {
-        let next = admit(
-            alloc,
-            limit,
-            number,
-            self.at,
-            line.stmt(),
-            &mut self.symbols,
-        )?;
+        let stmt = line.stmt();
+        define_label(alloc, &stmt.label, number, self.at, &mut self.symbols)?;
+        define_equ(alloc, &stmt.statement, &mut self.symbols)?;
+        let size = size_of(stmt, self.at)?;
+        let next = moved(limit, self.at, size)?;
         self.places
             .push(Placed { line, at: self.at })
             .map_err(AllocError::from)?;

@@ -1,10 +1,21 @@
 use Rattle.std.proofs.Common.{refl}
 use Rattle.sv8_shell.specs.declared.effect.Effect.TheVariants.{Unchanged}
-use Rattle.sv8_commands.specs.Order.{bad}
+use Rattle.sv8_commands.specs.Order.{bad, order}
+use Rattle.sv8_shell.specs.Session.{outcome}
 use Rattle.sv8_shell.proofs.AnswerLemmas.{reply-bad}
 use Rattle.sv8_shell.proofs.EffectLemmas.{puts-effect, if-unchanged}
 use Rattle.sv8_shell.proofs.OrderLemmas.{reply-order}
 use Rattle.sv8_shell.proofs.shell.answer_line.Goals as goal
+
+pub returns-in-Some-clause-replies : goal.returns-in-Some-clause-replies
+unfolding outcome
+returns-in-Some-clause-replies g c = λ all h.
+    rw c.in-Ok.ensures (reply-order c.answer_edit.result _ _ c.args.bench.now.kept _ (order c.in-Ok.command all) (rw (← c.range.ensures, c.in-Some.is) (c.answer_edit.ensures.replies all h)))
+
+pub returns-in-None-clause-replies : goal.returns-in-None-clause-replies
+unfolding outcome
+returns-in-None-clause-replies g c = λ all h.
+    rw c.in-Ok.ensures (reply-order c.answer.result _ _ c.args.bench.now.kept _ (order c.in-Ok.command all) (rw (← c.range.ensures, c.in-None.is) c.answer.ensures.replies))
 
 pub returns-in-Err-clause-replies : goal.returns-in-Err-clause-replies
 returns-in-Err-clause-replies g c = λ all h.
