@@ -81,25 +81,8 @@ fn add(full: &mut Rc<Vec<Rc<Chunk>>>, chunk: Rc<Chunk>) -> Result<(), AllocError
     Ok(())
 }
 
-/// Adds the chunk of a full tail, and puts a byte into a tail of its own.
-fn put_in_next(
-    full: &mut Rc<Vec<Rc<Chunk>>>,
-    tail: &mut Tail,
-    alloc: Global,
-    byte: u8,
-) -> Result<(), AllocError>
-    requires { tail.old.count ≡ 4096 }
-    ensures ok { OnOk result (chunk_bytes full.new.value.items ++ tail_bytes tail.new ≡ chunk_bytes full.old.value.items ++ tail_bytes tail.old ++ byte ∷ []) }
-    ensures err { OnErr result (chunk_bytes full.new.value.items ++ tail_bytes tail.new ≡ chunk_bytes full.old.value.items ++ tail_bytes tail.old) }
-    ensures count { IsFilled tail.new }
-{
-    let next = tail_of(alloc, byte)?;
-    add(full, tail.chunk.clone()?)?;
-    *tail = next;
-    Ok(())
-}
-
-/// Puts a byte behind those of full chunks and of a tail.
+/// Puts a byte behind those of full chunks and of a tail. The chunk of a full tail is added, and the byte has a tail of
+/// its own.
 fn put_behind(
     full: &mut Rc<Vec<Rc<Chunk>>>,
     tail: &mut Tail,
@@ -115,7 +98,9 @@ fn put_behind(
         put(tail, byte)?;
         return Ok(());
     }
-    put_in_next(full, tail, alloc, byte)?;
+    let next = tail_of(alloc, byte)?;
+    add(full, tail.chunk.clone()?)?;
+    *tail = next;
     Ok(())
 }
 

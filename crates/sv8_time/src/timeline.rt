@@ -346,32 +346,17 @@ impl Timeline {
         ensures timeline { IsTimeline self.now }
     {
         if self.marks.has(step) {
-            self.find_events(step)
+            Events {
+                pokes: self.pokes.at(step),
+                bytes: self.inputs.at(step),
+                requests: self.requests.at(step),
+            }
         } else {
             Events {
                 pokes: &[],
                 bytes: &[],
                 requests: &[],
             }
-        }
-    }
-
-    /// What happens at a step, whether or not it ever had an event.
-    fn find_events(&self, step: u32) -> Events<'_>
-        ensures pokes { bytes_of_words result.pokes.now ≡ pokes_of_step step self.now.pokes }
-        ensures bytes { result.bytes.now ≡ bytes_of_step step self.now.inputs }
-        ensures requests { result.requests.now ≡ requests_of_step step self.now.requests }
-        ensures addresses_rise { Rising word_before result.pokes.now }
-        ensures inside { Each (IsWordIn self.now.limit) result.pokes.now }
-        ensures short { length result.bytes.now ≤ 1024 }
-        ensures levels_rise { Rising request_before result.requests.now }
-        ensures levels { Each IsRequestPlace result.requests.now }
-    {
-        let _limit = self.limit;
-        Events {
-            pokes: self.pokes.at(step),
-            bytes: self.inputs.at(step),
-            requests: self.requests.at(step),
         }
     }
 
