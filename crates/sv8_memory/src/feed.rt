@@ -10,6 +10,7 @@ use sv8_time::Timeline;
 /// The input of a step: the bytes of the timeline that come in at the console below a step.
 #[derive(Drop, Clone, Copy)]
 pub struct Feed<'a> {
+    /// The step below which they come in.
     pub(crate) before: u32,
     pub(crate) timeline: &'a Timeline,
 }

@@ -16,6 +16,4 @@ pub use compare::{differ, part};
 pub use difference::Difference;
 pub use found::Found;
 pub use search::steps;
-pub use touching::{
-    checkpoint, flag_reaching, flag_shown, flag_touching, is_unreached, is_untouched, shows_none,
-};
+pub use touching::{checkpoint, flag_shown, is_unreached, is_untouched, shows_none};

@@ -117,7 +117,7 @@ pub fn is_untouched<const NW: usize, const PAGES: usize, const K: u32>(
 
 /// Sets the flag of each step of one interval for which `is_untouched` does not hold. Flag number i is that of step
 /// `from + i`. These steps have to be recorded. It looks at each note of the interval once, and makes no step.
-pub fn flag_touching<const NW: usize, const PAGES: usize, const K: u32>(
+pub(crate) fn flag_touching<const NW: usize, const PAGES: usize, const K: u32>(
     bench: &Bench<NW, PAGES, K>,
     kind: TouchKind,
     address: u32,
@@ -139,7 +139,7 @@ pub fn flag_touching<const NW: usize, const PAGES: usize, const K: u32>(
 
 /// The same of the word at an address, where addresses are translated in no state before a step of the interval; else
 /// it sets all flags. A step whose flag is not set reaches no instruction at the address.
-pub fn flag_reaching<const NW: usize, const PAGES: usize, const K: u32>(
+pub(crate) fn flag_reaching<const NW: usize, const PAGES: usize, const K: u32>(
     bench: &Bench<NW, PAGES, K>,
     address: u32,
     from: u32,
