@@ -5,6 +5,7 @@ ghost use Rattle.sv8_edits.specs.EditLaws.{TimelineEdits, ImageEdits, StandingBy
 /// What an edit of the timeline changes makes of the run that of the edited timeline: a poke, or one that is cleared, changes its bytes
 /// from its step up to their next pokes, a request changes whether its level is pending up to its next request, and bytes that
 /// come in, or no longer do, change what has come in from then on.
+#[tactic(auto, using(crate::proofs::EditedTimelines::timeline_edits))]
 pub fn timeline_edits()
     ensures { TimelineEdits }
 {}
@@ -35,16 +36,19 @@ pub fn standing_inputs()
 {}
 
 /// An edit of the source that leaves its image as it is changes nothing of the run.
+#[tactic(auto, using(crate::proofs::Standing::standing_sources))]
 pub fn standing_sources()
     ensures { StandingSources }
 {}
 
 /// Bytes that do not come in at the step yet change the input from there on.
+#[tactic(auto, using(crate::proofs::Standing::other_inputs))]
 pub fn other_inputs()
     ensures { OtherInputs }
 {}
 
 /// No state of a run has taken more of the console's bytes than have come in by then.
+#[tactic(auto, using(crate::proofs::Fed::fed))]
 pub fn states_are_fed()
     ensures { StatesAreFed }
 {}

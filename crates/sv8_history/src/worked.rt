@@ -10,6 +10,7 @@ ghost use Rattle.sv8_history.specs.Worked.{Request, RequestClear, AskedRequest, 
 ghost use Rattle.sv8_history.specs.WorkedTraces.{LateInput, EarlyInput, Cut, Later, Other, Grown, Query};
 
 /// The small machine obeys the frame law.
+#[tactic(auto, using(crate::proofs::Toy::toy_framed))]
 pub fn toy_is_framed()
     ensures { IsFramed toy }
 {}
@@ -20,6 +21,7 @@ pub fn word_poke()
 {}
 
 /// What the laws say of that edit: the states and footprints up to its first read, which is the same after it, and the count.
+#[tactic(auto, using(crate::proofs::Numbers::word_poke_laws))]
 pub fn word_poke_laws()
     ensures { WordPokeLaws }
 {}
@@ -30,36 +32,43 @@ pub fn byte_clear()
 {}
 
 /// Both are cleared, and the trace is that of the first run.
+#[tactic(auto, using(crate::proofs::Numbers::word_clear_worked))]
 pub fn word_clear()
     ensures { WordClear }
 {}
 
 /// A byte is poked that nothing reads before it is poked again.
+#[tactic(auto, using(crate::proofs::Numbers::byte_poke_worked))]
 pub fn byte_poke()
     ensures { BytePoke }
 {}
 
 /// A poke is replaced by another; the step of the next one loads the word, and reads nothing of the change.
+#[tactic(auto, using(crate::proofs::Numbers::replace_worked))]
 pub fn replace()
     ensures { Replace }
 {}
 
 /// The level is requested before the timer sets it.
+#[tactic(auto, using(crate::proofs::Numbers::request_worked))]
 pub fn request()
     ensures { Request }
 {}
 
 /// The request is cleared, and what the timer set stays.
+#[tactic(auto, using(crate::proofs::Numbers::request_clear_worked))]
 pub fn request_clear()
     ensures { RequestClear }
 {}
 
 /// The level is requested at the step that asks it.
+#[tactic(auto, using(crate::proofs::Numbers::asked_request_worked))]
 pub fn asked_request()
     ensures { AskedRequest }
 {}
 
 /// The source is edited where the program stores over it.
+#[tactic(auto, using(crate::proofs::Numbers::source_stored_over_worked))]
 pub fn source_stored_over()
     ensures { SourceStoredOver }
 {}
@@ -70,36 +79,43 @@ pub fn source_edit()
 {}
 
 /// A byte comes to the console after the last step that takes one.
+#[tactic(auto, using(crate::proofs::TraceNumbers::late_input_worked))]
 pub fn late_input()
     ensures { LateInput }
 {}
 
 /// A byte comes to the console before a step that takes one.
+#[tactic(auto, using(crate::proofs::TraceNumbers::early_input_worked))]
 pub fn early_input()
     ensures { EarlyInput }
 {}
 
 /// The trace is cut.
+#[tactic(auto, using(crate::proofs::TraceNumbers::cut_worked))]
 pub fn cut()
     ensures { Cut }
 {}
 
 /// The level is requested where the record ends.
+#[tactic(auto, using(crate::proofs::TraceNumbers::later_worked))]
 pub fn later()
     ensures { Later }
 {}
 
 /// A trace differs where there is no checkpoint.
+#[tactic(auto, using(crate::proofs::TraceNumbers::other_worked))]
 pub fn other()
     ensures { Other }
 {}
 
 /// A new trace is extended twice.
+#[tactic(auto, using(crate::proofs::TraceNumbers::grown_worked))]
 pub fn grown()
     ensures { Grown }
 {}
 
 /// A query of a step between two checkpoints.
+#[tactic(auto, using(crate::proofs::TraceNumbers::query_worked))]
 pub fn query()
     ensures { Query }
 {}

@@ -126,6 +126,7 @@ pub fn timelines_serve()
 /// bytes that come in wait at the console behind those that waited.
 ///
 /// It holds under a timeline, in a state that took no more bytes than have come in.
+#[tactic(auto, using(crate::proofs::WholeSteps::events_come))]
 pub fn events_come()
     ensures { EventsCome }
 {}
@@ -138,6 +139,7 @@ pub fn steps_are_whole()
 
 /// The state before each step of a run from reset is the one that so many steps of the whole state lead to, and each step touches the
 /// same there.
+#[tactic(auto, using(crate::proofs::WholeSteps::runs_are_whole))]
 pub fn runs_are_whole()
     ensures { RunsAreWhole }
 {}
@@ -151,29 +153,34 @@ pub fn sets_frame()
 
 /// THE FRAME LAW of any number of steps up to the first that reads a cell of its set: with a set for each step, as `sets_frame` leads
 /// from one to the next.
+#[tactic(auto, using(crate::proofs::Frames::runs_frame))]
 pub fn runs_frame()
     ensures { RunsFrame }
 {}
 
 /// A cell that a step neither reads nor writes holds behind it what its events left there.
+#[tactic(auto, using(crate::proofs::Frames::cells_stay))]
 pub fn cells_stay()
     ensures { CellsStay }
 {}
 
 /// The frame law for bytes of RAM: two runs that differ in these bytes alone, and in pokes of them, go on so for any number of steps
 /// that read none of them, but for bytes that both events poke alike.
+#[tactic(auto, using(crate::proofs::Frames::bytes_frame))]
 pub fn bytes_frame()
     ensures { BytesFrame }
 {}
 
 /// The frame law for the console's input: two runs that differ in the waiting bytes alone, and in the bytes that come in, go on so for
 /// any number of steps that neither take nor count them.
+#[tactic(auto, using(crate::proofs::Frames::waiting_frames))]
 pub fn waiting_frames()
     ensures { WaitingFrames }
 {}
 
 /// The frame law for an interrupt level: two runs that differ in the condition of a level alone, and in requests of it, go on so for
 /// any number of steps that do not read it.
+#[tactic(auto, using(crate::proofs::Frames::levels_frame))]
 pub fn levels_frame()
     ensures { LevelsFrame }
 {}
@@ -193,52 +200,61 @@ pub fn spared_bytes_stay()
 /// What is seen of an access in RAM is touched: each byte lies in a word that the access reads or writes.
 ///
 /// It holds of an access whose address is a multiple of its size, which that of every instruction is, where RAM lies below the devices.
+#[tactic(auto, using(crate::proofs::Seen::accesses_touch))]
 pub fn accesses_touch()
     ensures { AccessesTouch }
 {}
 
 /// What is seen of a step in RAM is touched: each byte that its access loads or stores, and the first one of the instruction that it
 /// fetches, lie in words that the step reads or writes.
+#[tactic(auto, using(crate::proofs::Seen::steps_touch))]
 pub fn steps_touch()
     ensures { StepsTouch }
 {}
 
 /// What is seen of the access of a step in RAM is its data: each byte that it loads or stores lies in a word that is (`data_touches` of
 /// `sv8_model`).
+#[tactic(auto, using(crate::proofs::Data::accesses_are_data))]
 pub fn accesses_are_data()
     ensures { AccessesAreData }
 {}
 
 /// A step that carries out the instruction at PC, or traps in it, touches the word at PC, where no address is translated and PC is in
 /// RAM.
+#[tactic(auto, using(crate::proofs::Fetched::fetches_touch))]
 pub fn fetches_touch()
     ensures { FetchesTouch }
 {}
 
 /// A step that has an annulled slot in front of it takes an interrupt, or it passes over the slot, and nothing is seen of it.
+#[tactic(auto, using(crate::proofs::Fetched::annulled_steps_pass))]
 pub fn annulled_steps_pass()
     ensures { AnnulledStepsPass }
 {}
 
 /// A trap, or an interrupt, leads into error mode, or to the address in TBR (section 7.2). So no trap is seen of a step that leads
 /// to neither, and none of a step of a machine that is in error mode before it.
+#[tactic(auto, using(crate::proofs::Trapping::traps_lead_there))]
 pub fn traps_lead_there()
     ensures { TrapsLeadThere }
 {}
 
 /// A trap, or an interrupt, of a type leads into error mode, or to the address in TBR, whose tt is then that type (section 7.2). So
 /// no trap of the type is seen of a step that leads to neither.
+#[tactic(auto, using(crate::proofs::Trapping::trap_types_lead_there))]
 pub fn trap_types_lead_there()
     ensures { TrapTypesLeadThere }
 {}
 
 /// After a step no fewer bytes are taken from the console, and no fewer are put out.
+#[tactic(auto, using(crate::proofs::Console::consoles_grow))]
 pub fn consoles_grow()
     ensures { ConsolesGrow }
 {}
 
 /// A step that leaves CWP writes no register outside the current window: the outs, locals and ins of that window and the globals are
 /// all that it may write.
+#[tactic(auto, using(crate::proofs::Windows::other_windows_stay))]
 pub fn other_windows_stay()
     ensures { OtherWindowsStay }
 {}

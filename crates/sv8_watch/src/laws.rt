@@ -8,12 +8,14 @@ ghost use Rattle.sv8_watch.specs.Touching.{SparedStepsMiss, SparedPcsMiss};
 /// touches its words, and a byte that is neither touched nor poked stays. For `Load`, `Store` and `Change` only touches of data count.
 ///
 /// So a search for `Load`, `Store`, `Touch` or `Change` may pass over each step whose notes and events name none of these bytes.
+#[tactic(auto, using(crate::proofs::Sparing::spared_steps_miss))]
 pub fn spared_steps_miss()
     ensures { SparedStepsMiss }
 {}
 
 /// A step that touches no byte of the word at an address does not reach an instruction there, where no address is translated in the
 /// state before it.
+#[tactic(auto, using(crate::proofs::Sparing::spared_pcs_miss))]
 pub fn spared_pcs_miss()
     ensures { SparedPcsMiss }
 {}
@@ -37,6 +39,7 @@ pub fn trapless_steps_miss()
 /// this type.
 ///
 /// So a search for `TrapType` may pass over all steps of which none leads there.
+#[tactic(auto, using(crate::proofs::Quiet::other_types_miss))]
 pub fn other_types_miss()
     ensures { OtherTypesMiss }
 {}
@@ -46,6 +49,7 @@ pub fn other_types_miss()
 ///
 /// So a search for `Input` or `Output` may pass over all steps between two states with as many: after no step there are fewer
 /// (`consoles_grow` of `sv8_cpu`).
+#[tactic(auto, using(crate::proofs::Quiet::quiet_steps_miss))]
 pub fn quiet_steps_miss()
     ensures { QuietStepsMiss }
 {}

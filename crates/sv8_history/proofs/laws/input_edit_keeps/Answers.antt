@@ -1,5 +1,0 @@
-use Rattle.sv8_history.proofs.Input as lemmas
-use Rattle.sv8_history.proofs.laws.input_edit_keeps.Goals as goal
-
-pub returns : goal.returns
-returns g c = lemmas.input_edit_keeps g.M.Recorded.machine
