@@ -6,4 +6,5 @@ pub mod Storing
 pub mod Translating
 pub mod Growing
 pub mod Keeping
+pub mod Plainly
 pub mod Placing

@@ -7,6 +7,7 @@ pub mod Translation
 pub mod Answers
 pub mod Probe
 pub mod Kept
+pub mod Plain
 pub mod Examples
 pub mod Place
 pub mod Laws

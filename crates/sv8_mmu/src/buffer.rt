@@ -1,10 +1,13 @@
 //! The lookaside buffer.
 
-ghost use Rattle.std.specs.Prelude.{◌≡◌, ◌⊎◌, ◌≢◌, ℕ, ◌/◌, ◌%◌, List, [], ◌++◌, Bool, true, false, slice_index_or, ⊤, Contains, IfSome, MatchOption};
+ghost use Rattle.std.specs.Prelude.{◌≡◌, ◌⊎◌, ◌≢◌, ℕ, ◌<◌, ◌^◌, ◌/◌, ◌%◌, List, [], ◌++◌, Bool, true, false, slice_index_or, ⊤, Contains, IfSome, MatchOption};
 ghost use Rattle.lru.specs.LruCache.{LruCache};
 ghost use Rattle.sv8_mmu.specs.Registers.{control_address, table_pointer_address, is_register, after_write};
+ghost use Rattle.sv8_mmu.specs.Plain.{LeadsPlainly};
 ghost use Rattle.sv8_mmu.specs.Kept.{Kept, if_kept, entries_of, places_of, is_marked, AllStand, AreAmong, NoneReads, NoneReadsPage, DiffersInPage};
 
+use crate::access_type::AccessType;
+use crate::memo::Memo;
 use crate::registers::{CONTROL, Mmu, TABLE_POINTER};
 use crate::walk::{Trail, Walk};
 use lru::LruCache;
@@ -33,9 +36,9 @@ pub enum Purpose {
 #[derive(Drop)]
 pub struct Buffer {
     alloc: Global,
-    fetch_memo: Option<(Key, Walk)>,
-    load_memo: Option<(Key, Walk)>,
-    store_memo: Option<(Key, Walk)>,
+    fetch_memo: Option<Memo>,
+    load_memo: Option<Memo>,
+    store_memo: Option<Memo>,
     cache: Option<LruCache<Key, Walk>>,
     /// A flag for each number of a page of RAM modulo 256: unset, no walk that is kept has read a word of such a page.
     pages: [bool; 256],
@@ -85,13 +88,34 @@ fn mark(pages: &mut [bool; 256], trail: &Trail)
 }
 
 /// The walk of a memo, where it is for a key.
-#[inline(always)]
-fn recall_last(memo: &Option<(Key, Walk)>, key: Key) -> Option<&Walk>
+fn recall_last(memo: &Option<Memo>, key: Key) -> Option<&Walk>
     ensures { IfSome result (λ w. Contains (if_kept memo.now) (key, w.now)) }
 {
     match memo {
-        Some((last, walk)) if *last == key => Some(walk),
-        _ => None,
+        Some(last) => last.recall(key),
+        None => None,
+    }
+}
+
+/// Where the page of a key begins for accesses of a type, where a memo is for that key and knows it, and the walk.
+#[inline(always)]
+fn recall_plainly(memo: &Option<Memo>, key: Key, access_type: AccessType) -> Option<(u64, &Walk)>
+    ensures walk { IfSome result (λ s. Contains (if_kept memo.now) (key, s.1.now)) }
+    ensures base { IfSome result (λ s. LeadsPlainly access_type key.page s.0 s.1.now.end) }
+{
+    match memo {
+        Some(last) => last.recall_plainly(key, access_type),
+        None => None,
+    }
+}
+
+/// Finds out what accesses of a type to the page of a key come to, where a memo is for that key.
+fn know_last(memo: &mut Option<Memo>, key: Key, access_type: AccessType)
+    requires { key.page < 2 ^ 20 }
+    ensures { memo.new ≡ memo.old }
+{
+    if let Some(last) = memo {
+        last.know(key, access_type);
     }
 }
 
@@ -196,12 +220,12 @@ fn is_read_by(walks: &LruCache<Key, Walk>, page: u32) -> bool
 }
 
 /// Whether the walk of a memo has read a word of a page of RAM.
-fn is_reader(memo: &Option<(Key, Walk)>, page: u32) -> bool
+fn is_reader(memo: &Option<Memo>, page: u32) -> bool
     ensures { result ≡ false → NoneReadsPage page (if_kept memo.now) }
 {
     match memo {
         None => false,
-        Some((_, walk)) => walk.trail.reads_page(page),
+        Some(last) => last.walk().trail.reads_page(page),
     }
 }
 
@@ -247,14 +271,45 @@ impl Buffer {
     }
 
     /// The walk that was used last for a purpose, where it is for a context and a page.
-    #[inline(always)]
-    pub(crate) fn last(&self, purpose: Purpose, key: Key) -> Option<&Walk>
+    fn last(&self, purpose: Purpose, key: Key) -> Option<&Walk>
         ensures { IfSome result (λ w. Contains self.now (key, w.now)) }
     {
         match purpose {
             Purpose::Fetch => recall_last(&self.fetch_memo, key),
             Purpose::Load => recall_last(&self.load_memo, key),
             Purpose::Store => recall_last(&self.store_memo, key),
+        }
+    }
+
+    /// Where a page begins for accesses of a type, where the walk that was used last for a purpose is for that page and
+    /// its context and this is known, and that walk.
+    #[inline(always)]
+    pub(crate) fn last_plainly(
+        &self,
+        purpose: Purpose,
+        key: Key,
+        access_type: AccessType,
+    ) -> Option<(u64, &Walk)>
+        ensures walk { IfSome result (λ s. Contains self.now (key, s.1.now)) }
+        ensures base { IfSome result (λ s. LeadsPlainly access_type key.page s.0 s.1.now.end) }
+    {
+        match purpose {
+            Purpose::Fetch => recall_plainly(&self.fetch_memo, key, access_type),
+            Purpose::Load => recall_plainly(&self.load_memo, key, access_type),
+            Purpose::Store => recall_plainly(&self.store_memo, key, access_type),
+        }
+    }
+
+    /// Finds out what accesses of a type to a page come to, where the walk that was used last for a purpose is for that
+    /// page and its context.
+    pub(crate) fn know(&mut self, purpose: Purpose, key: Key, access_type: AccessType)
+        requires { key.page < 2 ^ 20 }
+        ensures { self.new ≡ self.old }
+    {
+        match purpose {
+            Purpose::Fetch => know_last(&mut self.fetch_memo, key, access_type),
+            Purpose::Load => know_last(&mut self.load_memo, key, access_type),
+            Purpose::Store => know_last(&mut self.store_memo, key, access_type),
         }
     }
 
@@ -278,9 +333,9 @@ impl Buffer {
     {
         let walk = recall(&mut self.cache, key)?;
         match purpose {
-            Purpose::Fetch => self.fetch_memo = Some((key, walk)),
-            Purpose::Load => self.load_memo = Some((key, walk)),
-            Purpose::Store => self.store_memo = Some((key, walk)),
+            Purpose::Fetch => self.fetch_memo = Some(Memo::new(key, walk)),
+            Purpose::Load => self.load_memo = Some(Memo::new(key, walk)),
+            Purpose::Store => self.store_memo = Some(Memo::new(key, walk)),
         }
         Some(walk)
     }

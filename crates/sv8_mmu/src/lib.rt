@@ -6,6 +6,7 @@ mod buffer;
 mod fault_type;
 mod faulting;
 pub mod laws;
+mod memo;
 mod place;
 mod probing;
 mod registers;

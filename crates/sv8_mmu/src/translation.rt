@@ -78,9 +78,8 @@ fn refused_by(number: u8) -> Option<FaultType>
 }
 
 /// The fault of an access to a page by its entry, if there is one.
-#[inline(always)]
 #[tactic(auto, unfolding(crate::specs::Translation::fault_type, sv8_model::specs::Words::field))]
-fn fault_type(access_type: AccessType, entry: u32) -> Option<FaultType>
+pub(crate) fn fault_type(access_type: AccessType, entry: u32) -> Option<FaultType>
     ensures { result ≡ fault_type access_type entry }
 {
     let types = fault_types(access_type);
@@ -114,9 +113,8 @@ fn with_modified(entry: u32) -> u32
 }
 
 /// The entry with the marks of an access.
-#[inline(always)]
 #[tactic(auto, unfolding(crate::specs::Translation::marked))]
-fn marked(access_type: AccessType, entry: u32) -> u32
+pub(crate) fn marked(access_type: AccessType, entry: u32) -> u32
     ensures value { result ≡ marked access_type entry }
     ensures kind { entry % 4 ≡ 2 → result % 4 ≡ 2 }
 {
@@ -194,7 +192,7 @@ fn find_walk<const PAGES: usize>(
     table_pointer: u32,
     buffer: &mut Buffer,
     phys: &Phys<PAGES>,
-    purpose: Purpose,
+    access_type: AccessType,
     key: Key,
 ) -> Walk
     requires page { key.page < 2 ^ 20 }
@@ -202,7 +200,9 @@ fn find_walk<const PAGES: usize>(
     ensures walk { IsWalk (ram_size PAGES) phys.now.ram table_pointer key.context (key.page * 4096) result }
     ensures stand { AllStand (ram_size PAGES) phys.now.ram table_pointer buffer.new }
 {
+    let purpose = purpose_of(access_type);
     if let Some(walk) = buffer.find(purpose, key) {
+        buffer.know(purpose, key, access_type);
         return walk;
     }
     let walk = walk_for(phys, table_pointer, key.context, key.page * 0x1000);
@@ -285,35 +285,8 @@ fn settle<const PAGES: usize, T: Touches>(
     }
 }
 
-/// The physical address of an access by the end of a walk, where the access is allowed, RAM serves it, and it leaves the entry
-/// of its page as it is.
-#[inline(always)]
-#[tactic(auto, unfolding(crate::specs::Translation::settled))]
-fn settle_plainly<const PAGES: usize>(
-    phys: &Phys<PAGES>,
-    access: VirtualAccess,
-    end: Walked,
-) -> Option<u64>
-    ensures settled { IfSome result (λ pa. settled (ram_size PAGES) access.address access.access_type access.reach end ≡ done (Translated.At pa)) }
-    ensures ram { IfSome result (λ pa. nat_lt pa (ram_size PAGES) ≡ true) }
-    ensures answer { IfSome result (λ pa. IsTranslation access.address (Translated.At pa)) }
-{
-    match end {
-        Walked::Fault { .. } => None,
-        Walked::Page { entry, level, .. } => {
-            if fault_type(access.access_type, entry).is_some() {
-                return None;
-            }
-            if marked(access.access_type, entry) != entry {
-                return None;
-            }
-            let pa = physical_address(entry, level, access.address);
-            if phys.is_ram(pa) { Some(pa) } else { None }
-        }
-    }
-}
-
-/// The physical address of an access, and what the walk of its page read, where that walk was used last and all else is plain.
+/// The physical address of an access, and what the walk of its page read, where that walk was used last, what such accesses
+/// to the page come to is known, and RAM has the address.
 #[inline(always)]
 fn find_shortcut<'a, const PAGES: usize>(
     registers: &Mmu,
@@ -332,9 +305,14 @@ fn find_shortcut<'a, const PAGES: usize>(
         context: registers.context,
         page: access.address / 0x1000,
     };
-    let walk = buffer.last(purpose_of(access.access_type), key)?;
-    let pa = settle_plainly(phys, access, walk.end)?;
-    Some((pa, &walk.trail))
+    let purpose = purpose_of(access.access_type);
+    let (base, walk) = buffer.last_plainly(purpose, key, access.access_type)?;
+    let pa = base + (access.address % 0x1000) as u64;
+    if phys.is_ram(pa) {
+        Some((pa, &walk.trail))
+    } else {
+        None
+    }
 }
 
 /// The physical address of an access in RAM, where it is known at once: addresses are not translated, or the walk of its page
@@ -387,8 +365,8 @@ fn translate_by_tables<const PAGES: usize, T: Touches>(
         context: registers.context,
         page: access.address / 0x1000,
     };
-    let purpose = purpose_of(access.access_type);
-    let walk = find_walk(registers.table_pointer, buffer, phys, purpose, key);
+    let access_type = access.access_type;
+    let walk = find_walk(registers.table_pointer, buffer, phys, access_type, key);
     note_reads(&walk.trail, notes)?;
     let answer = settle(buffer, phys, key, walk, access, notes)?;
     Ok(answer)

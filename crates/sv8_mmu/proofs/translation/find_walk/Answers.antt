@@ -1,4 +1,4 @@
-use Rattle.std.proofs.Common.{sym, subst, inl, inr}
+use Rattle.std.proofs.Common.{sym, subst, inl, inr, Contains}
 use Rattle.sv8_phys.specs.Memory.{ram_size}
 use Rattle.sv8_mmu.specs.Kept.{Stands}
 use Rattle.sv8_mmu.proofs.translation.find_walk.Goals as goal
@@ -7,7 +7,7 @@ pub returns-in-Some-clause-walk : goal.returns-in-Some-clause-walk
 returns-in-Some-clause-walk g c = c.requires.stand _ c.in-Some.ensures.found
 
 pub returns-in-Some-clause-stand : goal.returns-in-Some-clause-stand
-returns-in-Some-clause-stand g c = λ k m. c.requires.stand k (c.find.ensures.among k m)
+returns-in-Some-clause-stand g c = λ k m. c.requires.stand k (c.find.ensures.among k (subst (λ b. Contains b k) c.know.ensures m))
 
 pub returns-in-Page-clause-stand : goal.returns-in-Page-clause-stand
 returns-in-Page-clause-stand g c = λ k m. elim (c.keep.ensures k m) [

@@ -1,22 +1,25 @@
-use Rattle.std.proofs.Common.{◌∷◌, [], ◌++◌}
-use Rattle.sv8_mmu.specs.Kept.{if_kept, entries_of, AreAmong}
+use Rattle.std.proofs.Common.{◌≡◌, List, ◌∷◌, [], ◌++◌, Contains, sym, subst}
+use Rattle.sv8_mmu.specs.Kept.{Kept, if_kept, entries_of, AreAmong}
 use Rattle.sv8_mmu.proofs.Keeping.{found_nothing, found_fetch, found_load, found_store, in_cache, marked_among}
 use Rattle.sv8_mmu.proofs.buffer.Buffer.find_in_cache.Goals as goal
+
+made : (ks : List Kept) (memo k : Kept) → memo ≡ k → Contains ks k → Contains ks memo
+made ks memo k is h = subst (Contains ks) (sym is) h
 
 missed : (c : goal.After-from_residual) → AreAmong (if_kept c.self.inside.fetch_memo ++ if_kept c.self.inside.load_memo ++ if_kept c.self.inside.store_memo ++ entries_of c.recall.new.cache) c.args.self.now
 missed c = found_nothing c.self.inside.fetch_memo c.self.inside.load_memo c.self.inside.store_memo c.self.inside.cache c.args.self.now c.self.view_is c.recall.new.cache c.recall.ensures.among
 
-fetched : (c : goal.After-self-1) → AreAmong ((c.args.key, c.in_ok-walk.walk) ∷ [] ++ if_kept c.self.inside.load_memo ++ if_kept c.self.inside.store_memo ++ entries_of c.recall.new.cache) c.args.self.now
+fetched : (c : goal.After-self-1) → AreAmong (c.new.result ∷ [] ++ if_kept c.self.inside.load_memo ++ if_kept c.self.inside.store_memo ++ entries_of c.recall.new.cache) c.args.self.now
 fetched c =
-    found_fetch c.self.inside.fetch_memo c.self.inside.load_memo c.self.inside.store_memo c.self.inside.cache c.args.self.now c.self.view_is c.recall.new.cache c.recall.ensures.among (c.args.key, c.in_ok-walk.walk) c.in_ok-walk.ensures.found
+    found_fetch c.self.inside.fetch_memo c.self.inside.load_memo c.self.inside.store_memo c.self.inside.cache c.args.self.now c.self.view_is c.recall.new.cache c.recall.ensures.among c.new.result (made _ _ _ c.new.ensures c.in_ok-walk.ensures.found)
 
-loaded : (c : goal.After-self-in-Load-1) → AreAmong (if_kept c.self.inside.fetch_memo ++ (c.args.key, c.in_ok-walk.walk) ∷ [] ++ if_kept c.self.inside.store_memo ++ entries_of c.recall.new.cache) c.args.self.now
+loaded : (c : goal.After-self-in-Load-1) → AreAmong (if_kept c.self.inside.fetch_memo ++ c.new-in-Load.result ∷ [] ++ if_kept c.self.inside.store_memo ++ entries_of c.recall.new.cache) c.args.self.now
 loaded c =
-    found_load c.self.inside.fetch_memo c.self.inside.load_memo c.self.inside.store_memo c.self.inside.cache c.args.self.now c.self.view_is c.recall.new.cache c.recall.ensures.among (c.args.key, c.in_ok-walk.walk) c.in_ok-walk.ensures.found
+    found_load c.self.inside.fetch_memo c.self.inside.load_memo c.self.inside.store_memo c.self.inside.cache c.args.self.now c.self.view_is c.recall.new.cache c.recall.ensures.among c.new-in-Load.result (made _ _ _ c.new-in-Load.ensures c.in_ok-walk.ensures.found)
 
-stored : (c : goal.After-self-in-Store-1) → AreAmong (if_kept c.self.inside.fetch_memo ++ if_kept c.self.inside.load_memo ++ (c.args.key, c.in_ok-walk.walk) ∷ [] ++ entries_of c.recall.new.cache) c.args.self.now
+stored : (c : goal.After-self-in-Store-1) → AreAmong (if_kept c.self.inside.fetch_memo ++ if_kept c.self.inside.load_memo ++ c.new-in-Store.result ∷ [] ++ entries_of c.recall.new.cache) c.args.self.now
 stored c =
-    found_store c.self.inside.fetch_memo c.self.inside.load_memo c.self.inside.store_memo c.self.inside.cache c.args.self.now c.self.view_is c.recall.new.cache c.recall.ensures.among (c.args.key, c.in_ok-walk.walk) c.in_ok-walk.ensures.found
+    found_store c.self.inside.fetch_memo c.self.inside.load_memo c.self.inside.store_memo c.self.inside.cache c.args.self.now c.self.view_is c.recall.new.cache c.recall.ensures.among c.new-in-Store.result (made _ _ _ c.new-in-Store.ensures c.in_ok-walk.ensures.found)
 
 pub invariant_of-self : goal.invariant_of-self
 invariant_of-self c = marked_among c.self.inside.pages _ _ _ c.self.view_is c.self.invariant (missed c)
@@ -25,7 +28,7 @@ pub returns-in_err-walk-clause-among : goal.returns-in_err-walk-clause-among
 returns-in_err-walk-clause-among c = missed c
 
 pub invariant_of-self-in-Fetch : goal.invariant_of-self-in-Fetch
-invariant_of-self-in-Fetch c = marked_among c.self.inside.pages _ _ ((c.args.key, c.in_ok-walk.walk) ∷ [] ++ if_kept c.self.inside.load_memo ++ if_kept c.self.inside.store_memo ++ entries_of c.recall.new.cache) c.self.view_is c.self.invariant (fetched c)
+invariant_of-self-in-Fetch c = marked_among c.self.inside.pages _ _ (c.new.result ∷ [] ++ if_kept c.self.inside.load_memo ++ if_kept c.self.inside.store_memo ++ entries_of c.recall.new.cache) c.self.view_is c.self.invariant (fetched c)
 
 pub invariant_of-self-in-Load : goal.invariant_of-self-in-Load
 invariant_of-self-in-Load c = marked_among c.self.inside.pages _ _ _ c.self.view_is c.self.invariant (loaded c)
