@@ -1,20 +1,12 @@
 -- One step more of a draft, and a draft that has led to a checkpoint.
-use Rattle.std.proofs.Common.{◌≡◌, ℕ, ◌+◌, ◌*◌, ◌<◌, ◌&&◌, ◌==◌, List, [], ◌∷◌, ◌++◌, length, cond, Some, None, is_some, Result, Ok, Err, refl, sym, ◌∙◌, ap, subst, arith}
+use Rattle.std.proofs.Common.{◌≡◌, ℕ, ◌+◌, ◌*◌, ◌<◌, List, [], ◌∷◌, ◌++◌, length, Result, Ok, Err, refl, sym, ◌∙◌, ap, subst, arith}
 use Rattle.std.specs.Prelude.{OnOk}
 use Rattle.std.proofs.lemmas.List.{length-append}
-use Rattle.sv8_model.specs.Footprint.{data_touches}
-use Rattle.sv8_model.specs.Cells.{Cell}
 use Rattle.sv8_time.specs.Schedule.{Schedule}
-use Rattle.sv8_phys.specs.Notes.{told}
-use Rattle.sv8_notes.specs.Kept.{kept_in}
-use Rattle.sv8_notes.specs.Touched.{is_touched}
-use Rattle.sv8_notes.specs.Steps.{Gains}
 use Rattle.sv8_cpu.specs.State.{State}
-use Rattle.sv8_cpu.specs.Run.{step, footprint}
-use Rattle.sv8_cpu.specs.Recorded.{event_at, poke_of, get}
+use Rattle.sv8_cpu.specs.Run.{step}
 use Rattle.sv8_trace.specs.declared.interval.Interval.{Interval}
-use Rattle.sv8_trace.specs.Signs.{with_step}
-use Rattle.sv8_trace.specs.Recorder.{steps_on, IsRecorded}
+use Rattle.sv8_trace.specs.Recorder.{steps_on, IsRecorded, HasOneMore}
 use Rattle.sv8_trace.specs.Recording.{Recording, last_point, recorded, no_interval, IsExtended}
 use Rattle.sv8_trace.specs.Drafts.{Drafted, IsDraft}
 use Rattle.sv8_trace.proofs.Extending.{extended_is, last_new}
@@ -29,21 +21,12 @@ module _ (windows pages k : ℕ) (schedule : Schedule) (old : Recording) (draft 
   was = subst (λ (x : Drafted). IsDraft windows pages k schedule old x) (sym view) d
 
   -- the step is recorded behind those of the draft
-  pub drafted_more : (next : State) (new : Interval) → next ≡ step windows pages schedule at s → Gains count (told (footprint windows pages schedule at s)) (data_touches (footprint windows pages schedule at s)) interval.notes new.notes
-      → ((i : ℕ) (c : Cell) → kept_in i c new.kept
-      ≡ cond (is_touched (told (footprint windows pages schedule at s)) c) None (cond (i == count && is_some (poke_of c (event_at schedule at))) (Some (get c s)) (kept_in i c interval.kept)))
-      → new.signs ≡ with_step interval.signs count s next
+  pub drafted_more : (next : State) (new : Interval) → next ≡ step windows pages schedule at s → HasOneMore windows pages schedule at count s next interval new
       → (next ≡ steps_on windows pages schedule (recorded k old) (last_point old) (count + 1)) × IsRecorded windows pages schedule (recorded k old) (last_point old) (count + 1) new
-  drafted_more next new stepped gains law signs =
+  drafted_more next new stepped more =
       one_more windows pages schedule (recorded k old) (last_point old) s next count interval new was.state
       (stepped ∙ ap (λ x. step windows pages schedule x s) here) was.steps
-      (subst (λ x. Gains count (told (footprint windows pages schedule x s)) (data_touches (footprint windows pages schedule x s)) interval.notes new.notes) here gains)
-      (subst
-      (λ x.
-      (i : ℕ) (c : Cell) → kept_in i c new.kept
-      ≡ cond (is_touched (told (footprint windows pages schedule x s)) c) None (cond (i == count && is_some (poke_of c (event_at schedule x))) (Some (get c s)) (kept_in i c interval.kept)))
-      here law)
-      signs
+      (subst (λ x. HasOneMore windows pages schedule x count s next interval new) here more)
 
 module _ (windows pages k : ℕ) (pos : 0 < k) (schedule : Schedule) (old new : Recording) (s : State) (interval : Interval) (long : length old.points ≡ length old.intervals + 1)
     (points : new.points ≡ old.points ++ s ∷ []) (intervals : new.intervals ≡ old.intervals ++ interval ∷ []) where

@@ -11,7 +11,7 @@ use Rattle.sv8_time.specs.Schedule.{Schedule}
 use Rattle.sv8_phys.specs.Notes.{told}
 use Rattle.sv8_notes.specs.Kept.{kept_in}
 use Rattle.sv8_notes.specs.Touched.{is_touched}
-use Rattle.sv8_notes.specs.Steps.{Gains, no_steps, footprint_in, reads_in, writes_in, data_in, are_of, is_among}
+use Rattle.sv8_notes.specs.Steps.{no_steps, footprint_in, reads_in, writes_in, data_in, are_of, is_among}
 use Rattle.sv8_notes.proofs.Common.{touched_told, told_read, told_written}
 use Rattle.sv8_cpu.specs.State.{State}
 use Rattle.sv8_cpu.specs.Run.{step, footprint}
@@ -19,7 +19,7 @@ use Rattle.sv8_cpu.specs.Work.{counted}
 use Rattle.sv8_cpu.specs.Recorded.{event_at, poke_of, get}
 use Rattle.sv8_trace.specs.declared.interval.Interval.{Interval}
 use Rattle.sv8_trace.specs.Signs.{no_signs, with_step}
-use Rattle.sv8_trace.specs.Recorder.{steps_on, footprint_on, touches_on, counted_by, IsRecorded, RaisedUpTo}
+use Rattle.sv8_trace.specs.Recorder.{steps_on, footprint_on, touches_on, counted_by, IsRecorded, HasOneMore, RaisedUpTo}
 
 -- no steps are recorded
 none_read : (c : Cell) (j : ℕ) → reads_in no_steps c j ≡ false
@@ -72,16 +72,15 @@ module _ (windows pages : ℕ) (schedule : Schedule) (n : ℕ) (s : State) where
   here x o a e f = rw (e, f)
 
   module _ (count : ℕ) (old new : Interval) (h : IsRecorded windows pages schedule n s count old)
-      (gains : Gains count (told (footprint windows pages schedule (n + count) (steps_on windows pages schedule n s count)))
-      (data_touches (footprint windows pages schedule (n + count) (steps_on windows pages schedule n s count))) old.notes new.notes) where
+      (more : HasOneMore windows pages schedule (n + count) count (steps_on windows pages schedule n s count) (steps_on windows pages schedule n s (suc count)) old new) where
     not_here : (j : ℕ) → j ≢ count → SameFootprint (footprint_in new.notes j) (footprint_in old.notes j)
     not_here j e =
         let no : (j == count) ≡ false = ne_eqb j count e in
         record {
-          reads = λ c. gains.reads c j ∙ other (reads_in old.notes c j) (j == count) _ no;
-          writes = λ c. gains.writes c j ∙ other (writes_in old.notes c j) (j == count) _ no;
-          uses = λ c. gains.uses c j ∙ other (data_in old.notes c j) (j == count) _ no;
-          takes = gains.takes j ∙ other (is_among j old.notes.inputs) (j == count) _ no;
+          reads = λ c. more.gained.reads c j ∙ other (reads_in old.notes c j) (j == count) _ no;
+          writes = λ c. more.gained.writes c j ∙ other (writes_in old.notes c j) (j == count) _ no;
+          uses = λ c. more.gained.uses c j ∙ other (data_in old.notes c j) (j == count) _ no;
+          takes = more.gained.takes j ∙ other (is_among j old.notes.inputs) (j == count) _ no;
         }
 
     at_count : (j : ℕ) → j ≡ count → SameFootprint (footprint_in new.notes j) (footprint_on windows pages schedule n s j)
@@ -90,10 +89,10 @@ module _ (windows pages : ℕ) (schedule : Schedule) (n : ℕ) (s : State) where
         let later = h.nothing_later j (omega arith) in
         let same : footprint windows pages schedule (n + count) (steps_on windows pages schedule n s count) ≡ footprint windows pages schedule (n + j) (steps_on windows pages schedule n s j) = ap (λ x. footprint windows pages schedule (n + x) (steps_on windows pages schedule n s x)) (sym e) in
         record {
-          reads = λ c. gains.reads c j ∙ here (reads_in old.notes c j) (j == count) _ (later.reads c ∙ none_read c j) yes ∙ told_read _ c ∙ ap (λ ts. is_read ts c) same;
-          writes = λ c. gains.writes c j ∙ here (writes_in old.notes c j) (j == count) _ (later.writes c ∙ none_written c j) yes ∙ told_written _ c ∙ ap (λ ts. is_written ts c) same;
-          uses = λ c. gains.uses c j ∙ here (data_in old.notes c j) (j == count) _ (later.uses c ∙ none_data c j) yes ∙ data_is (footprint windows pages schedule (n + count) (steps_on windows pages schedule n s count)) c ∙ ap (λ ts. is_data ts c) same;
-          takes = gains.takes j ∙ here (is_among j old.notes.inputs) (j == count) _ later.takes yes ∙ told_read _ waiting_bytes ∙ ap reads_input same;
+          reads = λ c. more.gained.reads c j ∙ here (reads_in old.notes c j) (j == count) _ (later.reads c ∙ none_read c j) yes ∙ told_read _ c ∙ ap (λ ts. is_read ts c) same;
+          writes = λ c. more.gained.writes c j ∙ here (writes_in old.notes c j) (j == count) _ (later.writes c ∙ none_written c j) yes ∙ told_written _ c ∙ ap (λ ts. is_written ts c) same;
+          uses = λ c. more.gained.uses c j ∙ here (data_in old.notes c j) (j == count) _ (later.uses c ∙ none_data c j) yes ∙ data_is (footprint windows pages schedule (n + count) (steps_on windows pages schedule n s count)) c ∙ ap (λ ts. is_data ts c) same;
+          takes = more.gained.takes j ∙ here (is_among j old.notes.inputs) (j == count) _ later.takes yes ∙ told_read _ waiting_bytes ∙ ap reads_input same;
         }
 
     then : (x y z : Footprint Cell) → SameFootprint x y → SameFootprint y z → SameFootprint x z
@@ -119,47 +118,38 @@ module _ (windows pages : ℕ) (schedule : Schedule) (n : ℕ) (s : State) where
     later true o x k e f = refl
     later false o x k e f = rw (e, f)
 
-    abbrev Kept_law : Type 0
-    Kept_law = (j : ℕ) (c : Cell) → kept_in j c new.kept
-        ≡ cond (is_touched (told (footprint windows pages schedule (n + count) (steps_on windows pages schedule n s count))) c) None
-        (cond (j == count && is_some (poke_of c (event_at schedule (n + count)))) (Some (get c (steps_on windows pages schedule n s count))) (kept_in j c old.kept))
+    kept_more : (j : ℕ) (c : Cell) → (j ≡ count) ⊎ ((j < count) ⊎ (count < j)) → kept_in j c new.kept
+        ≡ cond (ltb j (suc count) && is_some (poke_of c (event_at schedule (n + j))) && not (some_from j (suc count) (touches_on windows pages schedule n s c))) (Some (get c (steps_on windows pages schedule n s j))) None
+    kept_more j c (inl e) =
+        let none : some_from j count (touches_on windows pages schedule n s c) ≡ false = none_from j count (touches_on windows pages schedule n s c) (λ x a b. absurd (omega arith)) in
+        let gone : kept_in j c old.kept ≡ None = h.kept j c ∙ ap (λ b. cond (b && is_some (poke_of c (event_at schedule (n + j))) && not (some_from j count (touches_on windows pages schedule n s c))) (Some (get c (steps_on windows pages schedule n s j))) None) (le-ltb j count (omega arith)) in
+        more.kept j c
+        ∙ ap₂ (λ t o. cond t None (cond (o && is_some (poke_of c (event_at schedule (n + count)))) (Some (get c (steps_on windows pages schedule n s count))) (kept_in j c old.kept))) (touched_told (footprint windows pages schedule (n + count) (steps_on windows pages schedule n s count)) c) (eq-eqb j count e)
+        ∙ now (is_some (poke_of c (event_at schedule (n + count)))) (some_from j count (touches_on windows pages schedule n s c)) (touches_on windows pages schedule n s c count) (leb j count) (get c (steps_on windows pages schedule n s count)) (kept_in j c old.kept) (le-leb j count (omega arith)) none gone
+        ∙ ap₂ (λ b x. cond (b && is_some (poke_of c (event_at schedule (n + x))) && not (some_from j (suc count) (touches_on windows pages schedule n s c))) (Some (get c (steps_on windows pages schedule n s x))) None) (sym (lt-ltb j (suc count) (omega arith))) (sym e)
+    kept_more j c (inr (inl l)) =
+        more.kept j c
+        ∙ ap₂ (λ t k. cond t None (cond (j == count && is_some (poke_of c (event_at schedule (n + count)))) (Some (get c (steps_on windows pages schedule n s count))) k)) (touched_told (footprint windows pages schedule (n + count) (steps_on windows pages schedule n s count)) c)
+        (h.kept j c ∙ ap (λ b. cond (b && is_some (poke_of c (event_at schedule (n + j))) && not (some_from j count (touches_on windows pages schedule n s c))) (Some (get c (steps_on windows pages schedule n s j))) None) (lt-ltb j count l))
+        ∙ earlier (is_some (poke_of c (event_at schedule (n + j)))) (some_from j count (touches_on windows pages schedule n s c)) (touches_on windows pages schedule n s c count) (leb j count) (j == count && is_some (poke_of c (event_at schedule (n + count)))) (get c (steps_on windows pages schedule n s j)) (get c (steps_on windows pages schedule n s count)) (le-leb j count (omega arith)) (ap (λ b. b && is_some (poke_of c (event_at schedule (n + count)))) (ne_eqb j count (λ q. omega arith)))
+        ∙ ap (λ b. cond (b && is_some (poke_of c (event_at schedule (n + j))) && not (some_from j (suc count) (touches_on windows pages schedule n s c))) (Some (get c (steps_on windows pages schedule n s j))) None) (sym (lt-ltb j (suc count) (omega arith)))
+    kept_more j c (inr (inr l)) =
+        let gone : kept_in j c old.kept ≡ None = h.kept j c ∙ ap (λ b. cond (b && is_some (poke_of c (event_at schedule (n + j))) && not (some_from j count (touches_on windows pages schedule n s c))) (Some (get c (steps_on windows pages schedule n s j))) None) (le-ltb j count (omega arith)) in
+        more.kept j c
+        ∙ later (is_touched (told (footprint windows pages schedule (n + count) (steps_on windows pages schedule n s count))) c) (j == count && is_some (poke_of c (event_at schedule (n + count)))) (get c (steps_on windows pages schedule n s count)) (kept_in j c old.kept) (ap (λ b. b && is_some (poke_of c (event_at schedule (n + count)))) (ne_eqb j count (λ q. omega arith))) gone
+        ∙ sym (ap (λ b. cond (b && is_some (poke_of c (event_at schedule (n + j))) && not (some_from j (suc count) (touches_on windows pages schedule n s c))) (Some (get c (steps_on windows pages schedule n s j))) None) (le-ltb j (suc count) (omega arith)))
 
-    abbrev Signs_law : Type 0
-    Signs_law = new.signs ≡ with_step old.signs count (steps_on windows pages schedule n s count) (steps_on windows pages schedule n s (suc count))
-
-    module _ (law : Kept_law) (signs : Signs_law) where
-      kept_more : (j : ℕ) (c : Cell) → (j ≡ count) ⊎ ((j < count) ⊎ (count < j)) → kept_in j c new.kept
-          ≡ cond (ltb j (suc count) && is_some (poke_of c (event_at schedule (n + j))) && not (some_from j (suc count) (touches_on windows pages schedule n s c))) (Some (get c (steps_on windows pages schedule n s j))) None
-      kept_more j c (inl e) =
-          let none : some_from j count (touches_on windows pages schedule n s c) ≡ false = none_from j count (touches_on windows pages schedule n s c) (λ x a b. absurd (omega arith)) in
-          let gone : kept_in j c old.kept ≡ None = h.kept j c ∙ ap (λ b. cond (b && is_some (poke_of c (event_at schedule (n + j))) && not (some_from j count (touches_on windows pages schedule n s c))) (Some (get c (steps_on windows pages schedule n s j))) None) (le-ltb j count (omega arith)) in
-          law j c
-          ∙ ap₂ (λ t o. cond t None (cond (o && is_some (poke_of c (event_at schedule (n + count)))) (Some (get c (steps_on windows pages schedule n s count))) (kept_in j c old.kept))) (touched_told (footprint windows pages schedule (n + count) (steps_on windows pages schedule n s count)) c) (eq-eqb j count e)
-          ∙ now (is_some (poke_of c (event_at schedule (n + count)))) (some_from j count (touches_on windows pages schedule n s c)) (touches_on windows pages schedule n s c count) (leb j count) (get c (steps_on windows pages schedule n s count)) (kept_in j c old.kept) (le-leb j count (omega arith)) none gone
-          ∙ ap₂ (λ b x. cond (b && is_some (poke_of c (event_at schedule (n + x))) && not (some_from j (suc count) (touches_on windows pages schedule n s c))) (Some (get c (steps_on windows pages schedule n s x))) None) (sym (lt-ltb j (suc count) (omega arith))) (sym e)
-      kept_more j c (inr (inl l)) =
-          law j c
-          ∙ ap₂ (λ t k. cond t None (cond (j == count && is_some (poke_of c (event_at schedule (n + count)))) (Some (get c (steps_on windows pages schedule n s count))) k)) (touched_told (footprint windows pages schedule (n + count) (steps_on windows pages schedule n s count)) c)
-          (h.kept j c ∙ ap (λ b. cond (b && is_some (poke_of c (event_at schedule (n + j))) && not (some_from j count (touches_on windows pages schedule n s c))) (Some (get c (steps_on windows pages schedule n s j))) None) (lt-ltb j count l))
-          ∙ earlier (is_some (poke_of c (event_at schedule (n + j)))) (some_from j count (touches_on windows pages schedule n s c)) (touches_on windows pages schedule n s c count) (leb j count) (j == count && is_some (poke_of c (event_at schedule (n + count)))) (get c (steps_on windows pages schedule n s j)) (get c (steps_on windows pages schedule n s count)) (le-leb j count (omega arith)) (ap (λ b. b && is_some (poke_of c (event_at schedule (n + count)))) (ne_eqb j count (λ q. omega arith)))
-          ∙ ap (λ b. cond (b && is_some (poke_of c (event_at schedule (n + j))) && not (some_from j (suc count) (touches_on windows pages schedule n s c))) (Some (get c (steps_on windows pages schedule n s j))) None) (sym (lt-ltb j (suc count) (omega arith)))
-      kept_more j c (inr (inr l)) =
-          let gone : kept_in j c old.kept ≡ None = h.kept j c ∙ ap (λ b. cond (b && is_some (poke_of c (event_at schedule (n + j))) && not (some_from j count (touches_on windows pages schedule n s c))) (Some (get c (steps_on windows pages schedule n s j))) None) (le-ltb j count (omega arith)) in
-          law j c
-          ∙ later (is_touched (told (footprint windows pages schedule (n + count) (steps_on windows pages schedule n s count))) c) (j == count && is_some (poke_of c (event_at schedule (n + count)))) (get c (steps_on windows pages schedule n s count)) (kept_in j c old.kept) (ap (λ b. b && is_some (poke_of c (event_at schedule (n + count)))) (ne_eqb j count (λ q. omega arith))) gone
-          ∙ sym (ap (λ b. cond (b && is_some (poke_of c (event_at schedule (n + j))) && not (some_from j (suc count) (touches_on windows pages schedule n s c))) (Some (get c (steps_on windows pages schedule n s j))) None) (le-ltb j (suc count) (omega arith)))
-
-      pub recorded_more : IsRecorded windows pages schedule n s (suc count) new
-      recorded_more = record {
-        footprints = λ j b. go j b (cases_lt j count);
-        nothing_later = λ j b. then (footprint_in new.notes j) (footprint_in old.notes j) (footprint_in no_steps j) (not_here j (λ e. omega arith)) (h.nothing_later j (omega arith));
-        kept = λ j c. kept_more j c (cases_order j count);
-        signs = signs ∙ ap (λ x. with_step x count (steps_on windows pages schedule n s count) (steps_on windows pages schedule n s (suc count))) h.signs;
-      }
-        where
-          go : (j : ℕ) → j < suc count → (j < count) ⊎ (count ≤ j) → SameFootprint (footprint_in new.notes j) (footprint_on windows pages schedule n s j)
-          go j b (inl l) = then (footprint_in new.notes j) (footprint_in old.notes j) (footprint_on windows pages schedule n s j) (not_here j (λ e. omega arith)) (h.footprints j l)
-          go j b (inr l) = at_count j (omega arith)
+    pub recorded_more : IsRecorded windows pages schedule n s (suc count) new
+    recorded_more = record {
+      footprints = λ j b. go j b (cases_lt j count);
+      nothing_later = λ j b. then (footprint_in new.notes j) (footprint_in old.notes j) (footprint_in no_steps j) (not_here j (λ e. omega arith)) (h.nothing_later j (omega arith));
+      kept = λ j c. kept_more j c (cases_order j count);
+      signs = more.signs ∙ ap (λ x. with_step x count (steps_on windows pages schedule n s count) (steps_on windows pages schedule n s (suc count))) h.signs;
+    }
+      where
+        go : (j : ℕ) → j < suc count → (j < count) ⊎ (count ≤ j) → SameFootprint (footprint_in new.notes j) (footprint_on windows pages schedule n s j)
+        go j b (inl l) = then (footprint_in new.notes j) (footprint_in old.notes j) (footprint_on windows pages schedule n s j) (not_here j (λ e. omega arith)) (h.footprints j l)
+        go j b (inr l) = at_count j (omega arith)
 
 -- nothing is kept of a later step
 pub kept_free : (windows pages : ℕ) (schedule : Schedule) (n : ℕ) (s : State) (count : ℕ) (i : Interval) → IsRecorded windows pages schedule n s count i → (c : Cell) → kept_in count c i.kept ≡ None
@@ -175,12 +165,8 @@ up_to_one j most first old new h is (inr e) = (suc j, omega arith, e ∙ ap coun
 -- one step more
 pub one_more : (windows pages : ℕ) (schedule : Schedule) (n : ℕ) (first s next : State) (j : ℕ) (old new : Interval) → s ≡ steps_on windows pages schedule n first j
     → next ≡ step windows pages schedule (n + j) s → IsRecorded windows pages schedule n first j old
-    → Gains j (told (footprint windows pages schedule (n + j) s)) (data_touches (footprint windows pages schedule (n + j) s)) old.notes new.notes
-    → ((i : ℕ) (c : Cell) → kept_in i c new.kept ≡ cond (is_touched (told (footprint windows pages schedule (n + j) s)) c) None (cond (i == j && is_some (poke_of c (event_at schedule (n + j)))) (Some (get c s)) (kept_in i c old.kept)))
-    → new.signs ≡ with_step old.signs j s next
+    → HasOneMore windows pages schedule (n + j) j s next old new
     → (next ≡ steps_on windows pages schedule n first (j + 1)) × IsRecorded windows pages schedule n first (j + 1) new
-one_more windows pages schedule n first s next j old new is stepped recorded gains law signs =
-    let g = rw is at gains in
-    let l = rw is at law in
-    let f = rw (stepped, is) at signs in
-    rw (add-one, stepped, is) (refl, recorded_more windows pages schedule n first j old new recorded g l f)
+one_more windows pages schedule n first s next j old new is stepped recorded more =
+    let m = rw (stepped, is) at more in
+    rw (add-one, stepped, is) (refl, recorded_more windows pages schedule n first j old new recorded m)

@@ -1,22 +1,25 @@
 -- What is recorded of steps.
-use Rattle.std.specs.Prelude.{◌≡◌, ℕ, false, zero, suc, ◌+◌, ◌<◌, ◌≤◌, not, ◌&&◌, ◌||◌, Bool, cond, ltb, List, [], ◌∷◌, ◌++◌, Option, Some, None, is_some, slice_index_or}
+use Rattle.std.specs.Prelude.{◌≡◌, ℕ, false, zero, suc, ◌+◌, ◌<◌, ◌≤◌, ◌==◌, not, ◌&&◌, ◌||◌, Bool, cond, ltb, List, [], ◌∷◌, ◌++◌, Option, Some, None, is_some, slice_index_or}
 use Rattle.sv8_model.specs.Cells.{Cell}
+use Rattle.sv8_model.specs.Footprint.{data_touches}
 use Rattle.sv8_history.specs.Machine.{Footprint, SameFootprint}
 use Rattle.sv8_history.specs.Trace.{some_from}
 use Rattle.sv8_time.specs.Schedule.{Schedule}
 use Rattle.sv8_time.specs.declared.words.WordPoke.{WordPoke}
 use Rattle.sv8_time.specs.declared.requests.Request.{Request}
+use Rattle.sv8_phys.specs.Notes.{told}
 use Rattle.sv8_notes.specs.declared.cell.Cell.TheVariants as cell
 use Rattle.sv8_notes.specs.declared.cell.Content.TheVariants as content
 use Rattle.sv8_notes.specs.declared.kept.Kept.{Kept}
 use Rattle.sv8_notes.specs.Kept.{kept_in}
-use Rattle.sv8_notes.specs.Steps.{no_steps, footprint_in}
+use Rattle.sv8_notes.specs.Touched.{is_touched}
+use Rattle.sv8_notes.specs.Steps.{Gains, no_steps, footprint_in}
 use Rattle.sv8_cpu.specs.State.{State}
 use Rattle.sv8_cpu.specs.Run.{step, footprint}
 use Rattle.sv8_cpu.specs.Work.{counted}
 use Rattle.sv8_cpu.specs.Recorded.{event_at, poke_of, footprint_of, get}
 use Rattle.sv8_trace.specs.declared.interval.Interval.{Interval}
-use Rattle.sv8_trace.specs.Signs.{signs_among}
+use Rattle.sv8_trace.specs.Signs.{signs_among, with_step}
 
 -- ---- the values below the events of a step
 
@@ -66,6 +69,14 @@ pub record IsRecorded (windows pages : ℕ) (schedule : Schedule) (n : ℕ) (s :
       ≡ cond (ltb j count && is_some (poke_of c (event_at schedule (n + j))) && not (some_from j count (touches_on windows pages schedule n s c)))
       (Some (get c (steps_on windows pages schedule n s j))) None
   pub signs : steps.signs ≡ signs_among (steps_on windows pages schedule n s) count
+
+-- ONE STEP MORE: the record new has what old has, and step n as the step with this offset. That step leads from the state s to
+-- the state s'.
+pub record HasOneMore (windows pages : ℕ) (schedule : Schedule) (n offset : ℕ) (s s' : State) (old new : Interval) : Type 0 where
+  pub gained : Gains offset (told (footprint windows pages schedule n s)) (data_touches (footprint windows pages schedule n s)) old.notes new.notes
+  pub kept : (j : ℕ) (c : Cell) → kept_in j c new.kept
+      ≡ cond (is_touched (told (footprint windows pages schedule n s)) c) None (cond (j == offset && is_some (poke_of c (event_at schedule n))) (Some (get c s)) (kept_in j c old.kept))
+  pub signs : new.signs ≡ with_step old.signs offset s s'
 
 -- ---- the count of steps
 

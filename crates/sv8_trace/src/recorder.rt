@@ -14,8 +14,7 @@ ghost use Rattle.sv8_memory.specs.WordPokes.{AreInside};
 ghost use Rattle.sv8_cpu.specs.Run.{step, footprint, observed};
 ghost use Rattle.sv8_cpu.specs.Recorded.{event_at, poke_of, get};
 ghost use Rattle.sv8_cpu.specs.Work.{counted};
-ghost use Rattle.sv8_trace.specs.Signs.{with_step};
-ghost use Rattle.sv8_trace.specs.Recorder.{below_byte, below_word, below_words, below_requests, counted_by, steps_on, IsRecorded, RaisedUpTo};
+ghost use Rattle.sv8_trace.specs.Recorder.{below_byte, below_word, below_words, below_requests, counted_by, steps_on, IsRecorded, HasOneMore, RaisedUpTo};
 
 use crate::interval::Interval;
 use std::alloc::AllocError;
@@ -195,11 +194,7 @@ fn record_step<const NW: usize, const PAGES: usize>(
     requires free { (c : model.Cell) → kept_in offset c interval.old.kept ≡ None }
     ensures state { OnOk result (machine.new ≡ step NW PAGES timeline.now n machine.old) }
     ensures delivered { OnOk result (machine.new.memory.taken ≤ bytes_below (n + 1) timeline.now.inputs) }
-    ensures gained { OnOk result (Gains offset (told (footprint NW PAGES timeline.now n machine.old)) (data_touches (footprint NW PAGES timeline.now n machine.old)) interval.old.notes interval.new.notes) }
-    ensures kept { OnOk result ((j : ℕ) (c : model.Cell) → kept_in j c interval.new.kept
-        ≡ cond (is_touched (told (footprint NW PAGES timeline.now n machine.old)) c) None
-        (cond (j == offset && is_some (poke_of c (event_at timeline.now n))) (Some (get c machine.old)) (kept_in j c interval.old.kept))) }
-    ensures signs { OnOk result (interval.new.signs ≡ with_step interval.old.signs offset machine.old machine.new) }
+    ensures recorded { OnOk result (HasOneMore NW PAGES timeline.now n offset machine.old machine.new interval.old interval.new) }
     ensures counted { OnOk result (work.new ≡ counted work.old) }
     ensures uncounted { OnErr result (work.new ≡ work.old ⊎ work.new ≡ counted work.old) }
 {
@@ -233,11 +228,7 @@ pub(crate) fn record_watched<const NW: usize, const PAGES: usize>(
     ensures state { OnOk result (machine.new ≡ step NW PAGES timeline.now n machine.old) }
     ensures delivered { OnOk result (machine.new.memory.taken ≤ bytes_below (n + 1) timeline.now.inputs) }
     ensures watched { OnOk result (watch.new ≡ record { touches = footprint NW PAGES timeline.now n machine.old; observations = observed NW PAGES timeline.now n machine.old }) }
-    ensures gained { OnOk result (Gains offset (told (footprint NW PAGES timeline.now n machine.old)) (data_touches (footprint NW PAGES timeline.now n machine.old)) interval.old.notes interval.new.notes) }
-    ensures kept { OnOk result ((j : ℕ) (c : model.Cell) → kept_in j c interval.new.kept
-        ≡ cond (is_touched (told (footprint NW PAGES timeline.now n machine.old)) c) None
-        (cond (j == offset && is_some (poke_of c (event_at timeline.now n))) (Some (get c machine.old)) (kept_in j c interval.old.kept))) }
-    ensures signs { OnOk result (interval.new.signs ≡ with_step interval.old.signs offset machine.old machine.new) }
+    ensures recorded { OnOk result (HasOneMore NW PAGES timeline.now n offset machine.old machine.new interval.old interval.new) }
     ensures counted { OnOk result (work.new ≡ counted work.old) }
     ensures uncounted { OnErr result (work.new ≡ work.old ⊎ work.new ≡ counted work.old) }
 {

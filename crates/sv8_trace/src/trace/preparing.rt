@@ -89,40 +89,27 @@ impl<const NW: usize, const PAGES: usize, const K: u32> Trace<NW, PAGES, K> {
         }
     }
 
-    /// Keeps a value of a cell at a step.
+    /// Keeps a value of a cell at a step, or none.
     fn keep(
         &self,
         staged: &mut Staged,
         step: u32,
         cell: Cell,
-        content: Content,
+        content: Option<Content>,
     ) -> Result<(), AllocError>
         requires fits { IsPreparedFor PAGES self.now staged.old }
         requires step { step / K < staged.old.count }
         ensures fits { OnOk result (IsPreparedFor PAGES self.now staged.new) }
-        ensures kept { OnOk result (KeptPut (machine NW PAGES) (prepared_trace NW PAGES K self.now staged.old) (prepared_trace NW PAGES K self.now staged.new) step (cell_of cell) (Some (content_of content))) }
+        ensures kept { OnOk result (KeptPut (machine NW PAGES) (prepared_trace NW PAGES K self.now staged.old) (prepared_trace NW PAGES K self.now staged.new) step (cell_of cell) (option_map content_of content)) }
         ensures rest { staged.new ≡ record staged.old { kept = staged.new.kept } }
     {
         let _points = &self.points;
         let index = (step / K) as usize;
         let mut list = self.list(staged, index)?;
-        list.insert(step % K, cell, content)?;
-        staged.kept[index] = Some(list);
-        Ok(())
-    }
-
-    /// Keeps no value of a cell at a step.
-    fn forget(&self, staged: &mut Staged, step: u32, cell: Cell) -> Result<(), AllocError>
-        requires fits { IsPreparedFor PAGES self.now staged.old }
-        requires step { step / K < staged.old.count }
-        ensures fits { OnOk result (IsPreparedFor PAGES self.now staged.new) }
-        ensures kept { OnOk result (KeptPut (machine NW PAGES) (prepared_trace NW PAGES K self.now staged.old) (prepared_trace NW PAGES K self.now staged.new) step (cell_of cell) None) }
-        ensures rest { staged.new ≡ record staged.old { kept = staged.new.kept } }
-    {
-        let _points = &self.points;
-        let index = (step / K) as usize;
-        let mut list = self.list(staged, index)?;
-        list.remove(step % K, cell);
+        match content {
+            Some(content) => list.insert(step % K, cell, content)?,
+            None => list.remove(step % K, cell),
+        }
         staged.kept[index] = Some(list);
         Ok(())
     }
@@ -287,7 +274,7 @@ impl<const NW: usize, const PAGES: usize, const K: u32> Trace<NW, PAGES, K> {
             return Ok(());
         }
         match self.kept_value(staged, reach.to, cell) {
-            Some(_) => self.keep(staged, reach.to, cell, content),
+            Some(_) => self.keep(staged, reach.to, cell, Some(content)),
             None => Ok(()),
         }
     }
@@ -360,7 +347,7 @@ impl<const NW: usize, const PAGES: usize, const K: u32> Trace<NW, PAGES, K> {
         self.spread_content(alloc, staged, cell, content, low, reach)?;
         match below {
             Some(kept) => {
-                self.keep(staged, reach.from, cell, kept)?;
+                self.keep(staged, reach.from, cell, Some(kept))?;
                 Ok(())
             }
             None => Ok(()),
@@ -387,7 +374,7 @@ impl<const NW: usize, const PAGES: usize, const K: u32> Trace<NW, PAGES, K> {
             Some(content) => {
                 let low = (reach.from / K) as usize + 1;
                 self.spread_content(alloc, staged, cell, content, low, reach)?;
-                self.forget(staged, reach.from, cell)?;
+                self.keep(staged, reach.from, cell, None)?;
                 Ok(())
             }
         }

@@ -23,7 +23,7 @@ returns-in_err-record_step-clause-raised g c =
 pub loop-offset-preserved : goal.loop-offset-preserved
 loop-offset-preserved g c =
     let inv = c.loop-offset.invariant in
-    let both = one_more g.row.NW g.row.PAGES c.args.timeline.now c.args.n c.args.machine c.loop-offset.machine c.record_step.new.machine c.loop-offset.offset c.loop-offset.draft c.record_step.new.interval inv.state c.in_ok-record_step.ensures.state inv.recorded c.in_ok-record_step.ensures.gained c.in_ok-record_step.ensures.kept c.in_ok-record_step.ensures.signs in
+    let both = one_more g.row.NW g.row.PAGES c.args.timeline.now c.args.n c.args.machine c.loop-offset.machine c.record_step.new.machine c.loop-offset.offset c.loop-offset.draft c.record_step.new.interval inv.state c.in_ok-record_step.ensures.state inv.recorded c.in_ok-record_step.ensures.recorded in
     record {
       state = both.0;
       delivered = subst (λ x. c.record_step.new.machine.memory.taken ≤ bytes_below x c.args.timeline.now.inputs) (omega arith) c.in_ok-record_step.ensures.delivered;

@@ -1,4 +1,4 @@
-use Rattle.std.proofs.Common.{◌≡◌, ◌++◌, ap, ◌∙◌, cond, None}
+use Rattle.std.proofs.Common.{rules, ◌≡◌, ◌++◌, ap, ◌∙◌, cond, None}
 use Rattle.sv8_model.specs.Does.{Notes}
 use Rattle.sv8_phys.specs.Notes.{told}
 use Rattle.sv8_notes.specs.Kept.{kept_in}
@@ -6,10 +6,15 @@ use Rattle.sv8_notes.specs.Touched.{is_touched}
 use Rattle.sv8_cpu.specs.Run.{footprint}
 use Rattle.sv8_trace.proofs.recorder.record_watched.Goals as goal
 
-pub returns-clause-kept : goal.returns-clause-kept
-returns-clause-kept g c = λ j cell.
+pub returns-clause-recorded : goal.returns-clause-recorded
+returns-clause-recorded g c =
     let touched = footprint g.row.NW g.row.PAGES c.args.timeline.now c.args.n c.args.machine.now in
     let seen : c.touches.result.now ≡ touched = c.touches.ensures ∙ ap (λ (n : Notes). n.touches) c.in_ok-watch.ensures.noted ∙ ap (λ (n : Notes). n.touches ++ touched) c.clear.ensures in
-    c.in_ok-record_notes.ensures.kept j cell
-    ∙ ap (λ ts. cond (is_touched (told ts) cell) None (kept_in j cell c.keep_below.new.kept)) seen
-    ∙ ap (λ o. cond (is_touched (told touched) cell) None o) (c.in_ok-keep_below.ensures j cell)
+    record {
+      gained = search rules;
+      kept = λ j cell.
+          c.in_ok-record_notes.ensures.kept j cell
+          ∙ ap (λ ts. cond (is_touched (told ts) cell) None (kept_in j cell c.keep_below.new.kept)) seen
+          ∙ ap (λ o. cond (is_touched (told touched) cell) None o) (c.in_ok-keep_below.ensures j cell);
+      signs = search rules;
+    }

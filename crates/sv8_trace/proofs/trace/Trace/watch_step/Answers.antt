@@ -12,7 +12,7 @@ returns-then-draft-clause-draft g c =
     let size : c.len.result ≡ length c.self.inside.intervals.items = search rules in
     let here : k * c.len.result + made.count ≡ recorded k old + made.count = ap (λ x. k * x + made.count) (size ∙ ap (λ (r : Recording). length r.intervals) c.self.view_is) in
     let both = drafted_more g.row.NW g.row.PAGES k c.args.timeline.now old c.args.draft.now made.machine made.interval made.count _ c.draft.view_is c.requires.draft here
-    c.record_watched.new.machine c.record_watched.new.interval c.in_ok-record_watched.ensures.state c.in_ok-record_watched.ensures.gained c.in_ok-record_watched.ensures.kept c.in_ok-record_watched.ensures.signs in
+    c.record_watched.new.machine c.record_watched.new.interval c.in_ok-record_watched.ensures.state c.in_ok-record_watched.ensures.recorded in
     let next : Drafted = record { state = c.record_watched.new.machine; interval = c.record_watched.new.interval; count = made.count + 1 } in
     subst (λ (r : Recording). IsDraft g.row.NW g.row.PAGES k c.args.timeline.now r next) (sym c.self.view_is) (record { few = c.if-draft.true; state = both.0; steps = both.1 })
 
@@ -49,7 +49,7 @@ returns-clause-extended g c =
     let size : c.len.result ≡ length c.self.inside.intervals.items = search rules in
     let here : k * c.len.result + made.count ≡ recorded k old + made.count = ap (λ x. k * x + made.count) (size ∙ ap (λ (r : Recording). length r.intervals) c.self.view_is) in
     let both = drafted_more g.row.NW g.row.PAGES k c.args.timeline.now old c.args.draft.now made.machine made.interval made.count _ c.draft.view_is c.requires.draft here
-    c.record_watched.new.machine c.record_watched.new.interval c.in_ok-record_watched.ensures.state c.in_ok-record_watched.ensures.gained c.in_ok-record_watched.ensures.kept c.in_ok-record_watched.ensures.signs in
+    c.record_watched.new.machine c.record_watched.new.interval c.in_ok-record_watched.ensures.state c.in_ok-record_watched.ensures.recorded in
     let counted = ap (λ (x : Drafted). x.count) c.draft.view_is in
     on_finished c.finish_draft.result _ _ _ c.finish_draft.ensures.points c.finish_draft.ensures.intervals
     (λ p q whole. draft_extends g.row.NW g.row.PAGES k c.self.invariant.3 c.args.timeline.now old c.finish_draft.new.self c.record_watched.new.machine c.record_watched.new.interval long
