@@ -1,9 +1,9 @@
 //! The bytes of a statement.
 
-ghost use Rattle.std.specs.Prelude.{ℕ, List, Result, [], ◌≡◌, ℤ, pos, negsuc, ◌≤ℤ◌, ◌⊎◌, ◌-◌, ◌^◌, ◌++◌, IsOk, IfOk, OnErr, MatchResult, Ok, Err};
+ghost use Rattle.std.specs.Prelude.{ℕ, List, Result, [], ◌≡◌, ℤ, pos, negsuc, ◌≤ℤ◌, ◌-◌, ◌^◌, ◌++◌, IsOk, IfOk, OnErr, MatchResult, Ok, Err};
 ghost use Rattle.std.specs.Int.{w16, w32, to_be_bytes};
+ghost use Rattle.sv8_model.specs.Refused.{ByFault};
 ghost use Rattle.sv8_syntax.specs.declared.fault.LineFault.{LineFault};
-ghost use Rattle.sv8_syntax.specs.declared.fault.LineFault.TheVariants.{OutOfMemory};
 ghost use Rattle.sv8_asm.specs.Size.{size};
 ghost use Rattle.sv8_asm.specs.Code.{on_ok, least_datum, most_datum, datum_bytes, datum, data_bytes, instruction_bytes, code, before, bytes, instructions_of};
 ghost use Rattle.sv8_asm.specs.Coded.{listed, listed_any};
@@ -15,6 +15,7 @@ use crate::value::{value, within, word_of_number};
 use byteorder::{BigEndian, ByteOrder};
 use std::alloc::{AllocError, Global};
 use sv8_isa::{Instr, encode};
+use sv8_model::Refused;
 use sv8_syntax::{Expr, LineFault, Statement, Stmt, Width};
 
 /// The least number that a value in memory may be.
@@ -114,8 +115,8 @@ fn data_bytes(
     values: &[Expr],
     line: u32,
     names: &Symbols,
-) -> Result<Vec<u8>, LineFault>
-    ensures { MatchResult result (λ v. data_bytes names.now line width values.now ≡ Ok v.items) (λ e. (e ≡ OutOfMemory) ⊎ (data_bytes names.now line width values.now ≡ Err e)) }
+) -> Result<Vec<u8>, Refused<LineFault>>
+    ensures { MatchResult result (λ v. data_bytes names.now line width values.now ≡ Ok v.items) (ByFault (λ e. data_bytes names.now line width values.now ≡ Err e)) }
 {
     let mut bytes = Vec::new(alloc);
     let mut fault = None;
@@ -130,7 +131,7 @@ fn data_bytes(
         rest = after;
     }
     match fault {
-        Some(fault) => Err(fault),
+        Some(fault) => Err(Refused::By(fault)),
         None => Ok(bytes),
     }
 }
@@ -153,12 +154,12 @@ fn two_words(alloc: Global, first: u32, second: u32) -> Result<Vec<u8>, AllocErr
 }
 
 /// The bytes of one instruction or two.
-fn instruction_bytes(alloc: Global, coded: Coded) -> Result<Vec<u8>, LineFault>
-    ensures { MatchResult result (λ v. instruction_bytes (listed coded) ≡ Ok v.items) (λ e. (e ≡ OutOfMemory) ⊎ (instruction_bytes (listed coded) ≡ Err e)) }
+fn instruction_bytes(alloc: Global, coded: Coded) -> Result<Vec<u8>, Refused<LineFault>>
+    ensures { MatchResult result (λ v. instruction_bytes (listed coded) ≡ Ok v.items) (ByFault (λ e. instruction_bytes (listed coded) ≡ Err e)) }
 {
     match coded {
         Coded::One(instr) => match encode(&instr) {
-            None => Err(LineFault::OutOfRange),
+            None => Err(Refused::By(LineFault::OutOfRange)),
             Some(word) => {
                 let bytes = one_word(alloc, word)?;
                 Ok(bytes)
@@ -169,7 +170,7 @@ fn instruction_bytes(alloc: Global, coded: Coded) -> Result<Vec<u8>, LineFault>
                 let bytes = two_words(alloc, first, second)?;
                 Ok(bytes)
             }
-            _ => Err(LineFault::OutOfRange),
+            _ => Err(Refused::By(LineFault::OutOfRange)),
         },
     }
 }
@@ -206,13 +207,13 @@ fn code(
     line: u32,
     at: u32,
     names: &Symbols,
-) -> Result<Vec<u8>, LineFault>
-    ensures { MatchResult result (λ v. code (instructions_of names.now line at statement.now) ≡ Ok v.items) (λ e. (e ≡ OutOfMemory) ⊎ (code (instructions_of names.now line at statement.now) ≡ Err e)) }
+) -> Result<Vec<u8>, Refused<LineFault>>
+    ensures { MatchResult result (λ v. code (instructions_of names.now line at statement.now) ≡ Ok v.items) (ByFault (λ e. code (instructions_of names.now line at statement.now) ≡ Err e)) }
 {
     match instructions(statement, line, at, names) {
         Ok(Some(coded)) => instruction_bytes(alloc, coded),
         Ok(None) => Ok(Vec::new(alloc)),
-        Err(fault) => Err(fault),
+        Err(fault) => Err(Refused::By(fault)),
     }
 }
 
@@ -234,9 +235,9 @@ pub fn assemble(
     line: u32,
     at: u32,
     names: &Symbols,
-) -> Result<Vec<u8>, LineFault>
+) -> Result<Vec<u8>, Refused<LineFault>>
     requires { IsOk (size stmt.now at) }
-    ensures { MatchResult result (λ v. bytes stmt.now line at names.now ≡ Ok v.items) (λ e. (e ≡ OutOfMemory) ⊎ (bytes stmt.now line at names.now ≡ Err e)) }
+    ensures { MatchResult result (λ v. bytes stmt.now line at names.now ≡ Ok v.items) (ByFault (λ e. bytes stmt.now line at names.now ≡ Err e)) }
 {
     match &stmt.statement {
         None => Ok(Vec::new(alloc)),

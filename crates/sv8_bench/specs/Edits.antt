@@ -1,6 +1,8 @@
 -- Edits of a workbench: what one of the timeline comes to, and how one is prepared.
-use Rattle.std.specs.Prelude.{◌≡◌, ℕ, Result, Option, Some, None, OnOk, OnErr, IfErr}
+use Rattle.std.specs.Prelude.{◌≡◌, ℕ, Result, Option, Some, None, option_map, OnOk, OnErr, IfErr}
 use Rattle.std.specs.List.{All}
+use Rattle.sv8_model.specs.declared.refused.Refused.{Refused}
+use Rattle.sv8_model.specs.Refused.{IsRefused}
 use Rattle.sv8_history.specs.Patches.{edited}
 use Rattle.sv8_history.specs.Input.{edited_input}
 use Rattle.sv8_time.specs.declared.edit.TimelineEdit.{TimelineEdit}
@@ -14,17 +16,17 @@ use Rattle.sv8_bench.specs.Alike.{StaysAlike}
 use Rattle.sv8_bench.specs.declared.bench.affected.Affected.{Affected}
 use Rattle.sv8_bench.specs.declared.bench.affected.Affected.TheVariants.{Cells, Input}
 use Rattle.sv8_bench.specs.declared.fault.BenchFault.{BenchFault}
-use Rattle.sv8_bench.specs.Faults.{IsTimelineFault}
+use Rattle.sv8_bench.specs.declared.fault.BenchFault.TheVariants.{Time}
 use Rattle.sv8_bench.specs.Kept.{with_timeline}
 use Rattle.sv8_bench.specs.Workbench.{Workbench, IsEdited}
 
 -- AN EDIT OF THE TIMELINE is made, or it is refused, for its fault or for want of memory, and the workbench is as it was. What stays recorded has the
 -- processors that it had.
-pub record IsTimelineEdit {A : Type 0} (k : ℕ) (edit : TimelineEdit) (old new : Workbench) (result : Result A BenchFault) : Type 0 where
+pub record IsTimelineEdit {A : Type 0} (k : ℕ) (edit : TimelineEdit) (old new : Workbench) (result : Result A (Refused BenchFault)) : Type 0 where
   pub accepted : OnOk result (timeline_fault edit old.kept.timeline ≡ None)
   pub edited : OnOk result
       (IsEdited k (with_timeline (with_edit edit old.kept.timeline) old.kept) old new (edit_change old.kept.windows old.kept.pages edit old.kept.timeline))
-  pub refused : IfErr result (IsTimelineFault (timeline_fault edit old.kept.timeline))
+  pub refused : IfErr result (IsRefused (option_map Time (timeline_fault edit old.kept.timeline)))
   pub unchanged : OnErr result (new ≡ old)
   pub alike : StaysAlike k old new
 

@@ -1,6 +1,7 @@
 //! The workbench.
 
-ghost use Rattle.std.specs.Prelude.{◌≡◌, ℕ, ◌+◌, ◌*◌, ◌<◌, ◌≤◌, ◌⊎◌, length, None, Some, IfOk, IfErr, OnOk, OnErr, map, option_map};
+ghost use Rattle.std.specs.Prelude.{◌≡◌, ℕ, ◌+◌, ◌*◌, ◌<◌, ◌≤◌, length, None, Some, IfOk, IfErr, OnOk, OnErr, map, option_map};
+ghost use Rattle.sv8_model.specs.Refused.{ByFault};
 ghost use Rattle.sv8_source.specs.Text.{texts, replaced};
 ghost use Rattle.sv8_source.specs.Listing.{listing, numbered};
 ghost use Rattle.sv8_source.specs.Names.{names};
@@ -23,10 +24,11 @@ mod walks;
 use crate::bench::affected::{Affected, commit, prepare};
 use crate::bench::patches::image_patches;
 pub use crate::bench::queries::LAST_STEP;
-use crate::fault::BenchFault;
+use crate::fault::{BenchFault, of_source};
 use std::alloc::{AllocError, Global};
 use std::marker::Model;
 use sv8_cpu::Work;
+use sv8_model::Refused;
 use sv8_reset::reset;
 use sv8_source::{DefinedName, Listed, Source};
 use sv8_time::Timeline;
@@ -112,15 +114,18 @@ impl<const NW: usize, const PAGES: usize, const K: u32> Bench<NW, PAGES, K> {
         first: u32,
         last: u32,
         lines: &[Vec<u8>],
-    ) -> Result<(), BenchFault>
+    ) -> Result<(), Refused<BenchFault>>
         ensures accepted { OnOk result (edit_refusal first last (texts lines.now) self.old.kept ≡ None) }
         ensures edited { OnOk result (IsEdited K (edited first last (texts lines.now) self.old.kept) self.old self.new
             (source_change self.old.kept.windows self.old.kept.pages self.old.kept.source (replaced first last (texts lines.now) self.old.kept.source) self.old.kept.timeline)) }
-        ensures refused { IfErr result (λ e. (e ≡ BenchFault.OutOfMemory) ⊎ (edit_refusal first last (texts lines.now) self.old.kept ≡ Some e)) }
+        ensures refused { IfErr result (ByFault (λ e. edit_refusal first last (texts lines.now) self.old.kept ≡ Some e)) }
         ensures unchanged { OnErr result (self.new ≡ self.old) }
         ensures alike { StaysAlike K self.old self.new }
     {
-        let plan = self.source.plan(self.alloc, first, last, lines)?;
+        let plan = match self.source.plan(self.alloc, first, last, lines) {
+            Ok(plan) => plan,
+            Err(refused) => return Err(of_source(refused)),
+        };
         let _limit = self.timeline.limit();
         let _recorded = self.trace.recorded();
         let machine = reset::<NW, PAGES>(self.alloc, plan.source())?;

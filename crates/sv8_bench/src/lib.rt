@@ -7,7 +7,7 @@ mod shown;
 mod walk;
 
 pub use bench::{Bench, LAST_STEP};
-pub use fault::BenchFault;
+pub use fault::{BAD_ADDRESS, BenchFault, NO_SUCH_LINE, STEP_TOO_LARGE};
 pub use shown::Shown;
 pub use sv8_cpu::Mmu;
 pub use sv8_phys::Timer;

@@ -4,7 +4,7 @@ use std::alloc::{AllocError, Global};
 use std::test::Fail;
 use sv8_bench::{Bench, BenchFault};
 use sv8_cpu::Machine;
-use sv8_model::Level;
+use sv8_model::{Level, Refused};
 use sv8_phys::Page;
 use sv8_reset::reset;
 use sv8_source::Source;
@@ -19,13 +19,13 @@ const COUNT: &[&[u8]] = &[b"again: ba again", b"inc %g1"];
 const WORD: u32 = 0x200;
 
 /// The count that a workbench shows at a step.
-fn count_at(bench: &mut Small, step: u32) -> Result<u32, BenchFault> {
+fn count_at(bench: &mut Small, step: u32) -> Result<u32, Refused<BenchFault>> {
     let shown = bench.regs_at(step)?;
     Ok(shown.registers[1])
 }
 
 /// The word and the pending levels that a workbench shows at a step.
-fn events_at(bench: &mut Small, step: u32) -> Result<(u32, u32), BenchFault> {
+fn events_at(bench: &mut Small, step: u32) -> Result<(u32, u32), Refused<BenchFault>> {
     let shown = bench.regs_at(step)?;
     Ok((bench.word_at(step, WORD)?, shown.pending))
 }
@@ -53,14 +53,14 @@ fn counting(alloc: Global) -> Result<Small, Fail> {
 }
 
 /// Records 512 of 600 steps, and then has a word poked at step 1 and level 2 requested at step 3.
-fn record(bench: &mut Small) -> Result<(), BenchFault> {
+fn record(bench: &mut Small) -> Result<(), Refused<BenchFault>> {
     bench.regs_at(600)?;
     bench.set_poke(1, WORD, 5)?;
     bench.set_request(3, 2)
 }
 
 /// Whether a copy shows what its workbench shows, and each counts its own steps.
-fn answers_alike(bench: &mut Small, copy: &mut Small) -> Result<bool, BenchFault> {
+fn answers_alike(bench: &mut Small, copy: &mut Small) -> Result<bool, Refused<BenchFault>> {
     let same = steps(bench) == (512, 600) && steps(copy) == (512, 600);
     let counted = count_at(copy, 600)? == 300 && count_at(bench, 512)? == 256;
     let apart = steps(copy) == (512, 688) && steps(bench) == (512, 600);
@@ -75,7 +75,7 @@ fn leaves_the_copy(
     bench: &mut Small,
     copy: &mut Small,
     line: &[Vec<u8>],
-) -> Result<bool, BenchFault> {
+) -> Result<bool, Refused<BenchFault>> {
     bench.clear_poke(1, WORD)?;
     bench.clear_request(3, 2)?;
     let cleared = events_at(bench, 512)? == (0, 0) && events_at(copy, 512)? == (5, 4);
@@ -86,7 +86,7 @@ fn leaves_the_copy(
 }
 
 /// Whether edits and queries of a copy leave its workbench.
-fn leaves_the_workbench(bench: &mut Small, copy: &mut Small) -> Result<bool, BenchFault> {
+fn leaves_the_workbench(bench: &mut Small, copy: &mut Small) -> Result<bool, Refused<BenchFault>> {
     let before = steps(bench);
     let counted = count_at(copy, 1_000)? == 500;
     copy.set_poke(300, WORD, 7)?;

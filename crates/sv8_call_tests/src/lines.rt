@@ -3,16 +3,17 @@
 
 use std::alloc::Global;
 use std::test::*;
+use sv8_model::Refused;
 use sv8_syntax::{LineFault, parse_line};
 
-fn fault(alloc: Global, text: &[u8]) -> Option<LineFault> {
+fn fault(alloc: Global, text: &[u8]) -> Option<Refused<LineFault>> {
     match parse_line(alloc, text) {
         Ok(_) => None,
         Err(fault) => Some(fault),
     }
 }
 
-fn each_has(alloc: Global, texts: &[&[u8]], wanted: Option<LineFault>) -> bool {
+fn each_has(alloc: Global, texts: &[&[u8]], wanted: Option<Refused<LineFault>>) -> bool {
     for text in texts {
         if fault(alloc, text) != wanted {
             return false;
@@ -50,5 +51,5 @@ fn lines_are_refused(rt: HostRuntime) {
         b"add %g1, %g2",
         b".word 1 2",
     ];
-    assert!(rt; each_has(rt.alloc(), &texts, Some(LineFault::Syntax)));
+    assert!(rt; each_has(rt.alloc(), &texts, Some(Refused::By(LineFault::Syntax))));
 }

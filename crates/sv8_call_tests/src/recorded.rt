@@ -3,6 +3,7 @@
 use std::alloc::{AllocError, Global};
 use std::test::Fail;
 use sv8_bench::{Bench, BenchFault};
+use sv8_model::Refused;
 
 /// A machine with one page of RAM.
 type Small = Bench<8, 1, 256>;
@@ -43,7 +44,7 @@ fn looped(alloc: Global) -> Result<Small, Fail> {
 }
 
 /// Whether requests behind the last recorded step come and go with the whole run kept, and no step is made for them.
-fn keeps_a_million_steps(bench: &mut Small) -> Result<bool, BenchFault> {
+fn keeps_a_million_steps(bench: &mut Small) -> Result<bool, Refused<BenchFault>> {
     bench.regs_at(1_000_000)?;
     for _ in 0..10_000 {
         bench.set_request(1_000_000, 5)?;
@@ -60,7 +61,7 @@ fn edits_of_the_last_step_keep_a_million(rt: HostRuntime) -> Result<(), Fail> {
 }
 
 /// Pokes each word.
-fn poke_all(bench: &mut Small) -> Result<(), BenchFault> {
+fn poke_all(bench: &mut Small) -> Result<(), Refused<BenchFault>> {
     for index in 0..POKES {
         bench.set_poke(step_of(index), address_of(index), value_of(index))?;
     }
@@ -68,7 +69,7 @@ fn poke_all(bench: &mut Small) -> Result<(), BenchFault> {
 }
 
 /// Clears the poke of each word.
-fn clear_all(bench: &mut Small) -> Result<(), BenchFault> {
+fn clear_all(bench: &mut Small) -> Result<(), Refused<BenchFault>> {
     for index in 0..POKES {
         bench.clear_poke(step_of(index), address_of(index))?;
     }
@@ -86,7 +87,7 @@ fn words_due(alloc: Global, step: u32, poked: bool) -> Result<Vec<u32>, AllocErr
 }
 
 /// Whether the words are shown as they are due, at steps about the first checkpoints and the last pokes.
-fn shows_all(alloc: Global, bench: &mut Small, poked: bool) -> Result<bool, BenchFault> {
+fn shows_all(alloc: Global, bench: &mut Small, poked: bool) -> Result<bool, Refused<BenchFault>> {
     let mut holds = true;
     for step in [0, 1, 2, 3, 255, 256, 257, 300, 511, 512, 513, 599, 600] {
         let due = words_due(alloc, step, poked)?;
@@ -97,7 +98,7 @@ fn shows_all(alloc: Global, bench: &mut Small, poked: bool) -> Result<bool, Benc
 }
 
 /// Whether pokes of one page come and go, shown at each step as is due, with the recorded run kept and no step made for them.
-fn follows_pokes(alloc: Global, bench: &mut Small) -> Result<bool, BenchFault> {
+fn follows_pokes(alloc: Global, bench: &mut Small) -> Result<bool, Refused<BenchFault>> {
     bench.regs_at(600)?;
     poke_all(bench)?;
     let after_pokes = (bench.recorded(), bench.worked());

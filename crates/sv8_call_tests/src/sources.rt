@@ -2,6 +2,7 @@
 
 use std::alloc::Global;
 use std::test::*;
+use sv8_model::Refused;
 use sv8_source::{Source, SourceFault};
 
 /// These lines.
@@ -47,7 +48,7 @@ fn reads_image(alloc: Global, source: &Source) -> bool {
 fn has_no_room(alloc: Global, source: &Source, lines: &[Vec<u8>]) -> bool {
     match source.plan(alloc, 1, 0, lines) {
         Ok(_) => false,
-        Err(fault) => fault == SourceFault::TooManyLines,
+        Err(fault) => fault == Refused::By(SourceFault::TooManyLines),
     }
 }
 

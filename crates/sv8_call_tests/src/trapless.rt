@@ -4,6 +4,7 @@ use crate::untouched::{Small, TRANSLATES, workbench};
 use std::alloc::Global;
 use std::test::Fail;
 use sv8_bench::BenchFault;
+use sv8_model::Refused;
 use sv8_phys::Watch;
 use sv8_search::{checkpoint, flag_shown, shows_none};
 use sv8_trace::Sign;
@@ -184,7 +185,7 @@ fn reads(bench: &Small, checkpoints: &[Read]) -> bool {
 }
 
 /// Whether the ranges have their answers once so many steps are recorded.
-fn tells(bench: &mut Small, steps: u32, ranges: &[Range]) -> Result<bool, BenchFault> {
+fn tells(bench: &mut Small, steps: u32, ranges: &[Range]) -> Result<bool, Refused<BenchFault>> {
     bench.regs_at(steps)?;
     Ok(answers(bench, ranges))
 }

@@ -4,6 +4,7 @@ use crate::untouched::{STORES, Small, TRANSLATES, workbench};
 use std::alloc::{AllocError, Global};
 use std::test::Fail;
 use sv8_bench::BenchFault;
+use sv8_model::Refused;
 use sv8_phys::Watch;
 use sv8_search::is_unreached;
 
@@ -94,7 +95,7 @@ fn answers(bench: &Small, ranges: &[Range]) -> bool {
 }
 
 /// Whether each has, once so many steps are recorded.
-fn tells(bench: &mut Small, steps: u32, ranges: &[Range]) -> Result<bool, BenchFault> {
+fn tells(bench: &mut Small, steps: u32, ranges: &[Range]) -> Result<bool, Refused<BenchFault>> {
     bench.regs_at(steps)?;
     Ok(answers(bench, ranges))
 }
@@ -121,7 +122,7 @@ fn empty(alloc: Global, bench: &mut Small, line: u32) -> Result<(), Fail> {
 
 /// Whether the ranges of `TURNS` have their answers, and have them still once a poke that no step reads has left all steps
 /// recorded.
-fn tells_pokes(bench: &mut Small) -> Result<bool, BenchFault> {
+fn tells_pokes(bench: &mut Small) -> Result<bool, Refused<BenchFault>> {
     let turned = tells(bench, 16, &TURNED)?;
     bench.set_poke_byte(13, 0x301, 7)?;
     let kept = (bench.recorded(), bench.worked()) == (16, 16);

@@ -3,6 +3,7 @@
 use std::alloc::Global;
 use std::test::Fail;
 use sv8_bench::{Bench, BenchFault};
+use sv8_model::Refused;
 use sv8_phys::TouchKind;
 use sv8_search::is_untouched;
 
@@ -123,13 +124,17 @@ fn answers(bench: &Small, kind: TouchKind, ranges: &[Range]) -> bool {
 }
 
 /// Whether each has, once eight steps are recorded.
-fn tells(bench: &mut Small, kind: TouchKind, ranges: &[Range]) -> Result<bool, BenchFault> {
+fn tells(
+    bench: &mut Small,
+    kind: TouchKind,
+    ranges: &[Range],
+) -> Result<bool, Refused<BenchFault>> {
     bench.regs_at(8)?;
     Ok(answers(bench, kind, ranges))
 }
 
 /// Whether the ranges of `STORES` have their answers, and those with a poke once it is set, for which no step is made.
-fn tells_pokes(bench: &mut Small) -> Result<bool, BenchFault> {
+fn tells_pokes(bench: &mut Small) -> Result<bool, Refused<BenchFault>> {
     let stores = tells(bench, TouchKind::Any, &RANGES)?;
     bench.set_poke_byte(6, 0x201, 7)?;
     let poked = answers(bench, TouchKind::Any, &POKED) && answers(bench, TouchKind::Data, &POKED);

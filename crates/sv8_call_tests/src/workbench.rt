@@ -4,7 +4,12 @@ ghost use Rattle.std.specs.Prelude.{◌≤◌};
 
 use std::alloc::Global;
 use std::test::Fail;
-use sv8_bench::{Bench, BenchFault, Shown};
+use sv8_bench::BenchFault::{self, Source, Time};
+use sv8_bench::{BAD_ADDRESS, Bench, NO_SUCH_LINE, STEP_TOO_LARGE, Shown};
+use sv8_model::Refused::{self, By};
+use sv8_source::SourceFault;
+use sv8_syntax::LineFault;
+use sv8_time::TimeFault;
 
 /// A loop whose branch annuls its delay slot.
 const LOOP: &[&[u8]] = &[b"loop: ba,a loop", b".word 0"];
@@ -38,7 +43,7 @@ enum Question {
     /// Whether the machine of `LOOP` is shown up to the last step, and no further.
     LoopsToTheEnd,
     /// Whether this edit of `LOOP` is refused with this fault, and listing and machine are as before.
-    Refuses(u32, u32, &'static [u8], BenchFault),
+    Refuses(u32, u32, &'static [u8], Refused<BenchFault>),
     /// Whether the machine of `LOOP` follows its lines as they are edited.
     FollowsEdits,
     /// Whether each edit of `EDITS` has its answer.
@@ -136,7 +141,7 @@ fn loops<const NW: usize, const K: u32>(
 
 /// Whether a step is refused as too large.
 fn is_beyond<const NW: usize, const K: u32>(bench: &mut Bench<NW, 1, K>, step: u32) -> bool {
-    matches!(bench.regs_at(step), Err(BenchFault::StepTooLarge))
+    matches!(bench.regs_at(step), Err(By(Time(TimeFault::StepTooLarge))))
 }
 
 fn loops_to_the_end<const NW: usize, const K: u32>(
@@ -173,7 +178,7 @@ fn refuses<const NW: usize, const K: u32>(
     first: u32,
     last: u32,
     lines: &[Vec<u8>],
-    fault: BenchFault,
+    fault: Refused<BenchFault>,
 ) -> Result<bool, Fail> {
     let answer = bench.replace_lines(first, last, lines);
     let in_slot = loops(bench, 1, true)?;
@@ -253,16 +258,26 @@ fn edits_change_the_program(rt: HostRuntime) -> Result<(), Fail> {
     Ok(())
 }
 
+/// The refusal of an edit whose line of this number has a fault.
+fn in_line(number: u32, what: LineFault) -> Refused<BenchFault> {
+    By(Source(SourceFault::Line { number, what }))
+}
+
 #[test]
 fn a_refused_edit_changes_nothing(rt: HostRuntime) -> Result<(), Fail> {
     let refused = [
-        (3, 2, &b"nop nop"[..], BenchFault::Syntax(3)),
-        (1, 1, b"ba nowhere", BenchFault::UnknownName(1)),
-        (2, 2, b"loop: nop", BenchFault::DuplicateLabel(2)),
-        (2, 2, b"add %g1, 5000, %g1", BenchFault::OutOfRange(2)),
-        (0, 0, b"nop", BenchFault::NoSuchLine),
-        (1, 3, b"nop", BenchFault::NoSuchLine),
-        (4, 3, b"nop", BenchFault::NoSuchLine),
+        (3, 2, &b"nop nop"[..], in_line(3, LineFault::Syntax)),
+        (1, 1, b"ba nowhere", in_line(1, LineFault::UnknownName)),
+        (2, 2, b"loop: nop", in_line(2, LineFault::DuplicateLabel)),
+        (
+            2,
+            2,
+            b"add %g1, 5000, %g1",
+            in_line(2, LineFault::OutOfRange),
+        ),
+        (0, 0, b"nop", NO_SUCH_LINE),
+        (1, 3, b"nop", NO_SUCH_LINE),
+        (4, 3, b"nop", NO_SUCH_LINE),
     ];
     for (first, last, text, fault) in refused {
         assert!(rt;
@@ -291,47 +306,56 @@ enum Edit {
 
 /// Edits of a timeline over 4,096 bytes of RAM, each with its answer: each kind is done, done again over what stands,
 /// cleared, and then found cleared; and each refusal but that of the 65,537th event comes in its order.
-const EDITS: &[(Edit, Result<(), BenchFault>)] = &[
+const EDITS: &[(Edit, Result<(), Refused<BenchFault>>)] = &[
     (Edit::Poke(5, 0xffc, 0x1122_3344), Ok(())),
     (Edit::PokeByte(5, 0xffd, 0xaa), Ok(())),
     (Edit::ClearPokeByte(5, 0xffd), Ok(())),
-    (Edit::ClearPokeByte(5, 0xffd), Err(BenchFault::NothingThere)),
+    (
+        Edit::ClearPokeByte(5, 0xffd),
+        Err(By(Time(TimeFault::NothingThere))),
+    ),
     (Edit::ClearPoke(5, 0xffc), Ok(())),
-    (Edit::ClearPoke(5, 0xffc), Err(BenchFault::NothingThere)),
+    (
+        Edit::ClearPoke(5, 0xffc),
+        Err(By(Time(TimeFault::NothingThere))),
+    ),
     (Edit::PokeByte(1_000_000, 0xfff, 1), Ok(())),
     (Edit::ClearPoke(1_000_000, 0xffc), Ok(())),
     (Edit::Input(10, b"AB"), Ok(())),
     (Edit::Input(10, &[0; 1_024]), Ok(())),
     (Edit::ClearInput(10), Ok(())),
-    (Edit::ClearInput(10), Err(BenchFault::NothingThere)),
+    (Edit::ClearInput(10), Err(By(Time(TimeFault::NothingThere)))),
     (Edit::Request(2, 15), Ok(())),
     (Edit::Request(2, 15), Ok(())),
     (Edit::ClearRequest(2, 15), Ok(())),
-    (Edit::ClearRequest(2, 15), Err(BenchFault::NothingThere)),
-    (Edit::Poke(1_000_001, 2, 0), Err(BenchFault::StepTooLarge)),
-    (Edit::Poke(0, 2, 0), Err(BenchFault::BadAddress)),
-    (Edit::Poke(0, 0x1000, 0), Err(BenchFault::BadAddress)),
-    (Edit::ClearPoke(0, 0xffe), Err(BenchFault::BadAddress)),
-    (Edit::PokeByte(0, 0x1000, 0), Err(BenchFault::BadAddress)),
-    (Edit::ClearPokeByte(0, 0x1000), Err(BenchFault::BadAddress)),
     (
-        Edit::Input(1_000_001, &[0; 1_025]),
-        Err(BenchFault::StepTooLarge),
+        Edit::ClearRequest(2, 15),
+        Err(By(Time(TimeFault::NothingThere))),
     ),
-    (Edit::Input(0, &[0; 1_025]), Err(BenchFault::InputTooLong)),
-    (Edit::Request(0, 0), Err(BenchFault::BadLevel)),
-    (Edit::Request(0, 16), Err(BenchFault::BadLevel)),
+    (Edit::Poke(1_000_001, 2, 0), Err(STEP_TOO_LARGE)),
+    (Edit::Poke(0, 2, 0), Err(BAD_ADDRESS)),
+    (Edit::Poke(0, 0x1000, 0), Err(BAD_ADDRESS)),
+    (Edit::ClearPoke(0, 0xffe), Err(BAD_ADDRESS)),
+    (Edit::PokeByte(0, 0x1000, 0), Err(BAD_ADDRESS)),
+    (Edit::ClearPokeByte(0, 0x1000), Err(BAD_ADDRESS)),
+    (Edit::Input(1_000_001, &[0; 1_025]), Err(STEP_TOO_LARGE)),
     (
-        Edit::ClearRequest(1_000_001, 16),
-        Err(BenchFault::StepTooLarge),
+        Edit::Input(0, &[0; 1_025]),
+        Err(By(Time(TimeFault::InputTooLong))),
     ),
-    (Edit::ClearRequest(0, 16), Err(BenchFault::BadLevel)),
+    (Edit::Request(0, 0), Err(By(Time(TimeFault::BadLevel)))),
+    (Edit::Request(0, 16), Err(By(Time(TimeFault::BadLevel)))),
+    (Edit::ClearRequest(1_000_001, 16), Err(STEP_TOO_LARGE)),
+    (
+        Edit::ClearRequest(0, 16),
+        Err(By(Time(TimeFault::BadLevel))),
+    ),
 ];
 
 fn carry_out<const NW: usize, const K: u32>(
     bench: &mut Bench<NW, 1, K>,
     edit: Edit,
-) -> Result<(), BenchFault> {
+) -> Result<(), Refused<BenchFault>> {
     match edit {
         Edit::Poke(step, address, value) => bench.set_poke(step, address, value),
         Edit::ClearPoke(step, address) => bench.clear_poke(step, address),
@@ -349,10 +373,10 @@ fn carry_out<const NW: usize, const K: u32>(
 fn has_answer<const NW: usize, const K: u32>(
     bench: &mut Bench<NW, 1, K>,
     edit: Edit,
-    answer: Result<(), BenchFault>,
+    answer: Result<(), Refused<BenchFault>>,
 ) -> bool {
     let mut given = carry_out(bench, edit);
-    if answer.is_ok() && given == Err(BenchFault::OutOfMemory) {
+    if answer.is_ok() && given == Err(Refused::OutOfMemory) {
         given = carry_out(bench, edit);
     }
     given == answer
@@ -378,11 +402,11 @@ fn events_are_set_and_cleared(rt: HostRuntime) -> Result<(), Fail> {
 #[derive(Drop, Clone, Copy)]
 enum Look {
     /// The words at a step, from an address on.
-    Words(u32, u32, u32, Result<&'static [u32], BenchFault>),
+    Words(u32, u32, u32, Result<&'static [u32], Refused<BenchFault>>),
     /// The word at a step and an address.
-    Word(u32, u32, Result<u32, BenchFault>),
+    Word(u32, u32, Result<u32, Refused<BenchFault>>),
     /// The bytes put out below a step.
-    Output(u32, Result<&'static [u8], BenchFault>),
+    Output(u32, Result<&'static [u8], Refused<BenchFault>>),
 }
 
 /// Queries of `PRINTS` in 4,096 bytes of RAM: words before and after they are stored, the first and the last of RAM, and each refusal.
@@ -392,19 +416,19 @@ const LOOKS: &[Look] = &[
     Look::Words(4, 0xfc, 3, Ok(&[0, 0x48, 0])),
     Look::Words(4, 0xffc, 1, Ok(&[0])),
     Look::Words(4, 0xffc, 0, Ok(&[])),
-    Look::Words(4, 0xffc, 2, Err(BenchFault::BadAddress)),
-    Look::Words(4, 0x1000, 0, Err(BenchFault::BadAddress)),
-    Look::Words(4, 0x102, 1, Err(BenchFault::BadAddress)),
-    Look::Words(4, 0, u32::MAX, Err(BenchFault::BadAddress)),
-    Look::Words(1_000_001, 0x102, 1, Err(BenchFault::StepTooLarge)),
+    Look::Words(4, 0xffc, 2, Err(BAD_ADDRESS)),
+    Look::Words(4, 0x1000, 0, Err(BAD_ADDRESS)),
+    Look::Words(4, 0x102, 1, Err(BAD_ADDRESS)),
+    Look::Words(4, 0, u32::MAX, Err(BAD_ADDRESS)),
+    Look::Words(1_000_001, 0x102, 1, Err(STEP_TOO_LARGE)),
     Look::Word(3, 0x100, Ok(0)),
     Look::Word(4, 0x100, Ok(0x48)),
-    Look::Word(4, 0x101, Err(BenchFault::BadAddress)),
-    Look::Word(4, 0x1000, Err(BenchFault::BadAddress)),
-    Look::Word(1_000_001, 0x1000, Err(BenchFault::StepTooLarge)),
+    Look::Word(4, 0x101, Err(BAD_ADDRESS)),
+    Look::Word(4, 0x1000, Err(BAD_ADDRESS)),
+    Look::Word(1_000_001, 0x1000, Err(STEP_TOO_LARGE)),
     Look::Output(2, Ok(b"")),
     Look::Output(3, Ok(b"H")),
-    Look::Output(1_000_001, Err(BenchFault::StepTooLarge)),
+    Look::Output(1_000_001, Err(STEP_TOO_LARGE)),
 ];
 
 fn has_words<const NW: usize, const K: u32>(
@@ -412,7 +436,7 @@ fn has_words<const NW: usize, const K: u32>(
     step: u32,
     address: u32,
     count: u32,
-    answer: Result<&[u32], BenchFault>,
+    answer: Result<&[u32], Refused<BenchFault>>,
 ) -> bool {
     match (bench.words_at(step, address, count), answer) {
         (Ok(words), Ok(wanted)) => words.as_slice() == wanted,
@@ -424,7 +448,7 @@ fn has_words<const NW: usize, const K: u32>(
 fn has_output<const NW: usize, const K: u32>(
     bench: &mut Bench<NW, 1, K>,
     step: u32,
-    answer: Result<&[u8], BenchFault>,
+    answer: Result<&[u8], Refused<BenchFault>>,
 ) -> bool {
     match (bench.output_at(step), answer) {
         (Ok(bytes), Ok(wanted)) => bytes.as_slice() == wanted,

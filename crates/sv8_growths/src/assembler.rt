@@ -3,8 +3,9 @@
 
 use std::alloc::{AllocError, Global};
 use sv8_asm::{Symbols, assemble, size_of};
-use sv8_source::{DefinedName, Source, SourceFault};
-use sv8_syntax::{LineFault, Stmt, parse_line};
+use sv8_model::Refused;
+use sv8_source::{DefinedName, Source};
+use sv8_syntax::{Stmt, parse_line};
 
 /// Lines, and what each places as line 3 at location 16, where `x` is 8 and the local label 1 stands in line 2 at 4 and in line 5 at 32.
 const LINES: [(&[u8], &[u8]); 6] = [
@@ -36,7 +37,7 @@ const AFTER: [u32; 5] = [
 fn statement(alloc: Global, text: &[u8]) -> Option<Stmt> {
     match parse_line(alloc, text) {
         Ok(stmt) => Some(stmt),
-        Err(LineFault::OutOfMemory) => parse_line(alloc, text).ok(),
+        Err(Refused::OutOfMemory) => parse_line(alloc, text).ok(),
         Err(_) => None,
     }
 }
@@ -46,7 +47,7 @@ fn places(alloc: Global, stmt: &Stmt, names: &Symbols, due: &[u8]) -> bool {
     match size_of(stmt, 16) {
         Ok(_) => match assemble(alloc, stmt, 3, 16, names) {
             Ok(bytes) => bytes.as_slice() == due,
-            Err(LineFault::OutOfMemory) => match assemble(alloc, stmt, 3, 16, names) {
+            Err(Refused::OutOfMemory) => match assemble(alloc, stmt, 3, 16, names) {
                 Ok(bytes) => bytes.as_slice() == due,
                 Err(_) => false,
             },
@@ -134,7 +135,7 @@ fn is_replaced(
 ) -> bool {
     let replaced = match source.replace(alloc, range.0, range.1, lines) {
         Ok(_) => true,
-        Err(SourceFault::OutOfMemory) => {
+        Err(Refused::OutOfMemory) => {
             has_image(alloc, source, before)
                 && source.replace(alloc, range.0, range.1, lines).is_ok()
         }

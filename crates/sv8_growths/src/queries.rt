@@ -3,6 +3,7 @@
 
 use std::alloc::{AllocError, Global};
 use sv8_bench::{Bench, BenchFault};
+use sv8_model::Refused;
 use sv8_phys::Watch;
 
 type Small = Bench<8, 2, 256>;
@@ -79,17 +80,21 @@ const DEEDS: &[Deed] = &[
     Deed::Registers(2, 8, 0x49, 0),
 ];
 
-fn edit(alloc: Global, bench: &mut Small, text: &[u8]) -> Result<bool, BenchFault> {
+fn edit(alloc: Global, bench: &mut Small, text: &[u8]) -> Result<bool, Refused<BenchFault>> {
     let mut lines = Vec::new(alloc);
     let line = text.to_vec(alloc)?;
     if lines.push(line).is_err() {
-        return Err(BenchFault::OutOfMemory);
+        return Err(Refused::OutOfMemory);
     }
     bench.replace_lines(2, 2, &lines)?;
     Ok(true)
 }
 
-fn shows(bench: &mut Small, step: u32, wanted: (u32, u32, u32)) -> Result<bool, BenchFault> {
+fn shows(
+    bench: &mut Small,
+    step: u32,
+    wanted: (u32, u32, u32),
+) -> Result<bool, Refused<BenchFault>> {
     let shown = bench.regs_at(step)?;
     Ok((shown.pc, shown.registers[2], shown.pending) == wanted)
 }
@@ -99,18 +104,18 @@ fn has_words(
     step: u32,
     address: u32,
     wanted: &[u32],
-) -> Result<bool, BenchFault> {
+) -> Result<bool, Refused<BenchFault>> {
     let words = bench.words_at(step, address, wanted.len().min(9) as u32)?;
     Ok(words.as_slice() == wanted)
 }
 
-fn has_output(bench: &mut Small, step: u32, wanted: &[u8]) -> Result<bool, BenchFault> {
+fn has_output(bench: &mut Small, step: u32, wanted: &[u8]) -> Result<bool, Refused<BenchFault>> {
     let bytes = bench.output_at(step)?;
     Ok(bytes.as_slice() == wanted)
 }
 
 /// Does what is to be done, and tells whether it has its answer.
-fn carry_out(alloc: Global, bench: &mut Small, deed: Deed) -> Result<bool, BenchFault> {
+fn carry_out(alloc: Global, bench: &mut Small, deed: Deed) -> Result<bool, Refused<BenchFault>> {
     match deed {
         Deed::Edit(text) => edit(alloc, bench, text),
         Deed::Poke(step, address, value) => bench.set_poke(step, address, value).map(|_| true),
@@ -157,7 +162,7 @@ fn counts(bench: &Small) -> (u32, u64) {
 fn is_done(alloc: Global, bench: &mut Small, deed: Deed) -> bool {
     let before = counts(bench);
     match carry_out(alloc, bench, deed) {
-        Err(BenchFault::OutOfMemory) => {
+        Err(Refused::OutOfMemory) => {
             let refused = counts(bench);
             let kept = if is_query(deed) {
                 before.0 <= refused.0 && before.1 <= refused.1
@@ -261,7 +266,7 @@ fn made(alloc: Global) -> Result<Option<Small>, AllocError> {
     let mut bench = new(alloc)?;
     match bench.replace_lines(1, 0, &lines) {
         Ok(()) => Ok(Some(bench)),
-        Err(BenchFault::OutOfMemory) => Err(AllocError),
+        Err(Refused::OutOfMemory) => Err(AllocError),
         Err(_) => Ok(None),
     }
 }

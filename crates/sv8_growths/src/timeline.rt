@@ -2,6 +2,7 @@
 //! other one does its work.
 
 use std::alloc::{AllocError, Global};
+use sv8_model::Refused;
 use sv8_time::{TimeFault, Timeline};
 
 /// How many steps have events.
@@ -37,10 +38,10 @@ fn look_at(timeline: &Timeline) -> Seen {
     all
 }
 
-fn is_kept(answer: Result<(), TimeFault>, before: Seen, after: Seen) -> bool {
+fn is_kept(answer: Result<(), Refused<TimeFault>>, before: Seen, after: Seen) -> bool {
     match answer {
         Ok(()) => before != after,
-        Err(TimeFault::OutOfMemory) => before == after,
+        Err(Refused::OutOfMemory) => before == after,
         Err(_) => false,
     }
 }

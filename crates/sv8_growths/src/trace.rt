@@ -9,6 +9,7 @@ ghost use Rattle.sv8_trace.specs.Recording.{last_point, recorded};
 
 use crate::recorded::{Point, Small, copied, fresh, lengthen, source_of, watch_four};
 use std::alloc::{AllocError, Global};
+use sv8_model::Refused;
 use sv8_source::Source;
 use sv8_time::{TimeFault, Timeline};
 use sv8_trace::{Cause, Cell, Content, NO_END, Patch};
@@ -333,7 +334,7 @@ fn are_done(alloc: Global, trace: &mut Small) -> bool {
 }
 
 /// Sets the run's events.
-fn schedule(alloc: Global, timeline: &mut Timeline) -> Result<(), TimeFault>
+fn schedule(alloc: Global, timeline: &mut Timeline) -> Result<(), Refused<TimeFault>>
     ensures { timeline.new.limit ≡ timeline.old.limit }
 {
     timeline.set_input(alloc, 0, b"A")?;

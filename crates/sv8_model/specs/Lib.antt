@@ -6,4 +6,5 @@ pub mod Footprint
 pub mod Cells
 pub mod Frame
 pub mod Does
+pub mod Refused
 pub mod Laws

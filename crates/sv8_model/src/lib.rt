@@ -1,5 +1,5 @@
-//! The definitions that the machine's crates share: words, what is outside the processor, what the processor does with it, and what
-//! of it a step touches.
+//! The definitions that the crates share: words, what is outside the processor, what the processor does with it, what of it a step
+//! touches, and why a call that takes memory is refused.
 //!
 //! The definitions stand in `specs/`; the functions of `laws` state laws about them and do nothing.
 #![tactic(auto)]
@@ -7,8 +7,10 @@
 pub mod laws;
 mod level;
 mod observation;
+mod refused;
 mod touch;
 
 pub use level::Level;
 pub use observation::{AccessKind, Observation};
+pub use refused::Refused;
 pub use touch::{Touch, TouchKind};

@@ -1,6 +1,7 @@
 //! Timelines at their bounds, with answers worked out by hand.
 
 use std::alloc::Global;
+use sv8_model::Refused::{self, By};
 use sv8_time::{InputBytes, TimeFault, Timeline, TimelineEdit};
 
 /// An edit of a timeline.
@@ -43,7 +44,7 @@ fn edit_of(deed: Deed) -> Option<TimelineEdit<'static>> {
     Some(edit)
 }
 
-fn carry_out(timeline: &mut Timeline, alloc: Global, deed: Deed) -> Result<(), TimeFault> {
+fn carry_out(timeline: &mut Timeline, alloc: Global, deed: Deed) -> Result<(), Refused<TimeFault>> {
     match edit_of(deed) {
         Some(edit) => timeline.edit(alloc, &edit),
         None => Ok(()),
@@ -54,7 +55,7 @@ fn carry_out(timeline: &mut Timeline, alloc: Global, deed: Deed) -> Result<(), T
 fn has_answers(
     timeline: &mut Timeline,
     alloc: Global,
-    deeds: &[(Deed, Result<(), TimeFault>)],
+    deeds: &[(Deed, Result<(), Refused<TimeFault>>)],
 ) -> bool {
     for (deed, answer) in deeds {
         if carry_out(timeline, alloc, *deed) != *answer {
@@ -80,38 +81,38 @@ use Deed::*;
 use TimeFault::*;
 
 /// Words and bytes at the end of a RAM that ends within a word.
-const AT_THE_END: &[(Deed, Result<(), TimeFault>)] = &[
-    (Poke(0, 4_096, 0), Err(BadAddress)),
-    (Poke(0, 0xFFFF_FFFC, 0), Err(BadAddress)),
+const AT_THE_END: &[(Deed, Result<(), Refused<TimeFault>>)] = &[
+    (Poke(0, 4_096, 0), Err(By(BadAddress))),
+    (Poke(0, 0xFFFF_FFFC, 0), Err(By(BadAddress))),
     (Poke(1_000_000, 4_092, 0), Ok(())),
     (PokeByte(0, 4_097, 1), Ok(())),
-    (PokeByte(0, 4_098, 1), Err(BadAddress)),
-    (Unpoke(0, 4_096), Err(BadAddress)),
-    (UnpokeByte(0, 4_096), Err(NothingThere)),
+    (PokeByte(0, 4_098, 1), Err(By(BadAddress))),
+    (Unpoke(0, 4_096), Err(By(BadAddress))),
+    (UnpokeByte(0, 4_096), Err(By(NothingThere))),
     (UnpokeByte(0, 4_097), Ok(())),
 ];
 
 /// Two more events have a place; bytes of one word are one event, and what stands can be replaced.
-const FULL: &[(Deed, Result<(), TimeFault>)] = &[
+const FULL: &[(Deed, Result<(), Refused<TimeFault>>)] = &[
     (PokeByte(5, 9, 1), Ok(())),
     (Input(5, b"a"), Ok(())),
-    (Poke(5, 12, 1), Err(TooManyEvents)),
-    (PokeByte(5, 12, 1), Err(TooManyEvents)),
+    (Poke(5, 12, 1), Err(By(TooManyEvents))),
+    (PokeByte(5, 12, 1), Err(By(TooManyEvents))),
     (PokeByte(5, 11, 1), Ok(())),
     (Poke(5, 8, 1), Ok(())),
-    (Input(6, b"a"), Err(TooManyEvents)),
-    (Input(6, &LONG), Err(TooManyEvents)),
-    (Input(5, &LONG), Err(InputTooLong)),
+    (Input(6, b"a"), Err(By(TooManyEvents))),
+    (Input(6, &LONG), Err(By(TooManyEvents))),
+    (Input(5, &LONG), Err(By(InputTooLong))),
     (Input(5, b"bc"), Ok(())),
-    (Request(5, 5), Err(TooManyEvents)),
+    (Request(5, 5), Err(By(TooManyEvents))),
     (Request(5, 6), Ok(())),
     (UnpokeByte(5, 9), Ok(())),
-    (Request(5, 5), Err(TooManyEvents)),
+    (Request(5, 5), Err(By(TooManyEvents))),
     (Unpoke(5, 8), Ok(())),
     (Request(5, 5), Ok(())),
     (Uninput(5), Ok(())),
     (Unrequest(5, 6), Ok(())),
-    (Unrequest(5, 6), Err(NothingThere)),
+    (Unrequest(5, 6), Err(By(NothingThere))),
 ];
 
 fn ends_well(alloc: Global) -> bool {

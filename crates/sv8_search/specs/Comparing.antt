@@ -4,8 +4,9 @@ use Rattle.sv8_model.specs.Outside.{word_of}
 use Rattle.sv8_regs.specs.Current.{other_windows}
 use Rattle.sv8_cpu.specs.Sameness.{IsSameProcessor}
 use Rattle.sv8_cpu.specs.State.{State}
+use Rattle.sv8_time.specs.declared.fault.TimeFault.TheVariants.{StepTooLarge}
 use Rattle.sv8_bench.specs.declared.fault.BenchFault.{BenchFault}
-use Rattle.sv8_bench.specs.declared.fault.BenchFault.TheVariants.{StepTooLarge}
+use Rattle.sv8_bench.specs.declared.fault.BenchFault.TheVariants.{Time}
 use Rattle.sv8_bench.specs.Kept.{Kept}
 use Rattle.sv8_bench.specs.Shown.{machine_state}
 use Rattle.sv8_bench.specs.Walks.{IsWalk}
@@ -15,7 +16,7 @@ use Rattle.sv8_search.specs.declared.difference.Difference.{Difference}
 use Rattle.sv8_search.specs.Search.{rising}
 
 abbrev pub range_refusal : ℕ → ℕ → Option BenchFault
-range_refusal from to = if nat_lt 1000000 from || nat_lt 1000000 to then Some StepTooLarge else None
+range_refusal from to = if nat_lt 1000000 from || nat_lt 1000000 to then Some (Time StepTooLarge) else None
 
 -- ---- processors
 

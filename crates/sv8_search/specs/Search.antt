@@ -6,8 +6,9 @@ use Rattle.sv8_cpu.specs.State.{State}
 use Rattle.sv8_cpu.specs.Work.{counted}
 use Rattle.sv8_history.specs.Growing.{restored}
 use Rattle.sv8_trace.specs.Recorder.{counted_by, RaisedUpTo}
+use Rattle.sv8_time.specs.declared.fault.TimeFault.TheVariants.{BadAddress}
 use Rattle.sv8_bench.specs.declared.fault.BenchFault.{BenchFault}
-use Rattle.sv8_bench.specs.declared.fault.BenchFault.TheVariants.{BadAddress}
+use Rattle.sv8_bench.specs.declared.fault.BenchFault.TheVariants.{Time}
 use Rattle.sv8_bench.specs.Faults.{step_refusal}
 use Rattle.sv8_bench.specs.Kept.{Kept}
 use Rattle.sv8_bench.specs.Shown.{machine_state}
@@ -100,7 +101,7 @@ if_none None other = other
 -- both steps are looked at first
 abbrev pub steps_refusal : ℕ → ℕ → List Condition → Kept → Option BenchFault
 steps_refusal from to conditions k =
-    if_none (step_refusal from) (if_none (step_refusal to) (if are_inside (4096 * k.pages) conditions then None else Some BadAddress))
+    if_none (step_refusal from) (if_none (step_refusal to) (if are_inside (4096 * k.pages) conditions then None else Some (Time BadAddress)))
 
 -- ---- what a search leaves of a workbench
 

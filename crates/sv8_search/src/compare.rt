@@ -1,7 +1,7 @@
 //! What differs between a workbench and the one that was kept.
 
 ghost use Rattle.std.specs.Prelude.{◌≡◌, MatchBool, true, ℕ, ◌+◌, ◌-◌, ◌/◌, ◌<◌, ◌≤◌, ◌⊎◌, max, IfOk, IfErr, IfSome, OnOk, OnErr, None, Some};
-ghost use Rattle.sv8_bench.specs.Faults.{IsQueryFault};
+ghost use Rattle.sv8_model.specs.Refused.{IsRefused};
 ghost use Rattle.sv8_phys.specs.Memory.{ram_size};
 ghost use Rattle.sv8_bench.specs.Alike.{AreAlikeUpTo};
 ghost use Rattle.sv8_bench.specs.Shown.{machine_state};
@@ -13,8 +13,9 @@ ghost use Rattle.sv8_search.specs.Comparing.{range_refusal, AreAlike, AreSameOut
 
 use crate::difference::Difference;
 use std::alloc::{AllocError, Global};
-use sv8_bench::{Bench, BenchFault, LAST_STEP, Walk};
+use sv8_bench::{Bench, BenchFault, LAST_STEP, STEP_TOO_LARGE, Walk};
 use sv8_cpu::Machine;
+use sv8_model::Refused;
 use sv8_phys::Watch;
 
 /// The sites of the steps of both runs (see `walk_past`).
@@ -34,21 +35,21 @@ pub fn part<const NW: usize, const PAGES: usize, const K: u32>(
     common: u32,
     from: u32,
     to: u32,
-) -> Result<Option<u32>, BenchFault>
+) -> Result<Option<u32>, Refused<BenchFault>>
     requires alike { AreAlikeUpTo common before.old.kept now.old.kept }
     ensures parted { IfOk result (IsParted before.old.kept now.old.kept from to) }
     ensures within { OnOk result (range_refusal from to ≡ None) }
     ensures idle { OnOk result ((to < from) ⊎ (to ≤ common) → (now.new ≡ now.old) × (before.new ≡ before.old)) }
     ensures now_looked { IfOk result (λ parted. from ≤ to → common < to → IsSearched K (max from common) (parting to parted) now.old now.new) }
     ensures before_looked { IfOk result (λ parted. from ≤ to → common < to → IsSearched K (max from common) (parting to parted) before.old before.new) }
-    ensures refused { IfErr result (IsQueryFault (range_refusal from to)) }
+    ensures refused { IfErr result (IsRefused (range_refusal from to)) }
     ensures untouched { IfSome (range_refusal from to) (λ e. (now.new ≡ now.old) × (before.new ≡ before.old)) }
     ensures now_given_up { OnErr result (IsAbandoned K (max from common) to now.old now.new) }
     ensures before_given_up { OnErr result (IsAbandoned K (max from common) to before.old before.new) }
     ensures kept { (now.new.kept ≡ now.old.kept) × (before.new.kept ≡ before.old.kept) }
 {
     if LAST_STEP < from || LAST_STEP < to {
-        return Err(BenchFault::StepTooLarge);
+        return Err(STEP_TOO_LARGE);
     }
     if to < from || to <= common {
         return Ok(None);
@@ -212,18 +213,18 @@ pub fn differ<const NW: usize, const PAGES: usize, const K: u32>(
     at_now: u32,
     at_before: u32,
     most: u32,
-) -> Result<Vec<Difference>, BenchFault>
+) -> Result<Vec<Difference>, Refused<BenchFault>>
     ensures found { IfOk result (λ v. v.items ≡ differences (ram_size PAGES) (machine_state before.old.kept at_before).memory.ram (machine_state now.old.kept at_now).memory.ram most) }
     ensures within { OnOk result (range_refusal at_now at_before ≡ None) }
     ensures now_answered { OnOk result (IsAnswered K at_now now.old now.new) }
     ensures before_answered { OnOk result (IsAnswered K at_before before.old before.new) }
-    ensures refused { IfErr result (IsQueryFault (range_refusal at_now at_before)) }
+    ensures refused { IfErr result (IsRefused (range_refusal at_now at_before)) }
     ensures untouched { IfSome (range_refusal at_now at_before) (λ e. (now.new ≡ now.old) × (before.new ≡ before.old)) }
     ensures now_given_up { OnErr result (IsGivenUp K at_now now.old now.new) }
     ensures before_given_up { OnErr result (IsGivenUp K at_before before.old before.new) }
 {
     if LAST_STEP < at_now || LAST_STEP < at_before {
-        return Err(BenchFault::StepTooLarge);
+        return Err(STEP_TOO_LARGE);
     }
     now.sizes();
     let alloc = now.alloc();

@@ -2,7 +2,7 @@
 
 ghost use Rattle.std.specs.Prelude.{◌≡◌, ◌⊎◌, ◌+◌, ◌-◌, ◌*◌, ◌/◌, ◌<◌, ◌≤◌, ◌++◌, ◌∷◌, [], length, true, false, map, None, IfOk, IfErr, IfSome, OnOk, OnErr};
 ghost use Rattle.std.specs.List.{list_any};
-ghost use Rattle.sv8_bench.specs.Faults.{IsQueryFault};
+ghost use Rattle.sv8_model.specs.Refused.{IsRefused};
 ghost use Rattle.sv8_model.specs.Footprint.{expires};
 ghost use Rattle.sv8_phys.specs.Memory.{ram_size};
 ghost use Rattle.sv8_cpu.specs.State.{State};
@@ -21,8 +21,9 @@ use crate::old_bytes::{look_again, look_at_old, old_count};
 use crate::plan::Plan;
 use crate::room::Room;
 use std::alloc::AllocError;
-use sv8_bench::{Bench, BenchFault, LAST_STEP, Walk};
+use sv8_bench::{BAD_ADDRESS, Bench, BenchFault, LAST_STEP, STEP_TOO_LARGE, Walk};
 use sv8_cpu::Machine;
+use sv8_model::Refused;
 use sv8_phys::Watch;
 use sv8_time::Timeline;
 use sv8_watch::{Before, Condition, MadeStep};
@@ -428,7 +429,7 @@ pub fn steps<const NW: usize, const PAGES: usize, const K: u32>(
     to: u32,
     most: u32,
     conditions: &[Condition],
-) -> Result<Vec<Found>, BenchFault>
+) -> Result<Vec<Found>, Refused<BenchFault>>
     ensures found { IfOk result (λ v. v.items ≡ map (found_at bench.old.kept) (steps_told bench.old.kept from to most conditions.now)) }
     ensures within { OnOk result (steps_refusal from to conditions.now bench.old.kept ≡ None) }
     ensures idle { OnOk result ((from ≡ to) ⊎ (most ≡ 0) → bench.new ≡ bench.old) }
@@ -436,17 +437,17 @@ pub fn steps<const NW: usize, const PAGES: usize, const K: u32>(
         → IsSearched K from (looked_to (is_wanted bench.old.kept conditions.now) from (to - from) most) bench.old bench.new) }
     ensures fallen { OnOk result (to < from → 0 < most
         → IsSought K from (sought_to (is_wanted bench.old.kept conditions.now) to (from - to) most) bench.old bench.new) }
-    ensures refused { IfErr result (IsQueryFault (steps_refusal from to conditions.now bench.old.kept)) }
+    ensures refused { IfErr result (IsRefused (steps_refusal from to conditions.now bench.old.kept)) }
     ensures untouched { IfSome (steps_refusal from to conditions.now bench.old.kept) (λ e. bench.new ≡ bench.old) }
     ensures rising_given_up { OnErr result (from ≤ to → IsAbandoned K from to bench.old bench.new) }
     ensures falling_given_up { OnErr result (to < from → IsSought K from to bench.old bench.new) }
 {
     if LAST_STEP < from || LAST_STEP < to {
-        return Err(BenchFault::StepTooLarge);
+        return Err(STEP_TOO_LARGE);
     }
     bench.sizes();
     if !are_inside::<PAGES>(conditions) {
-        return Err(BenchFault::BadAddress);
+        return Err(BAD_ADDRESS);
     }
     let found = search(bench, from, to, most, conditions)?;
     Ok(found)

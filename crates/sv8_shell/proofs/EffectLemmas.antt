@@ -1,6 +1,7 @@
 -- Lemmas on what commands do to their workbench.
 use Rattle.std.proofs.Common.{◌≡◌, ◌∙◌, ℕ, List, Option, Result, Ok, Err, OnOk, OnErr, IfOk, refl, sym, ap, subst}
 use Rattle.std.specs.Result.{result_map_both}
+use Rattle.sv8_model.specs.declared.refused.Refused.{Refused}
 use Rattle.sv8_bench.specs.declared.fault.BenchFault.{BenchFault}
 use Rattle.sv8_bench.specs.Workbench.{Workbench}
 use Rattle.sv8_session.specs.Put.{Puts}
@@ -26,7 +27,7 @@ effect-is (Ok u) r' e is = subst (λ (x : Result Effect _). IfOk x (λ y. y ≡ 
 effect-is (Err f) r' e is = subst (λ (x : Result Effect _). IfOk x (λ y. y ≡ e)) (sym is) tt
 
 -- an edit that has no effect was refused
-pub unless-edited : {E : Type 0} (edit : Result (Unit {0}) BenchFault) (r : Result Effect E) (old new : Workbench) → OnErr edit (new ≡ old) → OnOk edit (IfOk r (λ e. e ≡ Edited))
+pub unless-edited : {E : Type 0} (edit : Result (Unit {0}) (Refused BenchFault)) (r : Result Effect E) (old new : Workbench) → OnErr edit (new ≡ old) → OnOk edit (IfOk r (λ e. e ≡ Edited))
     → IfOk r (λ e. e ≡ Unchanged → new.kept ≡ old.kept)
 unless-edited edit (Err f) old new err ok = tt
 unless-edited (Err x) (Ok e) old new err ok = λ same. ap (λ (w : Workbench). w.kept) err

@@ -15,7 +15,8 @@ use Rattle.sv8_asm.specs.Code.{bytes}
 use Rattle.sv8_asm.specs.Names.{Names, defined, with_name}
 use Rattle.sv8_asm.specs.Size.{plain, set_count, bytes_of_width, size, size_of_statement, is_alignment}
 use Rattle.sv8_source.specs.declared.fault.SourceFault.{SourceFault}
-use Rattle.sv8_source.specs.Fault.{in_line, after_line}
+use Rattle.sv8_source.specs.declared.fault.SourceFault.TheVariants.{Line}
+use Rattle.sv8_source.specs.Fault.{after_line}
 use Rattle.sv8_source.specs.Layout.{Layout, Place, start, on_ok, define, define_label, define_equ, moved, admitted, with_line, laid, valued}
 use Rattle.sv8_source.specs.Text.{with_layout, both_passes, assembled, err_of}
 use Rattle.sv8_source.specs.Laws.{FirstOfLayout, FirstOfValues, LowestLineIsNamed, HasFault, of_label, of_number, of_size, of_limit, LeastFaultIsNamed}
@@ -31,7 +32,7 @@ record LayoutStop (limit n : ℕ) (texts : List (List ℕ)) (l : Layout) (e : So
   done : laid limit n front l ≡ Ok before
   fault : LineFault
   faulty : with_line limit (n + length front) text before ≡ Err fault
-  named : e ≡ in_line (n + length front) fault
+  named : e ≡ Line (n + length front) fault
 
 layout_stop : (limit n : ℕ) (texts : List (List ℕ)) (l : Layout) (e : SourceFault) → laid limit n texts l ≡ Err e → LayoutStop limit n texts l e
 layout_stop limit n [] l e h = absurd (cc)
@@ -41,7 +42,7 @@ layout_stop limit n (text ∷ texts) l e h = go (λ next. layout_stop limit (n +
         → (r : Result Layout LineFault) → with_line limit n text l ≡ r → after_line n r (λ next. laid limit (n + 1) texts next) ≡ Err e → LayoutStop limit n (text ∷ texts) l e
     go ih (Err f) g k =
         let zero : n ≡ n + 0 = omega arith in
-        let same : in_line n f ≡ e = cc in
+        let same : Line n f ≡ e = cc in
         record { front = []; text = text; back = texts; lines = refl; before = l; done = refl; fault = f; faulty = rw (← zero) g; named = rw (← zero) (sym same) }
     go ih (Ok next) g k =
         let t = ih next k in
@@ -67,7 +68,7 @@ record ValueStop (symbols : Names) (n : ℕ) (ps : List Place) (done : List (Lis
   coded : valued symbols n front done ≡ Ok code
   fault : LineFault
   faulty : bytes place.stmt (n + length front) place.at symbols ≡ Err fault
-  named : e ≡ in_line (n + length front) fault
+  named : e ≡ Line (n + length front) fault
 
 value_stop : (symbols : Names) (n : ℕ) (ps : List Place) (done : List (List ℕ)) (e : SourceFault) → valued symbols n ps done ≡ Err e → ValueStop symbols n ps done e
 value_stop symbols n [] done e h = absurd (cc)
@@ -77,7 +78,7 @@ value_stop symbols n (p ∷ ps) done e h = go (λ b. value_stop symbols (n + 1) 
         → (r : Result (List ℕ) LineFault) → bytes p.stmt n p.at symbols ≡ r → after_line n r (λ b. valued symbols (n + 1) ps (done ++ b ∷ [])) ≡ Err e → ValueStop symbols n (p ∷ ps) done e
     go ih (Err f) g k =
         let zero : n ≡ n + 0 = omega arith in
-        let same : in_line n f ≡ e = cc in
+        let same : Line n f ≡ e = cc in
         record { front = []; place = p; back = ps; places = refl; code = done; coded = refl; fault = f; faulty = rw (← zero) g; named = rw (← zero) (sym same) }
     go ih (Ok b) g k =
         let t = ih b k in

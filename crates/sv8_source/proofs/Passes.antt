@@ -1,25 +1,27 @@
 -- Both passes, by their results.
-use Rattle.std.proofs.Common.{◌≡◌, ◌∙◌, ℕ, ◌+◌, ◌-◌, ◌≤◌, ◌⊎◌, inl, inr, true, List, [], ◌∷◌, ◌++◌, length, length-append, length-take, length-drop, take, drop, Vec, vec_items, Ok, Err, sym, ap, append-nil, arith}
+use Rattle.std.proofs.Common.{◌≡◌, ◌∙◌, ℕ, ◌+◌, ◌-◌, ◌≤◌, true, List, [], ◌∷◌, ◌++◌, length, length-append, length-take, length-drop, take, drop, Vec, vec_items, Ok, Err, sym, ap, append-nil, arith}
 use Rattle.std.proofs.lemmas.Bool.Decides.{nat_tests}
 use Rattle.std.proofs.Math.ListN.{drop_of_length-le}
 use Rattle.std.proofs.lemmas.List.{length-map, take_all}
+use Rattle.sv8_model.specs.declared.refused.Refused.{Refused}
+use Rattle.sv8_model.specs.declared.refused.Refused.TheVariants.{OutOfMemory, By}
+use Rattle.sv8_model.specs.Refused.{ByFault}
 use Rattle.sv8_source.specs.declared.fault.SourceFault.{SourceFault}
-use Rattle.sv8_source.specs.declared.fault.SourceFault.TheVariants.{OutOfMemory}
 use Rattle.sv8_source.specs.Layout.{Layout, Place, start, laid, valued}
 use Rattle.sv8_source.specs.Text.{Text, Assembly, with_layout, both_passes, assembled, texts, place_texts, is_range, replaced_lines}
 use Rattle.sv8_source.proofs.Kept.{laid-texts}
 use Rattle.sv8_source.proofs.SourceLaws.{made_of}
 
-pub laid_fault : (limit : ℕ) (lines : List (List ℕ)) (e : SourceFault) → (e ≡ OutOfMemory) ⊎ (laid limit 1 lines start ≡ Err e) → (e ≡ OutOfMemory) ⊎ (assembled (record { limit = limit; lines = lines }) ≡ Err e)
+pub laid_fault : (limit : ℕ) (lines : List (List ℕ)) (e : Refused SourceFault) → ByFault (λ f. laid limit 1 lines start ≡ Err f) e → ByFault (λ f. assembled (record { limit = limit; lines = lines }) ≡ Err f) e
 unfolding assembled
-laid_fault limit lines e (inl h) = inl h
-laid_fault limit lines e (inr h) = inr (ap both_passes h)
+laid_fault limit lines OutOfMemory h = tt
+laid_fault limit lines (By f) h = ap both_passes h
 
-pub code_fault : (limit : ℕ) (lines : List (List ℕ)) (l : Layout) (e : SourceFault) → laid limit 1 lines start ≡ Ok l → (e ≡ OutOfMemory) ⊎ (valued l.symbols 1 l.places [] ≡ Err e)
-    → (e ≡ OutOfMemory) ⊎ (assembled (record { limit = limit; lines = lines }) ≡ Err e)
+pub code_fault : (limit : ℕ) (lines : List (List ℕ)) (l : Layout) (e : Refused SourceFault) → laid limit 1 lines start ≡ Ok l → ByFault (λ f. valued l.symbols 1 l.places [] ≡ Err f) e
+    → ByFault (λ f. assembled (record { limit = limit; lines = lines }) ≡ Err f) e
 unfolding assembled
-code_fault limit lines l e g (inl h) = inl h
-code_fault limit lines l e g (inr h) = inr (ap both_passes g ∙ ap (with_layout l) h)
+code_fault limit lines l OutOfMemory g h = tt
+code_fault limit lines l (By f) g h = ap both_passes g ∙ ap (with_layout l) h
 
 pub passed : (limit : ℕ) (lines : List (List ℕ)) (l : Layout) (a : Assembly) → laid limit 1 lines start ≡ Ok l → a.layout ≡ l → valued l.symbols 1 l.places [] ≡ Ok a.code → assembled (record { limit = limit; lines = lines }) ≡ Ok a
 unfolding assembled

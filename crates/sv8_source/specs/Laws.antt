@@ -8,7 +8,7 @@ use Rattle.sv8_asm.specs.Code.{bytes}
 use Rattle.sv8_asm.specs.Names.{Names}
 use Rattle.sv8_asm.specs.Size.{size}
 use Rattle.sv8_source.specs.declared.fault.SourceFault.{SourceFault}
-use Rattle.sv8_source.specs.Fault.{in_line}
+use Rattle.sv8_source.specs.declared.fault.SourceFault.TheVariants.{Line}
 use Rattle.sv8_source.specs.Layout.{Layout, Place, start, define_label, define_equ, moved, admitted, with_line, laid, valued}
 use Rattle.sv8_source.specs.Image.{Rising}
 use Rattle.sv8_source.specs.Listing.{listing}
@@ -32,7 +32,7 @@ pub record FirstOfLayout (s : Text) (e : SourceFault) : Type 0 where
   pub laid : laid s.limit 1 front start ≡ Ok before
   pub fault : LineFault
   pub faulty : with_line s.limit (1 + length front) text before ≡ Err fault
-  pub named : e ≡ in_line (1 + length front) fault
+  pub named : e ≡ Line (1 + length front) fault
 
 -- the layout pass has no fault, and a line without a fault in any line before it has this one in the value pass
 pub record FirstOfValues (s : Text) (e : SourceFault) : Type 0 where
@@ -46,7 +46,7 @@ pub record FirstOfValues (s : Text) (e : SourceFault) : Type 0 where
   pub valued : valued layout.symbols 1 front [] ≡ Ok code
   pub fault : LineFault
   pub faulty : bytes place.stmt (1 + length front) place.at layout.symbols ≡ Err fault
-  pub named : e ≡ in_line (1 + length front) fault
+  pub named : e ≡ Line (1 + length front) fault
 
 -- the fault that is named is that of the lowest faulty line
 abbrev pub LowestLineIsNamed : Type 0

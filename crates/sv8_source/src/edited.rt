@@ -4,6 +4,7 @@
 //! without a name behind all, share everything else. Any other edit lays all lines again, those that stay as they were read.
 
 ghost use Rattle.std.specs.Prelude.{◌≡◌, ℕ, ◌+◌, ◌-◌, ◌*◌, ◌^◌, ◌≤◌, ◌<◌, ◌⊎◌, [], ◌∷◌, ◌++◌, true, false, length, None, Some, IsOk, IfSome, IfOk, MatchResult, Ok, Err, slice_get};
+ghost use Rattle.sv8_model.specs.Refused.{ByFault};
 ghost use Rattle.sv8_asm.specs.Size.{size};
 ghost use Rattle.sv8_source.specs.Edits.{Within};
 ghost use Rattle.sv8_source.specs.Image.{words};
@@ -20,6 +21,7 @@ use crate::valued::Behind;
 use std::alloc::{AllocError, Global};
 use std::rc::Rc;
 use sv8_asm::{assemble, size_of};
+use sv8_model::Refused;
 use sv8_syntax::{Label, Statement, Stmt};
 
 /// The assembly that an edit leads to, and the words of the image that may differ: those from `first` up to `end`.
@@ -187,10 +189,10 @@ fn relaid(
     front: &[Placed],
     lines: &[Vec<u8>],
     back: &[Placed],
-) -> Result<Laid, SourceFault>
+) -> Result<Laid, Refused<SourceFault>>
     requires { length front.now + length lines.now + length back.now ≤ 65536 }
     ensures { MatchResult result (λ l. laid limit 1 (place_texts front.now ++ texts lines.now ++ place_texts back.now) start ≡ Ok l)
-        (λ e. (e ≡ SourceFault.OutOfMemory) ⊎ (laid limit 1 (place_texts front.now ++ texts lines.now ++ place_texts back.now) start ≡ Err e)) }
+        (ByFault (λ e. laid limit 1 (place_texts front.now ++ texts lines.now ++ place_texts back.now) start ≡ Err e)) }
 {
     let mut laid = Laid::new(alloc);
     let first = front.len() as u32 + 1;
@@ -216,13 +218,13 @@ fn coded(
     laid: Laid,
     old: &Assembled,
     behind: Behind,
-) -> Result<Assembled, SourceFault>
+) -> Result<Assembled, Refused<SourceFault>>
     requires many { length laid.places ≤ 65536 }
     requires few { length old.now.layout.places ≤ 65536 }
     requires old { valued old.now.layout.symbols 1 old.now.layout.places [] ≡ Ok old.now.code }
     ensures layout { IfOk result (λ a. a.layout ≡ laid) }
     ensures code { MatchResult result (λ a. valued laid.symbols 1 laid.places [] ≡ Ok a.code)
-        (λ e. (e ≡ SourceFault.OutOfMemory) ⊎ (valued laid.symbols 1 laid.places [] ≡ Err e)) }
+        (ByFault (λ e. valued laid.symbols 1 laid.places [] ≡ Err e)) }
 {
     let code = laid.code(alloc, old, behind)?;
     let (places, symbols, at) = laid.into_parts();
@@ -240,12 +242,12 @@ fn reassembled(
     lines: &[Vec<u8>],
     back: &[Placed],
     old: &Assembled,
-) -> Result<Assembled, SourceFault>
+) -> Result<Assembled, Refused<SourceFault>>
     requires few { length old.now.layout.places ≤ 65536 }
     requires old { valued old.now.layout.symbols 1 old.now.layout.places [] ≡ Ok old.now.code }
     requires room { length front.now + length lines.now + length back.now ≤ 65536 }
     ensures { MatchResult result (λ a. assembled (record { limit = limit; lines = place_texts front.now ++ texts lines.now ++ place_texts back.now }) ≡ Ok a)
-        (λ e. (e ≡ SourceFault.OutOfMemory) ⊎ (assembled (record { limit = limit; lines = place_texts front.now ++ texts lines.now ++ place_texts back.now }) ≡ Err e)) }
+        (ByFault (λ e. assembled (record { limit = limit; lines = place_texts front.now ++ texts lines.now ++ place_texts back.now }) ≡ Err e)) }
 {
     let laid = match relaid(alloc, limit, front, lines, back) {
         Ok(laid) => laid,
@@ -271,13 +273,13 @@ fn again(
     first: u32,
     last: u32,
     lines: &[Vec<u8>],
-) -> Result<Edited, SourceFault>
+) -> Result<Edited, Refused<SourceFault>>
     requires made { assembled (record { limit = limit; lines = place_texts old.now.layout.places }) ≡ Ok old.now }
     requires many { length old.now.layout.places ≤ 65536 }
     requires range { is_range first last (length old.now.layout.places) ≡ true }
     requires room { (first - 1) + length lines.now + (length old.now.layout.places - last) ≤ 65536 }
     ensures made { MatchResult result (λ e. assembled (record { limit = limit; lines = replaced_lines first last (texts lines.now) (place_texts old.now.layout.places) }) ≡ Ok e.parts)
-        (λ e. (e ≡ SourceFault.OutOfMemory) ⊎ (assembled (record { limit = limit; lines = replaced_lines first last (texts lines.now) (place_texts old.now.layout.places) }) ≡ Err e)) }
+        (ByFault (λ e. assembled (record { limit = limit; lines = replaced_lines first last (texts lines.now) (place_texts old.now.layout.places) }) ≡ Err e)) }
     ensures within { IfOk result (λ e. Within old.now e.parts limit e.first e.end) }
 {
     let (front, _) = old.places().split_at(first as usize - 1);
@@ -298,13 +300,13 @@ pub fn edit(
     first: u32,
     last: u32,
     lines: &[Vec<u8>],
-) -> Result<Edited, SourceFault>
+) -> Result<Edited, Refused<SourceFault>>
     requires made { assembled (record { limit = limit; lines = place_texts old.now.layout.places }) ≡ Ok old.now }
     requires many { length old.now.layout.places ≤ 65536 }
     requires range { is_range first last (length old.now.layout.places) ≡ true }
     requires room { (first - 1) + length lines.now + (length old.now.layout.places - last) ≤ 65536 }
     ensures made { MatchResult result (λ e. assembled (record { limit = limit; lines = replaced_lines first last (texts lines.now) (place_texts old.now.layout.places) }) ≡ Ok e.parts)
-        (λ e. (e ≡ SourceFault.OutOfMemory) ⊎ (assembled (record { limit = limit; lines = replaced_lines first last (texts lines.now) (place_texts old.now.layout.places) }) ≡ Err e)) }
+        (ByFault (λ e. assembled (record { limit = limit; lines = replaced_lines first last (texts lines.now) (place_texts old.now.layout.places) }) ≡ Err e)) }
     ensures within { IfOk result (λ e. Within old.now e.parts limit e.first e.end) }
     ensures kept { IfOk result (λ e. place_texts e.parts.layout.places ≡ replaced_lines first last (texts lines.now) (place_texts old.now.layout.places)) }
     ensures count { IfOk result (λ e. length e.parts.layout.places ≤ 65536) }

@@ -3,7 +3,8 @@
 //! The layout pass reads each line, gives its names their values and finds the location of each line. The value pass
 //! then assembles each line, now that all names are known, so that a line may use a name that a later one defines.
 
-ghost use Rattle.std.specs.Prelude.{◌≡◌, ℕ, ℤ, ◌+◌, ◌-◌, ◌^◌, ◌<◌, ◌≤◌, ◌⊎◌, List, [], ◌++◌, ◌∷◌, IfSome, IfOk, OnOk, MatchResult, Ok, Err, vec_items, length, pos, map, All};
+ghost use Rattle.std.specs.Prelude.{◌≡◌, ℕ, ℤ, ◌+◌, ◌-◌, ◌^◌, ◌<◌, ◌≤◌, List, [], ◌++◌, ◌∷◌, IfSome, IfOk, OnOk, MatchResult, Ok, Err, vec_items, length, pos, map, All};
+ghost use Rattle.sv8_model.specs.Refused.{ByFault};
 ghost use Rattle.sv8_syntax.specs.Names.{IsLabel, Defines};
 ghost use Rattle.sv8_syntax.specs.Reading.{reading};
 ghost use Rattle.sv8_source.specs.Layout.{define, define_label, define_equ, moved, with_stmt, with_line, laid, valued, start, HasSize};
@@ -20,6 +21,7 @@ use std::alloc::{AllocError, Global};
 use std::marker::Model;
 use std::rc::Rc;
 use sv8_asm::{Symbols, constant, size_of};
+use sv8_model::Refused;
 use sv8_syntax::{Label, LineFault, Name, Statement, Stmt};
 
 /// A line as it was read, and the location before its statement. The line is shared by all sources that have it.
@@ -95,14 +97,19 @@ impl Model for Laid {
 }
 
 /// Gives a name its value, where no line above defines it.
-fn define(alloc: Global, name: &Name, value: i64, symbols: &mut Symbols) -> Result<(), LineFault>
+fn define(
+    alloc: Global,
+    name: &Name,
+    value: i64,
+    symbols: &mut Symbols,
+) -> Result<(), Refused<LineFault>>
     ensures { MatchResult result (λ _. define name.now value symbols.old ≡ Ok symbols.new)
-        (λ e. (e ≡ LineFault.OutOfMemory) ⊎ (define name.now value symbols.old ≡ Err e)) }
+        (ByFault (λ e. define name.now value symbols.old ≡ Err e)) }
 {
     if symbols.define(alloc, name.as_bytes(), value)? {
         return Ok(());
     }
-    Err(LineFault::DuplicateLabel)
+    Err(Refused::By(LineFault::DuplicateLabel))
 }
 
 /// Gives a label the location before its line's statement.
@@ -112,10 +119,10 @@ fn define_label(
     line: u32,
     at: u32,
     symbols: &mut Symbols,
-) -> Result<(), LineFault>
+) -> Result<(), Refused<LineFault>>
     requires { IfSome label.now IsLabel }
     ensures { MatchResult result (λ _. define_label label.now line at symbols.old ≡ Ok symbols.new)
-        (λ e. (e ≡ LineFault.OutOfMemory) ⊎ (define_label label.now line at symbols.old ≡ Err e)) }
+        (ByFault (λ e. define_label label.now line at symbols.old ≡ Err e)) }
 {
     match label {
         None => Ok(()),
@@ -135,13 +142,13 @@ fn define_equ(
     alloc: Global,
     statement: &Option<Statement>,
     symbols: &mut Symbols,
-) -> Result<(), LineFault>
+) -> Result<(), Refused<LineFault>>
     ensures { MatchResult result (λ _. define_equ statement.now symbols.old ≡ Ok symbols.new)
-        (λ e. (e ≡ LineFault.OutOfMemory) ⊎ (define_equ statement.now symbols.old ≡ Err e)) }
+        (ByFault (λ e. define_equ statement.now symbols.old ≡ Err e)) }
 {
     match statement {
         Some(Statement::Equ { name, value }) => match constant(value) {
-            None => Err(LineFault::UnknownName),
+            None => Err(Refused::By(LineFault::UnknownName)),
             Some(value) => {
                 define(alloc, name, value, symbols)?;
                 Ok(())
@@ -185,9 +192,9 @@ impl Laid {
         limit: u32,
         number: u32,
         line: Rc<ReadLine>,
-    ) -> Result<(), LineFault>
+    ) -> Result<(), Refused<LineFault>>
         ensures { MatchResult result (λ _. with_stmt limit number line.value.text line.value.stmt self.old ≡ Ok self.new)
-            (λ e. (e ≡ LineFault.OutOfMemory) ⊎ (with_stmt limit number line.value.text line.value.stmt self.old ≡ Err e)) }
+            (ByFault (λ e. with_stmt limit number line.value.text line.value.stmt self.old ≡ Err e)) }
     {
         let stmt = line.stmt();
         define_label(alloc, &stmt.label, number, self.at, &mut self.symbols)?;
@@ -209,9 +216,9 @@ impl Laid {
         limit: u32,
         number: u32,
         text: &[u8],
-    ) -> Result<(), LineFault>
+    ) -> Result<(), Refused<LineFault>>
         ensures { MatchResult result (λ _. with_line limit number text.now self.old ≡ Ok self.new)
-            (λ e. (e ≡ LineFault.OutOfMemory) ⊎ (with_line limit number text.now self.old ≡ Err e)) }
+            (ByFault (λ e. with_line limit number text.now self.old ≡ Err e)) }
     {
         let line = ReadLine::new(alloc, text)?;
         self.add_read(alloc, limit, number, line)?;
@@ -226,9 +233,9 @@ impl Laid {
         limit: u32,
         number: u32,
         place: &Placed,
-    ) -> Result<(), LineFault>
+    ) -> Result<(), Refused<LineFault>>
         ensures { MatchResult result (λ _. with_line limit number place.now.text self.old ≡ Ok self.new)
-            (λ e. (e ≡ LineFault.OutOfMemory) ⊎ (with_line limit number place.now.text self.old ≡ Err e)) }
+            (ByFault (λ e. with_line limit number place.now.text self.old ≡ Err e)) }
     {
         let _stmt = place.stmt();
         let line = place.line.clone()?;
@@ -243,10 +250,10 @@ impl Laid {
         limit: u32,
         first: u32,
         places: &[Placed],
-    ) -> Result<(), SourceFault>
+    ) -> Result<(), Refused<SourceFault>>
         requires { first + length places.now < 2 ^ 32 }
         ensures { MatchResult result (λ _. laid limit first (place_texts places.now) self.old ≡ Ok self.new)
-            (λ e. (e ≡ SourceFault.OutOfMemory) ⊎ (laid limit first (place_texts places.now) self.old ≡ Err e)) }
+            (ByFault (λ e. laid limit first (place_texts places.now) self.old ≡ Err e)) }
     {
         let mut number = first;
         for place in places {
@@ -266,10 +273,10 @@ impl Laid {
         limit: u32,
         first: u32,
         lines: &[Vec<u8>],
-    ) -> Result<(), SourceFault>
+    ) -> Result<(), Refused<SourceFault>>
         requires { first + length lines.now < 2 ^ 32 }
         ensures { MatchResult result (λ _. laid limit first (texts lines.now) self.old ≡ Ok self.new)
-            (λ e. (e ≡ SourceFault.OutOfMemory) ⊎ (laid limit first (texts lines.now) self.old ≡ Err e)) }
+            (ByFault (λ e. laid limit first (texts lines.now) self.old ≡ Err e)) }
     {
         let mut number = first;
         for line in lines {
@@ -289,13 +296,13 @@ impl Laid {
         alloc: Global,
         old: &Assembled,
         behind: Behind,
-    ) -> Result<Vec<Rc<Vec<u8>>>, SourceFault>
+    ) -> Result<Vec<Rc<Vec<u8>>>, Refused<SourceFault>>
         requires many { length self.now.places < 2 ^ 32 - 1 }
         requires few { length old.now.layout.places ≤ 65536 }
         requires old { valued old.now.layout.symbols 1 old.now.layout.places [] ≡ Ok old.now.code }
         ensures sound { IfOk result (λ code. Sound (record { layout = self.now; code = code_bytes code.items })) }
         ensures value { MatchResult result (λ code. valued self.now.symbols 1 self.now.places [] ≡ Ok (code_bytes code.items))
-            (λ e. (e ≡ SourceFault.OutOfMemory) ⊎ (valued self.now.symbols 1 self.now.places [] ≡ Err e)) }
+            (ByFault (λ e. valued self.now.symbols 1 self.now.places [] ≡ Err e)) }
     {
         let code = code_of(alloc, &self.places, &self.symbols, old, behind)?;
         Ok(code)

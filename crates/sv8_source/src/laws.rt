@@ -1,7 +1,8 @@
 //! What is true of every source, as contracts of functions that do nothing, and some sources worked out.
 
 ghost use Rattle.std.specs.Prelude.{◌≡◌, Some, codes, map, [], ◌∷◌, pos, negsuc};
-ghost use Rattle.sv8_source.specs.declared.fault.SourceFault.TheVariants.{Syntax, UnknownName, DuplicateLabel, OutOfRange, BadAlignment, OrgBackwards, ImageTooLarge};
+ghost use Rattle.sv8_syntax.specs.declared.fault.LineFault.TheVariants.{Syntax, UnknownName, DuplicateLabel, OutOfRange, BadAlignment, OrgBackwards, ImageTooLarge};
+ghost use Rattle.sv8_source.specs.declared.fault.SourceFault.TheVariants.{Line};
 ghost use Rattle.sv8_source.specs.Listing.{listing};
 ghost use Rattle.sv8_source.specs.Names.{names, label_named, number_named};
 ghost use Rattle.sv8_source.specs.NameLaws.{NamesAreTold};
@@ -69,14 +70,14 @@ pub fn worked_names()
 /// Sources that are refused, with the line at fault.
 #[tactic(auto, unfolding(crate::proofs::OnLiterals::source_on_literals))]
 pub fn worked_faults()
-    ensures duplicate { fault (record { limit = 0x100000; lines = codes "x: nop" ∷ codes "x: nop" ∷ [] }) ≡ Some (DuplicateLabel 2) }
-    ensures range { fault (record { limit = 0x100000; lines = codes "add %g0, 4096, %g1" ∷ [] }) ≡ Some (OutOfRange 1) }
-    ensures alignment { fault (record { limit = 0x100000; lines = codes ".byte 1" ∷ codes "nop" ∷ [] }) ≡ Some (BadAlignment 2) }
-    ensures backwards { fault (record { limit = 0x100000; lines = codes ".org 8" ∷ codes ".org 4" ∷ [] }) ≡ Some (OrgBackwards 2) }
-    ensures too_large { fault (record { limit = 0x100000; lines = codes ".org 0x100000" ∷ codes "nop" ∷ [] }) ≡ Some (ImageTooLarge 2) }
-    ensures layout_first { fault (record { limit = 0x100000; lines = codes "bne nowhere" ∷ codes "add" ∷ [] }) ≡ Some (Syntax 2) }
-    ensures unknown { fault (record { limit = 0x100000; lines = codes ".word 7" ∷ codes "bne nowhere" ∷ [] }) ≡ Some (UnknownName 2) }
-    ensures no_label { fault (record { limit = 0x100000; lines = codes "1: nop" ∷ codes "ba 1f" ∷ codes "nop" ∷ codes "ba 1b" ∷ codes "nop" ∷ [] }) ≡ Some (UnknownName 2) }
+    ensures duplicate { fault (record { limit = 0x100000; lines = codes "x: nop" ∷ codes "x: nop" ∷ [] }) ≡ Some (Line 2 DuplicateLabel) }
+    ensures range { fault (record { limit = 0x100000; lines = codes "add %g0, 4096, %g1" ∷ [] }) ≡ Some (Line 1 OutOfRange) }
+    ensures alignment { fault (record { limit = 0x100000; lines = codes ".byte 1" ∷ codes "nop" ∷ [] }) ≡ Some (Line 2 BadAlignment) }
+    ensures backwards { fault (record { limit = 0x100000; lines = codes ".org 8" ∷ codes ".org 4" ∷ [] }) ≡ Some (Line 2 OrgBackwards) }
+    ensures too_large { fault (record { limit = 0x100000; lines = codes ".org 0x100000" ∷ codes "nop" ∷ [] }) ≡ Some (Line 2 ImageTooLarge) }
+    ensures layout_first { fault (record { limit = 0x100000; lines = codes "bne nowhere" ∷ codes "add" ∷ [] }) ≡ Some (Line 2 Syntax) }
+    ensures unknown { fault (record { limit = 0x100000; lines = codes ".word 7" ∷ codes "bne nowhere" ∷ [] }) ≡ Some (Line 2 UnknownName) }
+    ensures no_label { fault (record { limit = 0x100000; lines = codes "1: nop" ∷ codes "ba 1f" ∷ codes "nop" ∷ codes "ba 1b" ∷ codes "nop" ∷ [] }) ≡ Some (Line 2 UnknownName) }
 {}
 
 /// What the lines of sources place, with their bytes as another assembler gives them.

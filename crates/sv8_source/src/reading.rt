@@ -1,12 +1,14 @@
 //! Lines as they were read.
 
-ghost use Rattle.std.specs.Prelude.{◌≡◌, ◌⊎◌, Ok, Err, MatchResult};
+ghost use Rattle.std.specs.Prelude.{◌≡◌, Ok, Err, MatchResult};
+ghost use Rattle.sv8_model.specs.Refused.{ByFault};
 ghost use Rattle.sv8_syntax.specs.Names.{Defines};
 ghost use Rattle.sv8_syntax.specs.Reading.{reading};
 
 use std::alloc::Global;
 use std::marker::Model;
 use std::rc::Rc;
+use sv8_model::Refused;
 use sv8_syntax::{LineFault, Stmt, parse_line};
 
 /// A line's text with what it was read as.
@@ -31,9 +33,9 @@ impl Model for ReadLine {
 
 impl ReadLine {
     /// Reads a line.
-    pub fn new(alloc: Global, text: &[u8]) -> Result<Rc<ReadLine>, LineFault>
+    pub fn new(alloc: Global, text: &[u8]) -> Result<Rc<ReadLine>, Refused<LineFault>>
         ensures { MatchResult result (λ l. (reading text.now ≡ Ok l.value.stmt) × (l.value.text ≡ text.now))
-            (λ e. (e ≡ LineFault.OutOfMemory) ⊎ (reading text.now ≡ Err e)) }
+            (ByFault (λ e. reading text.now ≡ Err e)) }
     {
         let stmt = parse_line(alloc, text)?;
         let text = Vec::from_slice(alloc, text)?;

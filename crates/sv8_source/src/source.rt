@@ -1,6 +1,7 @@
 //! A source: its lines, its edits, its listing and its image.
 
-ghost use Rattle.std.specs.Prelude.{◌≡◌, ◌+◌, ◌≤◌, ◌⊎◌, [], length, map, ◌-◌, None, Some, IfOk, IfErr, OnErr, OnOk, MatchResult, option_map, nat_lt, true};
+ghost use Rattle.std.specs.Prelude.{◌≡◌, ◌+◌, ◌≤◌, [], length, map, ◌-◌, None, Some, IfOk, IfErr, OnErr, OnOk, MatchResult, option_map, nat_lt, true};
+ghost use Rattle.sv8_model.specs.Refused.{ByFault};
 ghost use Rattle.sv8_source.specs.Text.{texts, replaced, is_range, edit_fault, fault};
 ghost use Rattle.sv8_source.specs.Listing.{listing, numbered};
 ghost use Rattle.sv8_source.specs.Names.{names};
@@ -15,6 +16,7 @@ use crate::image::Change;
 use crate::names::{DefinedName, names_in_order};
 use std::alloc::{AllocError, Global};
 use std::marker::Model;
+use sv8_model::Refused;
 
 /// A source of more lines is refused.
 const MOST_LINES: usize = 65_536;
@@ -157,13 +159,13 @@ impl Source {
         first: u32,
         last: u32,
         lines: &[Vec<u8>],
-    ) -> Result<Plan, SourceFault>
+    ) -> Result<Plan, Refused<SourceFault>>
         requires range { is_range first last (length self.now.lines) ≡ true }
         requires room { (first - 1) + length lines.now + (length self.now.lines - last) ≤ 65536 }
         ensures to { IfOk result (λ plan. plan.to ≡ replaced first last (texts lines.now) self.now) }
         ensures changed { IfOk result (λ plan. plan.changes ≡ changes self.now plan.to) }
         ensures value { MatchResult result (λ plan. fault (replaced first last (texts lines.now) self.now) ≡ None)
-            (λ e. (e ≡ SourceFault.OutOfMemory) ⊎ (fault (replaced first last (texts lines.now) self.now) ≡ Some e)) }
+            (ByFault (λ e. fault (replaced first last (texts lines.now) self.now) ≡ Some e)) }
     {
         let next = edit(&self.parts, alloc, self.limit, first, last, lines)?;
         let words = changes_between(alloc, &self.parts, &next.parts, next.first, next.end)?;
@@ -192,19 +194,18 @@ impl Source {
         first: u32,
         last: u32,
         lines: &[Vec<u8>],
-    ) -> Result<Plan, SourceFault>
+    ) -> Result<Plan, Refused<SourceFault>>
         ensures ok { OnOk result (edit_fault first last (texts lines.now) self.now ≡ None) }
         ensures to { IfOk result (λ plan. plan.to ≡ replaced first last (texts lines.now) self.now) }
         ensures changed { IfOk result (λ plan. plan.changes ≡ changes self.now plan.to) }
-        ensures err { IfErr result (λ e. (e ≡ SourceFault.OutOfMemory)
-            ⊎ (edit_fault first last (texts lines.now) self.now ≡ Some e)) }
+        ensures err { IfErr result (ByFault (λ e. edit_fault first last (texts lines.now) self.now ≡ Some e)) }
     {
         let count = self.parts.places().len();
         if !is_range(first as usize, last as usize, count) {
-            return Err(SourceFault::NoSuchLine);
+            return Err(Refused::By(SourceFault::NoSuchLine));
         }
         if is_too_many(count - (last as usize + 1 - first as usize), lines.len()) {
-            return Err(SourceFault::TooManyLines);
+            return Err(Refused::By(SourceFault::TooManyLines));
         }
         self.planned(alloc, first, last, lines)
     }
@@ -237,12 +238,11 @@ impl Source {
         first: u32,
         last: u32,
         lines: &[Vec<u8>],
-    ) -> Result<Vec<Change>, SourceFault>
+    ) -> Result<Vec<Change>, Refused<SourceFault>>
         ensures ok { OnOk result (edit_fault first last (texts lines.now) self.old ≡ None) }
         ensures to { OnOk result (self.new ≡ replaced first last (texts lines.now) self.old) }
         ensures changed { IfOk result (λ words. words.items ≡ changes self.old self.new) }
-        ensures err { IfErr result (λ e. (e ≡ SourceFault.OutOfMemory)
-            ⊎ (edit_fault first last (texts lines.now) self.old ≡ Some e)) }
+        ensures err { IfErr result (ByFault (λ e. edit_fault first last (texts lines.now) self.old ≡ Some e)) }
         ensures kept { OnErr result (self.new ≡ self.old) }
     {
         let plan = self.plan(alloc, first, last, lines)?;

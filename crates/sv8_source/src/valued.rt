@@ -1,6 +1,7 @@
 //! The value pass: the bytes of each line, now that all names are known.
 
-ghost use Rattle.std.specs.Prelude.{◌≡◌, ◌+◌, ◌-◌, ◌^◌, ◌≤◌, ◌<◌, ◌⊎◌, [], ◌++◌, ◌∷◌, All, true, IsOk, IfSome, OnOk, MatchResult, Ok, Err, length, Some, slice_get};
+ghost use Rattle.std.specs.Prelude.{◌≡◌, ◌+◌, ◌-◌, ◌^◌, ◌≤◌, ◌<◌, [], ◌++◌, ◌∷◌, All, true, IsOk, IfSome, OnOk, MatchResult, Ok, Err, length, Some, slice_get};
+ghost use Rattle.sv8_model.specs.Refused.{ByFault};
 ghost use Rattle.sv8_asm.specs.Code.{bytes};
 ghost use Rattle.sv8_asm.specs.Size.{size};
 ghost use Rattle.sv8_source.specs.Kept.{code_bytes};
@@ -13,6 +14,7 @@ use crate::places::place_in;
 use std::alloc::{AllocError, Global};
 use std::rc::Rc;
 use sv8_asm::{Symbols, agree, assemble};
+use sv8_model::Refused;
 use sv8_syntax::LineFault;
 
 /// Where the lines behind an edit begin, counted from 0, and where they began before it.
@@ -94,12 +96,12 @@ fn bytes_of(
     names: &Symbols,
     old: &Assembled,
     index: usize,
-) -> Result<Rc<Vec<u8>>, LineFault>
+) -> Result<Rc<Vec<u8>>, Refused<LineFault>>
     requires old { valued old.now.layout.symbols 1 old.now.layout.places [] ≡ Ok old.now.code }
     requires many { length old.now.layout.places ≤ 65536 }
     requires sized { IsOk (size place.now.stmt place.now.at) }
     ensures { MatchResult result (λ b. bytes place.now.stmt number place.now.at names.now ≡ Ok b.value.items)
-        (λ e. (e ≡ LineFault.OutOfMemory) ⊎ (bytes place.now.stmt number place.now.at names.now ≡ Err e)) }
+        (ByFault (λ e. bytes place.now.stmt number place.now.at names.now ≡ Err e)) }
 {
     match kept(old, index, place, number, names) {
         Some(bytes) => Ok(bytes),
@@ -138,13 +140,13 @@ pub fn code_of(
     symbols: &Symbols,
     old: &Assembled,
     behind: Behind,
-) -> Result<Vec<Rc<Vec<u8>>>, SourceFault>
+) -> Result<Vec<Rc<Vec<u8>>>, Refused<SourceFault>>
     requires many { length places.now < 2 ^ 32 - 1 }
     requires sized { All HasSize places.now }
     requires old { valued old.now.layout.symbols 1 old.now.layout.places [] ≡ Ok old.now.code }
     requires few { length old.now.layout.places ≤ 65536 }
     ensures { MatchResult result (λ code. valued symbols.now 1 places.now [] ≡ Ok (code_bytes code.items))
-        (λ e. (e ≡ SourceFault.OutOfMemory) ⊎ (valued symbols.now 1 places.now [] ≡ Err e)) }
+        (ByFault (λ e. valued symbols.now 1 places.now [] ≡ Err e)) }
 {
     let mut code = Vec::new(alloc);
     let mut number = 1;

@@ -2,6 +2,7 @@
 use Rattle.std.proofs.Common.{◌≡◌, ℕ, ◌-◌, ◌<◌, Bool, true, false, cond, leb, List, [], ◌∷◌, Option, Some, None, refl, subst, arith}
 use Rattle.std.specs.Prelude.{IfSome, IfOk, Result, Ok, Err}
 use Rattle.std.proofs.lemmas.Bool.{leb-true}
+use Rattle.sv8_model.specs.declared.refused.Refused.{Refused}
 use Rattle.sv8_syntax.specs.declared.fault.LineFault.{LineFault}
 use Rattle.sv8_syntax.specs.declared.mnemonic.Directive.{Directive}
 use Rattle.sv8_syntax.specs.declared.mnemonic.Directive.TheVariants as directive
@@ -132,6 +133,6 @@ line-defines text _ _ cut (numbered d ts b k) = (cut-digit text d ts cut, statem
 pub reads-defines : (text : List ℕ) (s : Stmt) → ReadsAs text s → Defines s
 reads-defines text s r = line-defines text r.tokens s r.cut r.parsed
 
-pub found-defines : (text : List ℕ) (r : Result Stmt LineFault) → IfOk r (λ s. ReadsAs text s) → IfOk r (λ s. Defines s)
+pub found-defines : (text : List ℕ) (r : Result Stmt (Refused LineFault)) → IfOk r (λ s. ReadsAs text s) → IfOk r (λ s. Defines s)
 found-defines text (Ok s) h = reads-defines text s h
 found-defines text (Err e) h = tt

@@ -1,11 +1,10 @@
 -- The order of faults, by the numbers of their refusals.
 use Rattle.std.specs.Prelude.{ℕ, Option, Some, None, nat_lt, if◌then◌else◌}
 use Rattle.sv8_syntax.specs.declared.fault.LineFault.{LineFault}
-use Rattle.sv8_syntax.specs.declared.fault.LineFault.TheVariants.{OutOfMemory, LineTooLong, NotAscii, Syntax, UnknownName, DuplicateLabel, OutOfRange, BadAlignment, OrgBackwards, ImageTooLarge}
+use Rattle.sv8_syntax.specs.declared.fault.LineFault.TheVariants.{LineTooLong, NotAscii, Syntax, UnknownName, DuplicateLabel, OutOfRange, BadAlignment, OrgBackwards, ImageTooLarge}
 
 -- the number that a refusal has in answers
 abbrev pub rank : LineFault → ℕ
-rank OutOfMemory = 1
 rank LineTooLong = 4
 rank NotAscii = 5
 rank Syntax = 6

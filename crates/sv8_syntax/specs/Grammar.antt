@@ -1,7 +1,7 @@
 -- The lines, over their tokens.
 use Rattle.std.specs.Prelude.{◌≡◌, ℕ, ◌≤◌, ◌<◌, List, [], ◌∷◌, ◌++◌, length, map, Bool, false, Option, Some, None, codes, ◌||◌, ◌&&◌, ◌==◌, nat_le}
 use Rattle.sv8_syntax.specs.declared.fault.LineFault.{LineFault}
-use Rattle.sv8_syntax.specs.declared.fault.LineFault.TheVariants.{OutOfMemory, LineTooLong, NotAscii, Syntax}
+use Rattle.sv8_syntax.specs.declared.fault.LineFault.TheVariants.{LineTooLong, NotAscii, Syntax}
 use Rattle.sv8_syntax.specs.declared.token.Percent.TheVariants as percent
 use Rattle.sv8_syntax.specs.declared.token.Mark.TheVariants as mark
 use Rattle.sv8_syntax.specs.declared.mnemonic.Shape.{Shape}
@@ -107,9 +107,8 @@ pub record ReadsAs (text : List ℕ) (s : Stmt) : Type 0 where
   pub cut : IsCutInto text tokens
   pub parsed : IsLine tokens s
 
--- Why a text is no line: the least fault that there is. Memory may run out for any text.
+-- Why a text is no line: the least fault that there is.
 abbrev pub IsFault : List ℕ → LineFault → Type 0
-IsFault text OutOfMemory = Unit {0}
 IsFault text LineTooLong = 255 < length text
 IsFault text NotAscii = (length text ≤ 255) × (AllPass is_text_byte text → ⊥)
 IsFault text Syntax = (length text ≤ 255) × AllPass is_text_byte text × ((s : Stmt) → ReadsAs text s → ⊥)

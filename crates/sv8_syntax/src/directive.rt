@@ -6,7 +6,7 @@ ghost use Rattle.sv8_syntax.specs.Outcome.{Gives};
 ghost use Rattle.sv8_syntax.specs.Taking.{exprs_in};
 ghost use Rattle.sv8_syntax.specs.Forms.{set_of, motion_of, data_of, ascii_of, equ_of, directive_of};
 
-use crate::fault::LineFault::{self, Syntax};
+use crate::fault::{Read, SYNTAX};
 use crate::mnemonic::Directive;
 use crate::operand::Operand;
 use crate::statement::{Motion, Statement, Width};
@@ -16,74 +16,74 @@ use crate::value::{Exprs, Name};
 use std::alloc::Global;
 
 #[tactic(auto, unfolding(crate::specs::Forms::set_of))]
-fn set(alloc: Global, operands: &[Operand<'_>]) -> Result<Statement, LineFault>
+fn set(alloc: Global, operands: &[Operand<'_>]) -> Read<Statement>
     ensures { Gives (λ s. s) result (set_of (operand_views operands.now)) }
 {
     let [a, d] = operands else {
-        return Err(Syntax);
+        return Err(SYNTAX);
     };
-    let rd = register_in(*d).ok_or(Syntax)?;
-    let value = expr_in(*a).ok_or(Syntax)?.owned(alloc)?;
+    let rd = register_in(*d).ok_or(SYNTAX)?;
+    let value = expr_in(*a).ok_or(SYNTAX)?.owned(alloc)?;
     Ok(Statement::Set { value, rd })
 }
 
 #[tactic(auto, unfolding(crate::specs::Forms::motion_of))]
-fn motion(motion: Motion, operands: &[Operand<'_>]) -> Result<Statement, LineFault>
+fn motion(motion: Motion, operands: &[Operand<'_>]) -> Read<Statement>
     ensures { Gives (λ s. s) result (motion_of motion (operand_views operands.now)) }
 {
     let [a] = operands else {
-        return Err(Syntax);
+        return Err(SYNTAX);
     };
-    let number = number_in(*a).ok_or(Syntax)?;
+    let number = number_in(*a).ok_or(SYNTAX)?;
     Ok(Statement::Motion { motion, number })
 }
 
 #[tactic(auto, unfolding(crate::specs::Taking::exprs_in))]
-fn exprs(alloc: Global, operands: &[Operand<'_>]) -> Result<Exprs, LineFault>
+fn exprs(alloc: Global, operands: &[Operand<'_>]) -> Read<Exprs>
     requires some { 1 ≤ length operands.now }
     requires few { length operands.now ≤ 256 }
     ensures { Gives (λ es. es) result (exprs_in (operand_views operands.now)) }
 {
     let mut items = Vec::new(alloc);
     for operand in operands {
-        let value = expr_in(*operand).ok_or(Syntax)?;
+        let value = expr_in(*operand).ok_or(SYNTAX)?;
         items.push(value.owned(alloc)?)?;
     }
     Ok(Exprs::new(items))
 }
 
 #[tactic(auto, unfolding(crate::specs::Forms::data_of))]
-fn data(alloc: Global, width: Width, operands: &[Operand<'_>]) -> Result<Statement, LineFault>
+fn data(alloc: Global, width: Width, operands: &[Operand<'_>]) -> Read<Statement>
     requires few { length operands.now ≤ 256 }
     ensures { Gives (λ s. s) result (data_of width (operand_views operands.now)) }
 {
     if operands.is_empty() {
-        return Err(Syntax);
+        return Err(SYNTAX);
     }
     let values = exprs(alloc, operands)?;
     Ok(Statement::Data { width, values })
 }
 
 #[tactic(auto, unfolding(crate::specs::Forms::ascii_of))]
-fn ascii(alloc: Global, operands: &[Operand<'_>]) -> Result<Statement, LineFault>
+fn ascii(alloc: Global, operands: &[Operand<'_>]) -> Read<Statement>
     ensures { Gives (λ s. s) result (ascii_of (operand_views operands.now)) }
 {
     let [a] = operands else {
-        return Err(Syntax);
+        return Err(SYNTAX);
     };
     let text = text_in(alloc, *a)?;
     Ok(Statement::Ascii(text))
 }
 
 #[tactic(auto, unfolding(crate::specs::Forms::equ_of))]
-fn equ(alloc: Global, operands: &[Operand<'_>]) -> Result<Statement, LineFault>
+fn equ(alloc: Global, operands: &[Operand<'_>]) -> Read<Statement>
     ensures { Gives (λ s. s) result (equ_of (operand_views operands.now)) }
 {
     let [a, b] = operands else {
-        return Err(Syntax);
+        return Err(SYNTAX);
     };
-    let value = signed_in(*b).ok_or(Syntax)?;
-    let name = name_in(*a).ok_or(Syntax)?;
+    let value = signed_in(*b).ok_or(SYNTAX)?;
+    let name = name_in(*a).ok_or(SYNTAX)?;
     Ok(Statement::Equ {
         name: Name::new(alloc, name)?,
         value: value.owned(alloc)?,
@@ -92,11 +92,7 @@ fn equ(alloc: Global, operands: &[Operand<'_>]) -> Result<Statement, LineFault>
 
 /// The statement of a directive with these operands.
 #[tactic(auto, unfolding(crate::specs::Forms::directive_of))]
-pub fn directive(
-    alloc: Global,
-    directive: Directive,
-    operands: &[Operand<'_>],
-) -> Result<Statement, LineFault>
+pub fn directive(alloc: Global, directive: Directive, operands: &[Operand<'_>]) -> Read<Statement>
     requires few { length operands.now ≤ 256 }
     ensures { Gives (λ s. s) result (directive_of directive (operand_views operands.now)) }
 {

@@ -6,7 +6,7 @@ ghost use Rattle.sv8_syntax.specs.Outcome.{Gives};
 ghost use Rattle.sv8_syntax.specs.Forms.{directive_in, form_of, annulled};
 
 use crate::directive::directive;
-use crate::fault::LineFault;
+use crate::fault::Read;
 use crate::instruction::instruction;
 use crate::mnemonic::{Directive, Shape};
 use crate::operand::Operand;
@@ -25,7 +25,7 @@ fn directive_in(shape: Shape) -> Option<Directive>
 
 /// The statement of a mnemonic of this shape with these operands.
 #[tactic(auto, unfolding(crate::specs::Forms::form_of))]
-pub fn form(alloc: Global, shape: Shape, operands: &[Operand<'_>]) -> Result<Statement, LineFault>
+pub fn form(alloc: Global, shape: Shape, operands: &[Operand<'_>]) -> Read<Statement>
     requires few { length operands.now ≤ 256 }
     ensures { Gives (λ s. s) result (form_of shape (operand_views operands.now)) }
 {

@@ -6,7 +6,7 @@ ghost use Rattle.sv8_syntax.specs.Operand.{source_view, operand_view};
 ghost use Rattle.sv8_syntax.specs.Outcome.{Gives};
 ghost use Rattle.sv8_syntax.specs.Forms.{of_registers, small, with_source, with_place, with_bracketed};
 
-use crate::fault::LineFault::{self, Syntax};
+use crate::fault::{Read, SYNTAX};
 use crate::operand::{Operand, RegOrImmRef};
 use crate::register::Register;
 use crate::statement::{Instruction, Operation};
@@ -21,7 +21,7 @@ pub(crate) fn format3(
     rd: Register,
     rs1: Register,
     source: RegOrImmRef<'_>,
-) -> Result<Instruction, LineFault>
+) -> Read<Instruction>
     ensures { Gives (λ i. i) result (Some (instruction.Format3 op rd rs1 (source_view source.entry))) }
 {
     let source = source.owned(alloc)?;
@@ -41,10 +41,10 @@ pub(crate) fn with_source(
     rd: Register,
     rs1: Register,
     operand: Operand<'_>,
-) -> Result<Instruction, LineFault>
+) -> Read<Instruction>
     ensures { Gives (λ i. i) result (with_source op rd rs1 (operand_view operand.entry)) }
 {
-    let source = source_in(operand).ok_or(Syntax)?;
+    let source = source_in(operand).ok_or(SYNTAX)?;
     format3(alloc, op, rd, rs1, source)
 }
 
@@ -55,10 +55,10 @@ pub(crate) fn with_place(
     op: Operation,
     rd: Register,
     place: Operand<'_>,
-) -> Result<Instruction, LineFault>
+) -> Read<Instruction>
     ensures { Gives (λ i. i) result (with_place op rd (operand_view place.entry)) }
 {
-    let (rs1, source) = place_in(place).ok_or(Syntax)?;
+    let (rs1, source) = place_in(place).ok_or(SYNTAX)?;
     format3(alloc, op, rd, rs1, source)
 }
 
@@ -69,10 +69,10 @@ pub(crate) fn with_bracketed(
     op: Operation,
     rd: Register,
     place: Operand<'_>,
-) -> Result<Instruction, LineFault>
+) -> Read<Instruction>
     ensures { Gives (λ i. i) result (with_bracketed op rd (operand_view place.entry)) }
 {
-    let (base, source) = bracketed_in(place).ok_or(Syntax)?;
+    let (base, source) = bracketed_in(place).ok_or(SYNTAX)?;
     format3(alloc, op, rd, base, source)
 }
 

@@ -5,7 +5,7 @@ ghost use Rattle.sv8_syntax.specs.Outcome.{Gives};
 ghost use Rattle.sv8_syntax.specs.Taking.{upper_in};
 ghost use Rattle.sv8_syntax.specs.Forms.{none_of, called, call_of, cleared, clear_of, branch_of, trap_of, unimp_of, test_of, not_of, negate_of, step_by_one, one_of, access, alternate_access, from_state, to_state, moved, mov_of, compared, sethi_of, jmpl_of, call_with_number, step_of, update_of, two_of, three_fields, shift_of, write_of, three_of, instruction_of};
 
-use crate::fault::LineFault::{self, Syntax};
+use crate::fault::{Read, SYNTAX};
 use crate::format3::{format3, of_number, of_registers, with_bracketed, with_place, with_source};
 use crate::mnemonic::Shape;
 use crate::operand::{Address, ImmRef, Operand, RegOrImmRef};
@@ -26,7 +26,7 @@ const OR: Operation = Operation::Arith {
 
 /// `%hi(..)`, or an expression.
 #[tactic(auto, unfolding(crate::specs::Taking::upper_in))]
-fn upper_in(alloc: Global, operand: Operand<'_>) -> Result<Upper, LineFault>
+fn upper_in(alloc: Global, operand: Operand<'_>) -> Read<Upper>
     ensures { Gives (λ u. u) result (upper_in (operand_view operand.entry)) }
 {
     match operand {
@@ -34,12 +34,12 @@ fn upper_in(alloc: Global, operand: Operand<'_>) -> Result<Upper, LineFault>
         Operand::Plain(Address::One(RegOrImmRef::Immediate(ImmRef::Value(e)))) => {
             Ok(Upper::Value(e.owned(alloc)?))
         }
-        _ => Err(Syntax),
+        _ => Err(SYNTAX),
     }
 }
 
 #[tactic(auto, unfolding(crate::specs::Forms::none_of))]
-fn none(shape: Shape) -> Result<Instruction, LineFault>
+fn none(shape: Shape) -> Read<Instruction>
     ensures { Gives (λ i. i) result (none_of shape) }
 {
     let zero = Register::G0;
@@ -52,22 +52,22 @@ fn none(shape: Shape) -> Result<Instruction, LineFault>
         }),
         Shape::Return(rs1) => Ok(of_number(Operation::Jmpl, zero, rs1, 8)),
         Shape::Stbar => Ok(of_registers(Operation::Stbar, zero, zero, zero)),
-        _ => Err(Syntax),
+        _ => Err(SYNTAX),
     }
 }
 
 /// `call`, to an expression.
 #[tactic(auto, unfolding(crate::specs::Forms::called))]
-fn called(alloc: Global, target: Operand<'_>) -> Result<Instruction, LineFault>
+fn called(alloc: Global, target: Operand<'_>) -> Read<Instruction>
     ensures { Gives (λ i. i) result (called (operand_view target.entry)) }
 {
-    let target = expr_in(target).ok_or(Syntax)?.owned(alloc)?;
+    let target = expr_in(target).ok_or(SYNTAX)?.owned(alloc)?;
     Ok(Instruction::Call(target))
 }
 
 /// `call`, to an address that begins with a register, or to an expression.
 #[tactic(auto, unfolding(crate::specs::Forms::call_of))]
-fn call(alloc: Global, target: Operand<'_>) -> Result<Instruction, LineFault>
+fn call(alloc: Global, target: Operand<'_>) -> Read<Instruction>
     ensures { Gives (λ i. i) result (call_of (operand_view target.entry)) }
 {
     if starts_with_register(target) {
@@ -79,16 +79,16 @@ fn call(alloc: Global, target: Operand<'_>) -> Result<Instruction, LineFault>
 
 /// `clr` of a register.
 #[tactic(auto, unfolding(crate::specs::Forms::cleared))]
-fn cleared(to: Operand<'_>) -> Result<Instruction, LineFault>
+fn cleared(to: Operand<'_>) -> Read<Instruction>
     ensures { Gives (λ i. i) result (cleared (operand_view to.entry)) }
 {
-    let rd = register_in(to).ok_or(Syntax)?;
+    let rd = register_in(to).ok_or(SYNTAX)?;
     Ok(of_registers(OR, rd, Register::G0, Register::G0))
 }
 
 /// `clr` of an address or of a register.
 #[tactic(auto, unfolding(crate::specs::Forms::clear_of))]
-fn clear(alloc: Global, operand: Operand<'_>) -> Result<Instruction, LineFault>
+fn clear(alloc: Global, operand: Operand<'_>) -> Read<Instruction>
     ensures { Gives (λ i. i) result (clear_of (operand_view operand.entry)) }
 {
     if is_bracketed(operand) {
@@ -104,15 +104,10 @@ fn clear(alloc: Global, operand: Operand<'_>) -> Result<Instruction, LineFault>
 }
 
 #[tactic(auto, unfolding(crate::specs::Forms::branch_of))]
-fn branch(
-    alloc: Global,
-    cond: Cond,
-    annul: bool,
-    operand: Operand<'_>,
-) -> Result<Instruction, LineFault>
+fn branch(alloc: Global, cond: Cond, annul: bool, operand: Operand<'_>) -> Read<Instruction>
     ensures { Gives (λ i. i) result (branch_of cond annul (operand_view operand.entry)) }
 {
-    let target = expr_in(operand).ok_or(Syntax)?.owned(alloc)?;
+    let target = expr_in(operand).ok_or(SYNTAX)?.owned(alloc)?;
     Ok(Instruction::Branch {
         cond,
         annul,
@@ -121,39 +116,39 @@ fn branch(
 }
 
 #[tactic(auto, unfolding(crate::specs::Forms::trap_of))]
-fn trap(alloc: Global, cond: Cond, operand: Operand<'_>) -> Result<Instruction, LineFault>
+fn trap(alloc: Global, cond: Cond, operand: Operand<'_>) -> Read<Instruction>
     ensures { Gives (λ i. i) result (trap_of cond (operand_view operand.entry)) }
 {
-    let (rs1, source) = trap_in(operand).ok_or(Syntax)?;
+    let (rs1, source) = trap_in(operand).ok_or(SYNTAX)?;
     format3(alloc, Operation::Trap(cond), Register::G0, rs1, source)
 }
 
 #[tactic(auto, unfolding(crate::specs::Forms::unimp_of))]
-fn unimp(operand: Operand<'_>) -> Result<Instruction, LineFault>
+fn unimp(operand: Operand<'_>) -> Read<Instruction>
     ensures { Gives (λ i. i) result (unimp_of (operand_view operand.entry)) }
 {
-    let number = number_in(operand).ok_or(Syntax)?;
+    let number = number_in(operand).ok_or(SYNTAX)?;
     Ok(Instruction::Unimp(number))
 }
 
 #[tactic(auto, unfolding(crate::specs::Forms::test_of))]
-fn test(op: Operation, operand: Operand<'_>) -> Result<Instruction, LineFault>
+fn test(op: Operation, operand: Operand<'_>) -> Read<Instruction>
     ensures { Gives (λ i. i) result (test_of op (operand_view operand.entry)) }
 {
-    let rs2 = register_in(operand).ok_or(Syntax)?;
+    let rs2 = register_in(operand).ok_or(SYNTAX)?;
     Ok(of_registers(op, Register::G0, Register::G0, rs2))
 }
 
 #[tactic(auto, unfolding(crate::specs::Forms::step_by_one))]
-fn step_by_one(op: Operation, to: Operand<'_>) -> Result<Instruction, LineFault>
+fn step_by_one(op: Operation, to: Operand<'_>) -> Read<Instruction>
     ensures { Gives (λ i. i) result (step_by_one op (operand_view to.entry)) }
 {
-    let rd = register_in(to).ok_or(Syntax)?;
+    let rd = register_in(to).ok_or(SYNTAX)?;
     Ok(of_number(op, rd, rd, 1))
 }
 
 #[tactic(auto, unfolding(crate::specs::Forms::one_of))]
-fn one(alloc: Global, shape: Shape, operand: Operand<'_>) -> Result<Instruction, LineFault>
+fn one(alloc: Global, shape: Shape, operand: Operand<'_>) -> Read<Instruction>
     ensures { Gives (λ i. i) result (one_of shape (operand_view operand.entry)) }
 {
     match shape {
@@ -168,7 +163,7 @@ fn one(alloc: Global, shape: Shape, operand: Operand<'_>) -> Result<Instruction,
         Shape::Step(op) => step_by_one(op, operand),
         Shape::ClearAt(op) => with_bracketed(alloc, Operation::Memory(op), Register::G0, operand),
         Shape::Clear => clear(alloc, operand),
-        _ => Err(Syntax),
+        _ => Err(SYNTAX),
     }
 }
 
@@ -179,24 +174,20 @@ fn access(
     op: MemoryOp,
     register: Operand<'_>,
     place: Operand<'_>,
-) -> Result<Instruction, LineFault>
+) -> Read<Instruction>
     ensures { Gives (λ i. i) result (access op (operand_view register.entry) (operand_view place.entry)) }
 {
-    let rd = register_in(register).ok_or(Syntax)?;
+    let rd = register_in(register).ok_or(SYNTAX)?;
     with_bracketed(alloc, Operation::Memory(op), rd, place)
 }
 
 /// The same in an alternate space.
 #[tactic(auto, unfolding(crate::specs::Forms::alternate_access))]
-fn alternate_access(
-    op: MemoryOp,
-    register: Operand<'_>,
-    place: Operand<'_>,
-) -> Result<Instruction, LineFault>
+fn alternate_access(op: MemoryOp, register: Operand<'_>, place: Operand<'_>) -> Read<Instruction>
     ensures { Gives (λ i. i) result (alternate_access op (operand_view register.entry) (operand_view place.entry)) }
 {
-    let rd = register_in(register).ok_or(Syntax)?;
-    let (rs1, rs2, asi) = alternate_in(place).ok_or(Syntax)?;
+    let rd = register_in(register).ok_or(SYNTAX)?;
+    let (rs1, rs2, asi) = alternate_in(place).ok_or(SYNTAX)?;
     Ok(Instruction::Alternate {
         op,
         rd,
@@ -207,30 +198,30 @@ fn alternate_access(
 }
 
 #[tactic(auto, unfolding(crate::specs::Forms::sethi_of))]
-fn sethi(alloc: Global, value: Operand<'_>, to: Operand<'_>) -> Result<Instruction, LineFault>
+fn sethi(alloc: Global, value: Operand<'_>, to: Operand<'_>) -> Read<Instruction>
     ensures { Gives (λ i. i) result (sethi_of (operand_view value.entry) (operand_view to.entry)) }
 {
-    let rd = register_in(to).ok_or(Syntax)?;
+    let rd = register_in(to).ok_or(SYNTAX)?;
     let value = upper_in(alloc, value)?;
     Ok(Instruction::Sethi { value, rd })
 }
 
 /// `rd`, and `mov` from a state register.
 #[tactic(auto, unfolding(crate::specs::Forms::from_state))]
-fn from_state(from: Operand<'_>, to: Operand<'_>) -> Result<Instruction, LineFault>
+fn from_state(from: Operand<'_>, to: Operand<'_>) -> Read<Instruction>
     ensures { Gives (λ i. i) result (from_state (operand_view from.entry) (operand_view to.entry)) }
 {
-    let state = state_in(from).ok_or(Syntax)?;
-    let rd = register_in(to).ok_or(Syntax)?;
+    let state = state_in(from).ok_or(SYNTAX)?;
+    let rd = register_in(to).ok_or(SYNTAX)?;
     Ok(of_registers(Operation::Read(state), rd, Register::G0, Register::G0))
 }
 
 /// `mov` to a state register.
 #[tactic(auto, unfolding(crate::specs::Forms::to_state))]
-fn to_state(alloc: Global, from: Operand<'_>, to: Operand<'_>) -> Result<Instruction, LineFault>
+fn to_state(alloc: Global, from: Operand<'_>, to: Operand<'_>) -> Read<Instruction>
     ensures { Gives (λ i. i) result (to_state (operand_view from.entry) (operand_view to.entry)) }
 {
-    let state = state_in(to).ok_or(Syntax)?;
+    let state = state_in(to).ok_or(SYNTAX)?;
     with_source(
         alloc,
         Operation::Write(state),
@@ -242,15 +233,15 @@ fn to_state(alloc: Global, from: Operand<'_>, to: Operand<'_>) -> Result<Instruc
 
 /// `mov` to an r register.
 #[tactic(auto, unfolding(crate::specs::Forms::moved))]
-fn moved(alloc: Global, from: Operand<'_>, to: Operand<'_>) -> Result<Instruction, LineFault>
+fn moved(alloc: Global, from: Operand<'_>, to: Operand<'_>) -> Read<Instruction>
     ensures { Gives (λ i. i) result (moved (operand_view from.entry) (operand_view to.entry)) }
 {
-    let rd = register_in(to).ok_or(Syntax)?;
+    let rd = register_in(to).ok_or(SYNTAX)?;
     with_source(alloc, OR, rd, Register::G0, from)
 }
 
 #[tactic(auto, unfolding(crate::specs::Forms::mov_of))]
-fn mov(alloc: Global, from: Operand<'_>, to: Operand<'_>) -> Result<Instruction, LineFault>
+fn mov(alloc: Global, from: Operand<'_>, to: Operand<'_>) -> Read<Instruction>
     ensures { Gives (λ i. i) result (mov_of (operand_view from.entry) (operand_view to.entry)) }
 {
     if is_state(from) {
@@ -263,56 +254,47 @@ fn mov(alloc: Global, from: Operand<'_>, to: Operand<'_>) -> Result<Instruction,
 }
 
 #[tactic(auto, unfolding(crate::specs::Forms::jmpl_of))]
-fn jmpl(alloc: Global, target: Operand<'_>, to: Operand<'_>) -> Result<Instruction, LineFault>
+fn jmpl(alloc: Global, target: Operand<'_>, to: Operand<'_>) -> Read<Instruction>
     ensures { Gives (λ i. i) result (jmpl_of (operand_view target.entry) (operand_view to.entry)) }
 {
-    let rd = register_in(to).ok_or(Syntax)?;
+    let rd = register_in(to).ok_or(SYNTAX)?;
     with_place(alloc, Operation::Jmpl, rd, target)
 }
 
 /// `call` with a number behind it, which is ignored.
 #[tactic(auto, unfolding(crate::specs::Forms::call_with_number))]
-fn call_with_number(
-    alloc: Global,
-    target: Operand<'_>,
-    number: Operand<'_>,
-) -> Result<Instruction, LineFault>
+fn call_with_number(alloc: Global, target: Operand<'_>, number: Operand<'_>) -> Read<Instruction>
     ensures { Gives (λ i. i) result (call_with_number (operand_view target.entry) (operand_view number.entry)) }
 {
-    number_in(number).ok_or(Syntax)?;
+    number_in(number).ok_or(SYNTAX)?;
     call(alloc, target)
 }
 
 #[tactic(auto, unfolding(crate::specs::Forms::not_of))]
-fn not(op: Operation, from: Operand<'_>, to: Operand<'_>) -> Result<Instruction, LineFault>
+fn not(op: Operation, from: Operand<'_>, to: Operand<'_>) -> Read<Instruction>
     ensures { Gives (λ i. i) result (not_of op (operand_view from.entry) (operand_view to.entry)) }
 {
-    let rs1 = register_in(from).ok_or(Syntax)?;
-    let rd = register_in(to).ok_or(Syntax)?;
+    let rs1 = register_in(from).ok_or(SYNTAX)?;
+    let rd = register_in(to).ok_or(SYNTAX)?;
     Ok(of_registers(op, rd, rs1, Register::G0))
 }
 
 #[tactic(auto, unfolding(crate::specs::Forms::negate_of))]
-fn negate(op: Operation, from: Operand<'_>, to: Operand<'_>) -> Result<Instruction, LineFault>
+fn negate(op: Operation, from: Operand<'_>, to: Operand<'_>) -> Read<Instruction>
     ensures { Gives (λ i. i) result (negate_of op (operand_view from.entry) (operand_view to.entry)) }
 {
-    let rs2 = register_in(from).ok_or(Syntax)?;
-    let rd = register_in(to).ok_or(Syntax)?;
+    let rs2 = register_in(from).ok_or(SYNTAX)?;
+    let rd = register_in(to).ok_or(SYNTAX)?;
     Ok(of_registers(op, rd, Register::G0, rs2))
 }
 
 /// `inc` and `dec` by a value.
 #[tactic(auto, unfolding(crate::specs::Forms::step_of))]
-fn step(
-    alloc: Global,
-    op: Operation,
-    by: Operand<'_>,
-    to: Operand<'_>,
-) -> Result<Instruction, LineFault>
+fn step(alloc: Global, op: Operation, by: Operand<'_>, to: Operand<'_>) -> Read<Instruction>
     ensures { Gives (λ i. i) result (step_of op (operand_view by.entry) (operand_view to.entry)) }
 {
-    let rd = register_in(to).ok_or(Syntax)?;
-    let by = imm_in(by).ok_or(Syntax)?;
+    let rd = register_in(to).ok_or(SYNTAX)?;
+    let by = imm_in(by).ok_or(SYNTAX)?;
     format3(alloc, op, rd, rd, RegOrImmRef::Immediate(by))
 }
 
@@ -323,34 +305,24 @@ fn compared(
     op: Operation,
     first: Operand<'_>,
     second: Operand<'_>,
-) -> Result<Instruction, LineFault>
+) -> Read<Instruction>
     ensures { Gives (λ i. i) result (compared op (operand_view first.entry) (operand_view second.entry)) }
 {
-    let rs1 = register_in(first).ok_or(Syntax)?;
+    let rs1 = register_in(first).ok_or(SYNTAX)?;
     with_source(alloc, op, Register::G0, rs1, second)
 }
 
 /// `bset`, `bclr` and `btog`.
 #[tactic(auto, unfolding(crate::specs::Forms::update_of))]
-fn update(
-    alloc: Global,
-    op: Operation,
-    by: Operand<'_>,
-    to: Operand<'_>,
-) -> Result<Instruction, LineFault>
+fn update(alloc: Global, op: Operation, by: Operand<'_>, to: Operand<'_>) -> Read<Instruction>
     ensures { Gives (λ i. i) result (update_of op (operand_view by.entry) (operand_view to.entry)) }
 {
-    let rd = register_in(to).ok_or(Syntax)?;
+    let rd = register_in(to).ok_or(SYNTAX)?;
     with_source(alloc, op, rd, rd, by)
 }
 
 #[tactic(auto, unfolding(crate::specs::Forms::two_of))]
-fn two(
-    alloc: Global,
-    shape: Shape,
-    first: Operand<'_>,
-    second: Operand<'_>,
-) -> Result<Instruction, LineFault>
+fn two(alloc: Global, shape: Shape, first: Operand<'_>, second: Operand<'_>) -> Read<Instruction>
     ensures { Gives (λ i. i) result (two_of shape (operand_view first.entry) (operand_view second.entry)) }
 {
     match shape {
@@ -369,7 +341,7 @@ fn two(
         Shape::TestBits(op) => compared(alloc, op, second, first),
         Shape::Update(op) => update(alloc, op, first, second),
         Shape::Mov => mov(alloc, first, second),
-        _ => Err(Syntax),
+        _ => Err(SYNTAX),
     }
 }
 
@@ -380,11 +352,11 @@ fn three_fields(
     first: Operand<'_>,
     second: Operand<'_>,
     to: Operand<'_>,
-) -> Result<Instruction, LineFault>
+) -> Read<Instruction>
     ensures { Gives (λ i. i) result (three_fields op (operand_view first.entry) (operand_view second.entry) (operand_view to.entry)) }
 {
-    let rs1 = register_in(first).ok_or(Syntax)?;
-    let rd = register_in(to).ok_or(Syntax)?;
+    let rs1 = register_in(first).ok_or(SYNTAX)?;
+    let rd = register_in(to).ok_or(SYNTAX)?;
     with_source(alloc, op, rd, rs1, second)
 }
 
@@ -395,12 +367,12 @@ fn shift(
     first: Operand<'_>,
     second: Operand<'_>,
     to: Operand<'_>,
-) -> Result<Instruction, LineFault>
+) -> Read<Instruction>
     ensures { Gives (λ i. i) result (shift_of op (operand_view first.entry) (operand_view second.entry) (operand_view to.entry)) }
 {
-    let rs1 = register_in(first).ok_or(Syntax)?;
-    let rd = register_in(to).ok_or(Syntax)?;
-    let count = count_in(second).ok_or(Syntax)?;
+    let rs1 = register_in(first).ok_or(SYNTAX)?;
+    let rd = register_in(to).ok_or(SYNTAX)?;
+    let count = count_in(second).ok_or(SYNTAX)?;
     format3(alloc, Operation::Shift(op), rd, rs1, count)
 }
 
@@ -410,11 +382,11 @@ fn write_state(
     first: Operand<'_>,
     second: Operand<'_>,
     to: Operand<'_>,
-) -> Result<Instruction, LineFault>
+) -> Read<Instruction>
     ensures { Gives (λ i. i) result (write_of (operand_view first.entry) (operand_view second.entry) (operand_view to.entry)) }
 {
-    let rs1 = register_in(first).ok_or(Syntax)?;
-    let state = state_in(to).ok_or(Syntax)?;
+    let rs1 = register_in(first).ok_or(SYNTAX)?;
+    let state = state_in(to).ok_or(SYNTAX)?;
     with_source(alloc, Operation::Write(state), Register::G0, rs1, second)
 }
 
@@ -425,24 +397,20 @@ fn three(
     first: Operand<'_>,
     second: Operand<'_>,
     third: Operand<'_>,
-) -> Result<Instruction, LineFault>
+) -> Read<Instruction>
     ensures { Gives (λ i. i) result (three_of shape (operand_view first.entry) (operand_view second.entry) (operand_view third.entry)) }
 {
     match shape {
         Shape::Three(op) => three_fields(alloc, op, first, second, third),
         Shape::Shift(op) => shift(alloc, op, first, second, third),
         Shape::Write => write_state(alloc, first, second, third),
-        _ => Err(Syntax),
+        _ => Err(SYNTAX),
     }
 }
 
 /// The instruction of a shape with these operands.
 #[tactic(auto, unfolding(crate::specs::Forms::instruction_of))]
-pub fn instruction(
-    alloc: Global,
-    shape: Shape,
-    operands: &[Operand<'_>],
-) -> Result<Instruction, LineFault>
+pub fn instruction(alloc: Global, shape: Shape, operands: &[Operand<'_>]) -> Read<Instruction>
     ensures { Gives (λ i. i) result (instruction_of shape (operand_views operands.now)) }
 {
     match operands {
@@ -450,6 +418,6 @@ pub fn instruction(
         [a] => one(alloc, shape, *a),
         [a, c] => two(alloc, shape, *a, *c),
         [a, c, d] => three(alloc, shape, *a, *c, *d),
-        _ => Err(Syntax),
+        _ => Err(SYNTAX),
     }
 }

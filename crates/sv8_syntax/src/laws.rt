@@ -1,13 +1,13 @@
 //! What is true of the grammar and of `reading`, whatever the text, and some lines worked out.
 
-ghost use Rattle.std.specs.Prelude.{◌≡◌, ◌≢◌, ℕ, List, Result, Ok, Err, Some, None, codes, true, false, [], ◌∷◌, ◌++◌};
+ghost use Rattle.std.specs.Prelude.{◌≡◌, ℕ, List, Result, Ok, Err, Some, None, codes, true, false, [], ◌∷◌, ◌++◌};
 ghost use Rattle.sv8_isa.specs.declared.instr.ArithOp.TheVariants as arith;
 ghost use Rattle.sv8_isa.specs.declared.instr.Cond.TheVariants as condition;
 ghost use Rattle.sv8_isa.specs.declared.instr.MemoryOp.TheVariants as memory;
 ghost use Rattle.sv8_isa.specs.declared.instr.ShiftOp.TheVariants as shift;
 ghost use Rattle.sv8_isa.specs.declared.instr.StateRegister.TheVariants as state;
 ghost use Rattle.sv8_syntax.specs.declared.fault.LineFault.{LineFault};
-ghost use Rattle.sv8_syntax.specs.declared.fault.LineFault.TheVariants.{OutOfMemory, NotAscii, Syntax};
+ghost use Rattle.sv8_syntax.specs.declared.fault.LineFault.TheVariants.{NotAscii, Syntax};
 ghost use Rattle.sv8_syntax.specs.declared.register.Register.TheVariants as r;
 ghost use Rattle.sv8_syntax.specs.declared.value.Expr.TheVariants as expr;
 ghost use Rattle.sv8_syntax.specs.declared.value.Imm.TheVariants as imm;
@@ -35,7 +35,6 @@ pub fn reading_is_the_grammar()
     ensures read { (text : List ℕ) (s : Stmt) → reading text ≡ Ok s → ReadsAs text s }
     ensures written { (text : List ℕ) (s : Stmt) → ReadsAs text s → reading text ≡ Ok s }
     ensures fault { (text : List ℕ) (e : LineFault) → reading text ≡ Err e → IsFault text e }
-    ensures memory { (text : List ℕ) (e : LineFault) → reading text ≡ Err e → e ≢ OutOfMemory }
     ensures defines { (text : List ℕ) (s : Stmt) → reading text ≡ Ok s → Defines s }
 {}
 

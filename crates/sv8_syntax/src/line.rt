@@ -1,7 +1,7 @@
 //! A line's text to its statement.
 
-ghost use Rattle.std.specs.Prelude.{◌≡◌, option_map, ◌≤◌, ◌⊎◌, ◌+◌, length, ◌<◌, ◌∷◌, IfSome, IfOk, IfErr, IsTrue, ◌↔◌, MatchResult, Ok, Err};
-ghost use Rattle.sv8_syntax.specs.declared.fault.LineFault.TheVariants.{OutOfMemory};
+ghost use Rattle.std.specs.Prelude.{◌≡◌, option_map, ◌≤◌, ◌+◌, length, ◌<◌, ◌∷◌, IfSome, IfOk, IfErr, IsTrue, ◌↔◌, MatchResult, Ok, Err};
+ghost use Rattle.sv8_model.specs.Refused.{ByFault};
 ghost use Rattle.sv8_syntax.specs.Token.{views};
 ghost use Rattle.sv8_syntax.specs.Operand.{operand_views};
 ghost use Rattle.sv8_syntax.specs.Spelling.{AllPass};
@@ -10,7 +10,7 @@ ghost use Rattle.sv8_syntax.specs.Grammar.{ReadsAs, IsFault, is_text_byte};
 ghost use Rattle.sv8_syntax.specs.Outcome.{Gives, part_len, parts_behind};
 ghost use Rattle.sv8_syntax.specs.Reading.{parts, parts_of, operands_of, shaped, behind_annul, flagged, statement_of, label_front, line_of, reading};
 
-use crate::fault::LineFault::{self, Syntax};
+use crate::fault::{LineFault, Read, SYNTAX};
 use crate::form::{annulled, form};
 use crate::lexer::{is_reference, tokens};
 use crate::mnemonic::{Shape, shape_of};
@@ -20,6 +20,7 @@ use crate::statement::{Label, Statement, Stmt};
 use crate::token::{Mark, Token};
 use crate::value::Name;
 use std::alloc::{AllocError, Global};
+use sv8_model::Refused;
 
 #[tactic(auto, unfolding(crate::specs::Outcome::part_len))]
 fn part_len(tokens: &[Token<'_>]) -> usize
@@ -52,7 +53,7 @@ fn first_part<'t, 'a>(tokens: &'t [Token<'a>]) -> (&'t [Token<'a>], Option<&'t [
 
 /// The operands, which are the parts between commas.
 #[tactic(auto, using(crate::proofs::Parts::parts_of_none, crate::proofs::Parts::parts_of_some))]
-fn operands<'a>(alloc: Global, tokens: &[Token<'a>]) -> Result<Vec<Operand<'a>>, LineFault>
+fn operands<'a>(alloc: Global, tokens: &[Token<'a>]) -> Read<Vec<Operand<'a>>>
     ensures read { Gives (λ v. operand_views v.items) result (operands_of (parts_of (views tokens.now))) }
     ensures few { IfOk result (λ v. length v.items ≤ length tokens.now + 1) }
 {
@@ -63,7 +64,7 @@ fn operands<'a>(alloc: Global, tokens: &[Token<'a>]) -> Result<Vec<Operand<'a>>,
     let mut rest = Some(tokens);
     while let Some(tokens) = rest {
         let (part, behind) = first_part(tokens);
-        let operand = operand_of(part).ok_or(Syntax)?;
+        let operand = operand_of(part).ok_or(SYNTAX)?;
         out.push(operand)?;
         rest = behind;
     }
@@ -72,7 +73,7 @@ fn operands<'a>(alloc: Global, tokens: &[Token<'a>]) -> Result<Vec<Operand<'a>>,
 
 /// The statement of a shape with the operands that these tokens are.
 #[tactic(auto, unfolding(crate::specs::Reading::shaped))]
-fn shaped(alloc: Global, shape: Shape, tokens: &[Token<'_>]) -> Result<Statement, LineFault>
+fn shaped(alloc: Global, shape: Shape, tokens: &[Token<'_>]) -> Read<Statement>
     requires few { length tokens.now ≤ 255 }
     ensures { Gives (λ s. s) result (shaped shape (views tokens.now)) }
 {
@@ -105,18 +106,18 @@ fn flagged<'t, 'a>(shape: Shape, tokens: &'t [Token<'a>]) -> Option<(Shape, &'t 
 }
 
 #[tactic(auto, unfolding(crate::specs::Reading::statement_of))]
-fn statement(alloc: Global, tokens: &[Token<'_>]) -> Result<Option<Statement>, LineFault>
+fn statement(alloc: Global, tokens: &[Token<'_>]) -> Read<Option<Statement>>
     requires few { length tokens.now ≤ 255 }
     ensures { Gives (λ s. s) result (statement_of (views tokens.now)) }
 {
     match tokens {
         [] => Ok(None),
         [Token::Word(name), rest @ ..] => {
-            let shape = shape_of(name).ok_or(Syntax)?;
-            let (shape, rest) = flagged(shape, rest).ok_or(Syntax)?;
+            let shape = shape_of(name).ok_or(SYNTAX)?;
+            let (shape, rest) = flagged(shape, rest).ok_or(SYNTAX)?;
             Ok(Some(shaped(alloc, shape, rest)?))
         }
-        _ => Err(Syntax),
+        _ => Err(SYNTAX),
     }
 }
 
@@ -144,7 +145,7 @@ fn label_front<'t, 'a>(
 }
 
 #[tactic(auto, unfolding(crate::specs::Reading::line_of))]
-fn line(alloc: Global, tokens: &[Token<'_>]) -> Result<Stmt, LineFault>
+fn line(alloc: Global, tokens: &[Token<'_>]) -> Read<Stmt>
     requires few { length tokens.now ≤ 255 }
     ensures { Gives (λ s. s) result (line_of (views tokens.now)) }
 {
@@ -174,21 +175,21 @@ fn is_text(text: &[u8]) -> bool
 ///
 /// The errors are `LineTooLong`, `NotAscii` and `Syntax`, the first of them that applies, and
 /// `OutOfMemory` for any text. Values out of range and names that nothing defines are found later.
-pub fn parse_line(alloc: Global, text: &[u8]) -> Result<Stmt, LineFault>
+pub fn parse_line(alloc: Global, text: &[u8]) -> Result<Stmt, Refused<LineFault>>
     // What is read is a line with this statement.
     ensures found { IfOk result (λ s. ReadsAs text.now s) }
     // Any other outcome is a fault of the text, the least one, or want of memory.
-    ensures fault { IfErr result (λ e. IsFault text.now e) }
+    ensures fault { IfErr result (ByFault (IsFault text.now)) }
     // A name that the line defines is no reference to a local label, and a label's digit is below 10.
     ensures defines { IfOk result (λ s. Defines s) }
     // The outcome rests on the text alone, unless memory ran out.
-    ensures reading { MatchResult result (λ s. reading text.now ≡ Ok s) (λ e. (e ≡ OutOfMemory) ⊎ (reading text.now ≡ Err e)) }
+    ensures reading { MatchResult result (λ s. reading text.now ≡ Ok s) (ByFault (λ e. reading text.now ≡ Err e)) }
 {
     if text.len() > 255 {
-        return Err(LineFault::LineTooLong);
+        return Err(Refused::By(LineFault::LineTooLong));
     }
     if !is_text(text) {
-        return Err(LineFault::NotAscii);
+        return Err(Refused::By(LineFault::NotAscii));
     }
     let tokens = tokens(alloc, text)?;
     line(alloc, &tokens)

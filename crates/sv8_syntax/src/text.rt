@@ -6,7 +6,7 @@ ghost use Rattle.sv8_syntax.specs.Outcome.{Gives};
 ghost use Rattle.sv8_syntax.specs.Escapes.{escape_of, resolved};
 ghost use Rattle.sv8_syntax.specs.Taking.{text_in};
 
-use crate::fault::LineFault::{self, Syntax};
+use crate::fault::{Read, SYNTAX};
 use crate::operand::Operand;
 use crate::value::Text;
 use std::alloc::Global;
@@ -28,14 +28,14 @@ fn escape(byte: u8) -> Option<u8>
 
 /// The bytes of a text, with what its escapes stand for.
 #[tactic(auto, unfolding(crate::specs::Escapes::resolved))]
-fn resolved(alloc: Global, text: &[u8]) -> Result<Vec<u8>, LineFault>
+fn resolved(alloc: Global, text: &[u8]) -> Read<Vec<u8>>
     ensures { Gives (λ v. v.items) result (resolved false text.now) }
 {
     let mut bytes = Vec::new(alloc);
     let mut escaped = false;
     for byte in text {
         if escaped {
-            bytes.push(escape(*byte).ok_or(Syntax)?)?;
+            bytes.push(escape(*byte).ok_or(SYNTAX)?)?;
             escaped = false;
             continue;
         }
@@ -45,12 +45,12 @@ fn resolved(alloc: Global, text: &[u8]) -> Result<Vec<u8>, LineFault>
         }
         bytes.push(*byte)?;
     }
-    if escaped { Err(Syntax) } else { Ok(bytes) }
+    if escaped { Err(SYNTAX) } else { Ok(bytes) }
 }
 
 /// The bytes of a text between quotes.
 #[tactic(auto, unfolding(crate::specs::Taking::text_in))]
-pub fn text_in(alloc: Global, operand: Operand<'_>) -> Result<Text, LineFault>
+pub fn text_in(alloc: Global, operand: Operand<'_>) -> Read<Text>
     ensures { Gives (λ t. t) result (text_in (operand_view operand.entry)) }
 {
     match operand {
@@ -58,6 +58,6 @@ pub fn text_in(alloc: Global, operand: Operand<'_>) -> Result<Text, LineFault>
             let bytes = resolved(alloc, q)?;
             Ok(Text::new(bytes))
         }
-        _ => Err(Syntax),
+        _ => Err(SYNTAX),
     }
 }

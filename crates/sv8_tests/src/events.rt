@@ -3,6 +3,7 @@
 use std::alloc::Global;
 use std::test::Fail;
 use sv8_bench::{Bench, BenchFault};
+use sv8_model::Refused;
 use sv8_shell::run;
 
 /// RAM of 1 MiB, as the program has.
@@ -73,7 +74,7 @@ fn inputs_of_any_length_in_a_line(rt: HostRuntime) -> Result<(), Fail> {
 }
 
 /// Fills a timeline: a poke of word 0 at each step from 0 on.
-fn fill(bench: &mut Whole) -> Result<(), BenchFault> {
+fn fill(bench: &mut Whole) -> Result<(), Refused<BenchFault>> {
     for step in 0..65_536 {
         bench.set_poke(step, 0, 0)?;
     }

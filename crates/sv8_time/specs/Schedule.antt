@@ -1,9 +1,9 @@
 -- The outside events of a machine, and what an edit makes of them.
-use Rattle.std.specs.Prelude.{◌≡◌, ◌⊎◌, ◌<◌, ◌≤◌, true, false, ℕ, ◌+◌, ◌*◌, ◌/◌, ◌^◌, Bool, not, nat_lt, nat_le, ◌==◌, ◌&&◌, ◌%◌, List, [], ◌∷◌, length, filter, flat_map, find, Option, Some, None, option_map, if◌then◌else◌}
+use Rattle.std.specs.Prelude.{◌≡◌, ◌<◌, ◌≤◌, true, false, ℕ, ◌+◌, ◌*◌, ◌/◌, ◌^◌, Bool, not, nat_lt, nat_le, ◌==◌, ◌&&◌, ◌%◌, List, [], ◌∷◌, length, filter, flat_map, find, Option, Some, None, option_map, if◌then◌else◌}
 use Rattle.std.specs.List.{list_any}
 pub use Rattle.sv8_model.specs.Levels.{is_level}
 use Rattle.sv8_time.specs.declared.fault.TimeFault.{TimeFault}
-use Rattle.sv8_time.specs.declared.fault.TimeFault.TheVariants.{OutOfMemory, StepTooLarge, BadAddress, BadLevel, NothingThere, TooManyEvents, InputTooLong}
+use Rattle.sv8_time.specs.declared.fault.TimeFault.TheVariants.{StepTooLarge, BadAddress, BadLevel, NothingThere, TooManyEvents, InputTooLong}
 use Rattle.sv8_time.specs.declared.requests.Request.{Request}
 use Rattle.sv8_time.specs.Order.{Each, Rising, placed, comes_before, is_at, cleared_at, of_major}
 
@@ -228,10 +228,6 @@ clear_request_fault step level s =
     if nat_lt 1000000 step then Some StepTooLarge
     else (if not (is_level level) then Some BadLevel
     else (if not (has_request step level s.requests) then Some NothingThere else None))
-
--- an edit is refused with its fault; want of memory may stand in place of one that is accepted
-abbrev pub IsRefused : Option TimeFault → TimeFault → Type 0
-IsRefused fault e = (fault ≡ Some e) ⊎ ((fault ≡ None) × (e ≡ OutOfMemory))
 
 -- the least step above one that passes, or none where there is no such step
 abbrev pub IsNext : (ℕ → Bool) → ℕ → Option ℕ → Type 0

@@ -1,13 +1,14 @@
 //! An edit of a timeline, as a value.
 
 ghost use Rattle.std.specs.Prelude.{◌≡◌, None, OnOk, OnErr, IfErr};
+ghost use Rattle.sv8_model.specs.Refused.{IsRefused};
 ghost use Rattle.sv8_time.specs.Edits.{timeline_fault, with_edit};
-ghost use Rattle.sv8_time.specs.Schedule.{IsRefused};
 
 use crate::fault::TimeFault;
 use crate::timeline::Timeline;
 use std::alloc::Global;
 use std::marker::Model;
+use sv8_model::Refused;
 
 /// The bytes that come in at a step, at least one.
 #[derive(Drop)]
@@ -75,7 +76,7 @@ impl Timeline {
     /// is at no multiple of 4; `BadLevel` of a level that is not 1 to 15; `NothingThere` where what is to be cleared does not
     /// stand; `TooManyEvents` where 65,536 events stand and this is another one; `InputTooLong` above 1,024 bytes; else
     /// `OutOfMemory`, which an edit that clears never gives. All events are then as they were.
-    pub fn edit(&mut self, alloc: Global, edit: &TimelineEdit<'_>) -> Result<(), TimeFault>
+    pub fn edit(&mut self, alloc: Global, edit: &TimelineEdit<'_>) -> Result<(), Refused<TimeFault>>
         ensures ok { OnOk result (timeline_fault edit.now self.old ≡ None) }
         ensures value { OnOk result (self.new ≡ with_edit edit.now self.old) }
         ensures err { IfErr result (IsRefused (timeline_fault edit.now self.old)) }
@@ -87,21 +88,23 @@ impl Timeline {
                 address,
                 value,
             } => self.set_poke(alloc, *step, *address, *value),
-            TimelineEdit::ClearPoke { step, address } => self.clear_poke(*step, *address),
+            TimelineEdit::ClearPoke { step, address } => Ok(self.clear_poke(*step, *address)?),
             TimelineEdit::SetPokeByte {
                 step,
                 address,
                 value,
             } => self.set_poke_byte(alloc, *step, *address, *value),
-            TimelineEdit::ClearPokeByte { step, address } => self.clear_poke_byte(*step, *address),
+            TimelineEdit::ClearPokeByte { step, address } => Ok(self.clear_poke_byte(
+                *step, *address,
+            )?),
             TimelineEdit::SetInput { step, bytes } => self.set_input(
                 alloc,
                 *step,
                 bytes.as_slice(),
             ),
-            TimelineEdit::ClearInput { step } => self.clear_input(*step),
+            TimelineEdit::ClearInput { step } => Ok(self.clear_input(*step)?),
             TimelineEdit::SetRequest { step, level } => self.set_request(alloc, *step, *level),
-            TimelineEdit::ClearRequest { step, level } => self.clear_request(*step, *level),
+            TimelineEdit::ClearRequest { step, level } => Ok(self.clear_request(*step, *level)?),
         }
     }
 }

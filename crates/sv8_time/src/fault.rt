@@ -1,19 +1,16 @@
 //! Why an edit of the timeline is refused.
 
 ghost use Rattle.std.specs.Prelude.{◌≡◌};
-ghost use Rattle.sv8_time.specs.declared.fault.TimeFault.TheVariants.{OutOfMemory};
+ghost use Rattle.sv8_model.specs.declared.refused.Refused.TheVariants.{By};
 
-use std::alloc::AllocError;
+use sv8_model::Refused;
 use thiserror::Error;
 
-/// Why an edit of the timeline is refused.
+/// Why an edit of the timeline is refused, however much memory there is.
 ///
-/// Where more than one holds, the answer is the first in the order of this list from `StepTooLarge` on.
-/// `OutOfMemory` comes only where none of the others holds, and only from an edit that sets something.
+/// Where more than one holds, the answer is the first in the order of this list.
 #[derive(Debug, Drop, Clone, Copy, PartialEq, Eq, Error)]
 pub enum TimeFault {
-    #[error("out of memory")]
-    OutOfMemory,
     /// A step above 1,000,000.
     #[error("step too large")]
     StepTooLarge,
@@ -34,10 +31,10 @@ pub enum TimeFault {
     InputTooLong,
 }
 
-impl From<AllocError> for TimeFault {
-    ghost from_gives = { λ _ e. e ≡ OutOfMemory };
+impl From<TimeFault> for Refused<TimeFault> {
+    ghost from_gives = { λ f e. e ≡ By f };
 
-    fn from(_e: AllocError) -> TimeFault {
-        TimeFault::OutOfMemory
+    fn from(fault: TimeFault) -> Refused<TimeFault> {
+        Refused::By(fault)
     }
 }

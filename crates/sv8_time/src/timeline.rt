@@ -1,7 +1,8 @@
 //! The timeline.
 
 ghost use Rattle.std.specs.Prelude.{◌≡◌, ℕ, ◌<◌, ◌≤◌, [], length, false, None, Some, OnOk, OnErr, IfOk, IfErr, IfSome, nat_le, slice_get};
-ghost use Rattle.sv8_time.specs.Schedule.{Schedule, with_poke, without_poke, with_poke_byte, without_poke_byte, with_input, without_input, with_request, without_request, set_poke_fault, clear_poke_fault, set_poke_byte_fault, clear_poke_byte_fault, set_input_fault, clear_input_fault, set_request_fault, clear_request_fault, pokes_of_step, bytes_of_step, requests_of_step, poke_after, request_after, bytes_below, input_bytes, has_poke, poked_at, has_word, has_input, has_request, event_count, request_before, input_before, IsRefused, IsNextPoke, IsNextRequest, IsRequestPlace, IsTimeline};
+ghost use Rattle.sv8_model.specs.Refused.{IsRefused};
+ghost use Rattle.sv8_time.specs.Schedule.{Schedule, with_poke, without_poke, with_poke_byte, without_poke_byte, with_input, without_input, with_request, without_request, set_poke_fault, clear_poke_fault, set_poke_byte_fault, clear_poke_byte_fault, set_input_fault, clear_input_fault, set_request_fault, clear_request_fault, pokes_of_step, bytes_of_step, requests_of_step, poke_after, request_after, bytes_below, input_bytes, has_poke, poked_at, has_word, has_input, has_request, event_count, request_before, input_before, IsNextPoke, IsNextRequest, IsRequestPlace, IsTimeline};
 ghost use Rattle.sv8_time.specs.Words.{bytes_of_words, word_before, IsWordIn};
 ghost use Rattle.sv8_time.specs.Order.{Each, Rising};
 
@@ -13,7 +14,7 @@ use crate::requests::{Request, Requests, next_request};
 use crate::words::WordPoke;
 use std::alloc::{AllocError, Global};
 use std::marker::Model;
-use sv8_model::Level;
+use sv8_model::{Level, Refused};
 
 /// The last step that may have events; steps are counted from 0.
 pub const LAST_STEP: u32 = 1_000_000;
@@ -157,7 +158,7 @@ impl Timeline {
         step: u32,
         address: u32,
         value: u32,
-    ) -> Result<(), TimeFault>
+    ) -> Result<(), Refused<TimeFault>>
         ensures ok { OnOk result (set_poke_fault step address self.old ≡ None) }
         ensures value { OnOk result (self.new ≡ with_poke step address value self.old) }
         ensures err { IfErr result (IsRefused (set_poke_fault step address self.old)) }
@@ -197,7 +198,7 @@ impl Timeline {
         step: u32,
         address: u32,
         value: u8,
-    ) -> Result<(), TimeFault>
+    ) -> Result<(), Refused<TimeFault>>
         ensures ok { OnOk result (set_poke_byte_fault step address self.old ≡ None) }
         ensures value { OnOk result (self.new ≡ with_poke_byte step address value self.old) }
         ensures err { IfErr result (IsRefused (set_poke_byte_fault step address self.old)) }
@@ -230,7 +231,12 @@ impl Timeline {
     /// Faults, the first that holds: `StepTooLarge`; `TooManyEvents`, only where nothing comes in yet;
     /// `InputTooLong`.
     #[tactic(auto, using(crate::proofs::SoundEvents::sound_covers, crate::proofs::SoundEvents::input_fits))]
-    pub fn set_input(&mut self, alloc: Global, step: u32, bytes: &[u8]) -> Result<(), TimeFault>
+    pub fn set_input(
+        &mut self,
+        alloc: Global,
+        step: u32,
+        bytes: &[u8],
+    ) -> Result<(), Refused<TimeFault>>
         requires { 0 < length bytes.now }
         ensures ok { OnOk result (set_input_fault step bytes.now self.old ≡ None) }
         ensures value { OnOk result (self.new ≡ with_input step bytes.now self.old) }
@@ -264,7 +270,12 @@ impl Timeline {
     /// Faults, the first that holds: `StepTooLarge`; `BadLevel`, where the level is not 1 to 15;
     /// `TooManyEvents`, only where this level is not requested yet.
     #[tactic(auto, using(crate::proofs::SoundEvents::sound_covers))]
-    pub fn set_request(&mut self, _alloc: Global, step: u32, level: u32) -> Result<(), TimeFault>
+    pub fn set_request(
+        &mut self,
+        _alloc: Global,
+        step: u32,
+        level: u32,
+    ) -> Result<(), Refused<TimeFault>>
         ensures ok { OnOk result (set_request_fault step level self.old ≡ None) }
         ensures value { OnOk result (self.new ≡ with_request step level self.old) }
         ensures err { IfErr result (IsRefused (set_request_fault step level self.old)) }

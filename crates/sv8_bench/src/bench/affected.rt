@@ -1,9 +1,9 @@
 //! What an edit affects of the recorded run, prepared and done.
 
 ghost use Rattle.std.specs.Prelude.{◌≡◌, ◌≤◌, None, Option, Some, IfErr, IfOk, OnOk};
+ghost use Rattle.sv8_model.specs.Refused.{IsRefused};
 ghost use Rattle.sv8_phys.specs.Memory.{ram_size};
 ghost use Rattle.sv8_time.specs.Edits.{timeline_fault};
-ghost use Rattle.sv8_time.specs.Schedule.{IsRefused};
 ghost use Rattle.sv8_edits.specs.Changes.{edit_change, input_change};
 ghost use Rattle.sv8_edits.specs.EditLaws.{HasBytes};
 ghost use Rattle.sv8_bench.specs.Edits.{change_of, AreOfMachine, Fits, IsReadyFor, IsCommitted};
@@ -13,6 +13,7 @@ use crate::bench::patches::{
     request_patches,
 };
 use std::alloc::{AllocError, Global};
+use sv8_model::Refused;
 use sv8_time::{InputBytes, TimeFault, Timeline, TimelineEdit};
 use sv8_trace::{Patch, Prepared, Trace};
 
@@ -46,7 +47,7 @@ pub(crate) fn affected_by<const NW: usize, const PAGES: usize>(
     alloc: Global,
     timeline: &Timeline,
     edit: &TimelineEdit<'_>,
-) -> Result<Affected, TimeFault>
+) -> Result<Affected, Refused<TimeFault>>
     requires limit { timeline.now.limit ≡ ram_size PAGES }
     requires few_pages { PAGES ≤ 65536 }
     ensures accepted { OnOk result (timeline_fault edit.now timeline.now ≡ None) }

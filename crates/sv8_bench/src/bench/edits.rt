@@ -6,7 +6,8 @@ ghost use Rattle.sv8_bench.specs.Edits.{IsTimelineEdit};
 
 use crate::bench::Bench;
 use crate::bench::affected::{affected_by, commit, prepare};
-use crate::fault::BenchFault;
+use crate::fault::{BenchFault, of_time};
+use sv8_model::Refused;
 use sv8_time::{InputBytes, TimelineEdit};
 
 impl<const NW: usize, const PAGES: usize, const K: u32> Bench<NW, PAGES, K> {
@@ -18,14 +19,20 @@ impl<const NW: usize, const PAGES: usize, const K: u32> Bench<NW, PAGES, K> {
     /// is at no multiple of 4; `BadLevel` of a level that is not 1 to 15; `NothingThere` where what is to be cleared does not
     /// stand; `TooManyEvents` where 65,536 events stand and this is another one (the poked bytes of a word at a step are one);
     /// `InputTooLong` above 1,024 bytes; else `OutOfMemory`. The workbench is then as it was.
-    pub fn edit(&mut self, edit: &TimelineEdit<'_>) -> Result<(), BenchFault>
+    pub fn edit(&mut self, edit: &TimelineEdit<'_>) -> Result<(), Refused<BenchFault>>
         ensures { IsTimelineEdit K edit.now self.old self.new result }
     {
         let _limit = self.timeline.limit();
         let _recorded = self.trace.recorded();
-        let affected = affected_by::<NW, PAGES>(self.alloc, &self.timeline, edit)?;
+        let affected = match affected_by::<NW, PAGES>(self.alloc, &self.timeline, edit) {
+            Ok(affected) => affected,
+            Err(refused) => return Err(of_time(refused)),
+        };
         let prepared = prepare(self.alloc, &self.trace, &affected)?;
-        self.timeline.edit(self.alloc, edit)?;
+        match self.timeline.edit(self.alloc, edit) {
+            Ok(()) => {}
+            Err(refused) => return Err(of_time(refused)),
+        }
         commit(&mut self.trace, prepared);
         Ok(())
     }
@@ -35,7 +42,12 @@ impl<const NW: usize, const PAGES: usize, const K: u32> Bench<NW, PAGES, K> {
     /// # Errors
     ///
     /// Those of `edit`.
-    pub fn set_poke(&mut self, step: u32, address: u32, value: u32) -> Result<(), BenchFault>
+    pub fn set_poke(
+        &mut self,
+        step: u32,
+        address: u32,
+        value: u32,
+    ) -> Result<(), Refused<BenchFault>>
         ensures { IsTimelineEdit K (SetPoke step address value) self.old self.new result }
     {
         self.edit(&TimelineEdit::SetPoke {
@@ -50,7 +62,7 @@ impl<const NW: usize, const PAGES: usize, const K: u32> Bench<NW, PAGES, K> {
     /// # Errors
     ///
     /// Those of `edit`.
-    pub fn clear_poke(&mut self, step: u32, address: u32) -> Result<(), BenchFault>
+    pub fn clear_poke(&mut self, step: u32, address: u32) -> Result<(), Refused<BenchFault>>
         ensures { IsTimelineEdit K (ClearPoke step address) self.old self.new result }
     {
         self.edit(&TimelineEdit::ClearPoke { step, address })
@@ -61,7 +73,12 @@ impl<const NW: usize, const PAGES: usize, const K: u32> Bench<NW, PAGES, K> {
     /// # Errors
     ///
     /// Those of `edit`.
-    pub fn set_poke_byte(&mut self, step: u32, address: u32, value: u8) -> Result<(), BenchFault>
+    pub fn set_poke_byte(
+        &mut self,
+        step: u32,
+        address: u32,
+        value: u8,
+    ) -> Result<(), Refused<BenchFault>>
         ensures { IsTimelineEdit K (SetPokeByte step address value) self.old self.new result }
     {
         self.edit(&TimelineEdit::SetPokeByte {
@@ -76,7 +93,7 @@ impl<const NW: usize, const PAGES: usize, const K: u32> Bench<NW, PAGES, K> {
     /// # Errors
     ///
     /// Those of `edit`.
-    pub fn clear_poke_byte(&mut self, step: u32, address: u32) -> Result<(), BenchFault>
+    pub fn clear_poke_byte(&mut self, step: u32, address: u32) -> Result<(), Refused<BenchFault>>
         ensures { IsTimelineEdit K (ClearPokeByte step address) self.old self.new result }
     {
         self.edit(&TimelineEdit::ClearPokeByte { step, address })
@@ -88,7 +105,7 @@ impl<const NW: usize, const PAGES: usize, const K: u32> Bench<NW, PAGES, K> {
     /// # Errors
     ///
     /// Those of `edit`.
-    pub fn set_input(&mut self, step: u32, bytes: &[u8]) -> Result<(), BenchFault>
+    pub fn set_input(&mut self, step: u32, bytes: &[u8]) -> Result<(), Refused<BenchFault>>
         requires { 0 < length bytes.now }
         ensures { IsTimelineEdit K (SetInput step bytes.now) self.old self.new result }
     {
@@ -101,7 +118,7 @@ impl<const NW: usize, const PAGES: usize, const K: u32> Bench<NW, PAGES, K> {
     /// # Errors
     ///
     /// Those of `edit`.
-    pub fn clear_input(&mut self, step: u32) -> Result<(), BenchFault>
+    pub fn clear_input(&mut self, step: u32) -> Result<(), Refused<BenchFault>>
         ensures { IsTimelineEdit K (ClearInput step) self.old self.new result }
     {
         self.edit(&TimelineEdit::ClearInput { step })
@@ -112,7 +129,7 @@ impl<const NW: usize, const PAGES: usize, const K: u32> Bench<NW, PAGES, K> {
     /// # Errors
     ///
     /// Those of `edit`.
-    pub fn set_request(&mut self, step: u32, level: u32) -> Result<(), BenchFault>
+    pub fn set_request(&mut self, step: u32, level: u32) -> Result<(), Refused<BenchFault>>
         ensures { IsTimelineEdit K (SetRequest step level) self.old self.new result }
     {
         self.edit(&TimelineEdit::SetRequest { step, level })
@@ -123,7 +140,7 @@ impl<const NW: usize, const PAGES: usize, const K: u32> Bench<NW, PAGES, K> {
     /// # Errors
     ///
     /// Those of `edit`.
-    pub fn clear_request(&mut self, step: u32, level: u32) -> Result<(), BenchFault>
+    pub fn clear_request(&mut self, step: u32, level: u32) -> Result<(), Refused<BenchFault>>
         ensures { IsTimelineEdit K (ClearRequest step level) self.old self.new result }
     {
         self.edit(&TimelineEdit::ClearRequest { step, level })

@@ -1,21 +1,23 @@
 //! Queries of the machine at a step.
 
 ghost use Rattle.std.specs.Prelude.{◌≡◌, ℕ, ◌+◌, ◌-◌, ◌*◌, ◌/◌, ◌<◌, ◌≤◌, [], ◌∷◌, length, max, true, None, Some, IfOk, IfErr, OnOk, OnErr, IfSome};
+ghost use Rattle.sv8_model.specs.Refused.{IsRefused};
 ghost use Rattle.sv8_time.specs.Schedule.{bytes_below};
 ghost use Rattle.sv8_phys.specs.Memory.{ram_size};
 ghost use Rattle.sv8_cpu.specs.State.{State};
 ghost use Rattle.sv8_cpu.specs.Recorded.{event_at, AreEvents};
 ghost use Rattle.sv8_trace.specs.Recorder.{steps_on, counted_by, RaisedUpTo};
 ghost use Rattle.sv8_trace.specs.Recording.{last_point, recorded};
-ghost use Rattle.sv8_bench.specs.Faults.{are_words, step_refusal, words_refusal, IsQueryFault};
+ghost use Rattle.sv8_bench.specs.Faults.{are_words, step_refusal, words_refusal};
 ghost use Rattle.sv8_bench.specs.Shown.{machine_state, shown_at, words_in, words_shown, output_shown};
 ghost use Rattle.sv8_bench.specs.Workbench.{IsAnswered, IsGivenUp, IsRecordOf};
 
 use crate::bench::Bench;
-use crate::fault::BenchFault;
+use crate::fault::{BAD_ADDRESS, BenchFault, STEP_TOO_LARGE};
 use crate::shown::Shown;
 use std::alloc::{AllocError, Global};
 use sv8_cpu::{Machine, Work};
+use sv8_model::Refused;
 use sv8_phys::NoTouches;
 use sv8_time::Timeline;
 use sv8_trace::Trace;
@@ -115,16 +117,16 @@ impl<const NW: usize, const PAGES: usize, const K: u32> Bench<NW, PAGES, K> {
     ///
     /// `StepTooLarge` for a step above 1,000,000, else `OutOfMemory`.
     #[tactic(auto, unfolding(crate::specs::Faults::step_refusal))]
-    pub fn machine(&mut self, step: u32) -> Result<Machine<NW, PAGES>, BenchFault>
+    pub fn machine(&mut self, step: u32) -> Result<Machine<NW, PAGES>, Refused<BenchFault>>
         ensures state { IfOk result (λ m. m ≡ machine_state self.old.kept step) }
         ensures within { OnOk result (step_refusal step ≡ None) }
         ensures answered { OnOk result (IsAnswered K step self.old self.new) }
-        ensures refused { IfErr result (IsQueryFault (step_refusal step)) }
+        ensures refused { IfErr result (IsRefused (step_refusal step)) }
         ensures untouched { IfSome (step_refusal step) (λ e. self.new ≡ self.old) }
         ensures given_up { OnErr result (IsGivenUp K step self.old self.new) }
     {
         if LAST_STEP < step {
-            return Err(BenchFault::StepTooLarge);
+            return Err(STEP_TOO_LARGE);
         }
         let machine = self.machine_at(step)?;
         Ok(machine)
@@ -136,16 +138,16 @@ impl<const NW: usize, const PAGES: usize, const K: u32> Bench<NW, PAGES, K> {
     ///
     /// `StepTooLarge` for a step above 1,000,000, else `OutOfMemory`.
     #[tactic(auto, unfolding(crate::specs::Faults::step_refusal))]
-    pub fn regs_at(&mut self, step: u32) -> Result<Shown, BenchFault>
+    pub fn regs_at(&mut self, step: u32) -> Result<Shown, Refused<BenchFault>>
         ensures shown { IfOk result (λ s. s ≡ shown_at self.old.kept step) }
         ensures within { OnOk result (step_refusal step ≡ None) }
         ensures answered { OnOk result (IsAnswered K step self.old self.new) }
-        ensures refused { IfErr result (IsQueryFault (step_refusal step)) }
+        ensures refused { IfErr result (IsRefused (step_refusal step)) }
         ensures untouched { IfSome (step_refusal step) (λ e. self.new ≡ self.old) }
         ensures given_up { OnErr result (IsGivenUp K step self.old self.new) }
     {
         if LAST_STEP < step {
-            return Err(BenchFault::StepTooLarge);
+            return Err(STEP_TOO_LARGE);
         }
         let machine = self.machine_at(step)?;
         Ok(Shown::of(&machine, step, &self.timeline))
@@ -158,21 +160,26 @@ impl<const NW: usize, const PAGES: usize, const K: u32> Bench<NW, PAGES, K> {
     /// `StepTooLarge` for a step above 1,000,000, `BadAddress` where the words, or with none the word at the address, are no words
     /// of RAM, else `OutOfMemory`.
     #[tactic(auto, unfolding(crate::specs::Faults::words_refusal))]
-    pub fn words_at(&mut self, step: u32, address: u32, count: u32) -> Result<Vec<u32>, BenchFault>
+    pub fn words_at(
+        &mut self,
+        step: u32,
+        address: u32,
+        count: u32,
+    ) -> Result<Vec<u32>, Refused<BenchFault>>
         ensures shown { IfOk result (λ v. v.items ≡ words_shown self.old.kept step address count) }
         ensures inside { IfOk result (λ v. address + 4 * length v.items ≤ 0x1_0000_0000) }
         ensures within { OnOk result (words_refusal step address count self.old.kept ≡ None) }
         ensures answered { OnOk result (IsAnswered K step self.old self.new) }
-        ensures refused { IfErr result (IsQueryFault (words_refusal step address count self.old.kept)) }
+        ensures refused { IfErr result (IsRefused (words_refusal step address count self.old.kept)) }
         ensures untouched { IfSome (words_refusal step address count self.old.kept) (λ e. self.new ≡ self.old) }
         ensures given_up { OnErr result (IsGivenUp K step self.old self.new) }
     {
         if LAST_STEP < step {
-            return Err(BenchFault::StepTooLarge);
+            return Err(STEP_TOO_LARGE);
         }
         let _source = &self.source;
         if !are_words(address, count, 4096 * PAGES as u64) {
-            return Err(BenchFault::BadAddress);
+            return Err(BAD_ADDRESS);
         }
         let machine = self.machine_at(step)?;
         let words = words_of(self.alloc, &machine, address, count)?;
@@ -185,20 +192,20 @@ impl<const NW: usize, const PAGES: usize, const K: u32> Bench<NW, PAGES, K> {
     ///
     /// Those of `words_at`.
     #[tactic(auto, unfolding(crate::specs::Faults::words_refusal))]
-    pub fn word_at(&mut self, step: u32, address: u32) -> Result<u32, BenchFault>
+    pub fn word_at(&mut self, step: u32, address: u32) -> Result<u32, Refused<BenchFault>>
         ensures shown { IfOk result (λ w. w ∷ [] ≡ words_shown self.old.kept step address 1) }
         ensures within { OnOk result (words_refusal step address 1 self.old.kept ≡ None) }
         ensures answered { OnOk result (IsAnswered K step self.old self.new) }
-        ensures refused { IfErr result (IsQueryFault (words_refusal step address 1 self.old.kept)) }
+        ensures refused { IfErr result (IsRefused (words_refusal step address 1 self.old.kept)) }
         ensures untouched { IfSome (words_refusal step address 1 self.old.kept) (λ e. self.new ≡ self.old) }
         ensures given_up { OnErr result (IsGivenUp K step self.old self.new) }
     {
         if LAST_STEP < step {
-            return Err(BenchFault::StepTooLarge);
+            return Err(STEP_TOO_LARGE);
         }
         let _source = &self.source;
         if !are_words(address, 1, 4096 * PAGES as u64) {
-            return Err(BenchFault::BadAddress);
+            return Err(BAD_ADDRESS);
         }
         let machine = self.machine_at(step)?;
         Ok(machine.word(address))
@@ -210,16 +217,16 @@ impl<const NW: usize, const PAGES: usize, const K: u32> Bench<NW, PAGES, K> {
     ///
     /// `StepTooLarge` for a step above 1,000,000, else `OutOfMemory`.
     #[tactic(auto, unfolding(crate::specs::Faults::step_refusal))]
-    pub fn output_at(&mut self, step: u32) -> Result<Vec<u8>, BenchFault>
+    pub fn output_at(&mut self, step: u32) -> Result<Vec<u8>, Refused<BenchFault>>
         ensures shown { IfOk result (λ v. v.items ≡ output_shown self.old.kept step) }
         ensures within { OnOk result (step_refusal step ≡ None) }
         ensures answered { OnOk result (IsAnswered K step self.old self.new) }
-        ensures refused { IfErr result (IsQueryFault (step_refusal step)) }
+        ensures refused { IfErr result (IsRefused (step_refusal step)) }
         ensures untouched { IfSome (step_refusal step) (λ e. self.new ≡ self.old) }
         ensures given_up { OnErr result (IsGivenUp K step self.old self.new) }
     {
         if LAST_STEP < step {
-            return Err(BenchFault::StepTooLarge);
+            return Err(STEP_TOO_LARGE);
         }
         let machine = self.machine_at(step)?;
         let bytes = machine.output(self.alloc)?;

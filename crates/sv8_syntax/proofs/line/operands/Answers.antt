@@ -1,5 +1,6 @@
 use Rattle.std.proofs.Common.{rules, arith, ◌≡◌, [], ◌∷◌, ap, ◌∙◌}
 use Rattle.std.proofs.lemmas.Result.{err_from_is_err_and}
+use Rattle.sv8_model.specs.declared.refused.Refused.TheVariants.{By}
 use Rattle.sv8_syntax.specs.declared.fault.LineFault.TheVariants.{Syntax}
 use Rattle.sv8_syntax.specs.Token.{views}
 use Rattle.sv8_syntax.specs.Operand.{operand_views}
@@ -14,7 +15,7 @@ returns-then-is_empty-clause-read c = read_none c.args.tokens.now c.new-out.resu
 pub returns-in_err-operand-clause-read : goal.returns-in_err-operand-clause-read
 returns-in_err-operand-clause-read c =
     let p = err_from_is_err_and c.from_residual.result c.from_residual.ensures.1 in
-    let is_syntax : c.in_err-operand.field-0.0 ≡ Syntax = search rules in
+    let is_syntax : c.in_err-operand.field-0.0 ≡ By Syntax = search rules in
     let cut : parts_behind c.loop-rest.rest ≡ views c.first_part.result.0.now ∷ parts_behind c.first_part.result.1 = ap parts_behind c.in-Some.is ∙ c.first_part.ensures.split in
     rw (p.1, p.2, is_syntax) (read_fault (operand_views c.loop-rest.out.items) _ _ _ _ cut (search rules) c.loop-rest.invariant.read)
 

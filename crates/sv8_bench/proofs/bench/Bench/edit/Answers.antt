@@ -36,8 +36,8 @@ edit g c =
     let k = g.row.K in
     let s = c.self.inside in
     let e = c.args.edit.now in
-    let is = c.in_ok-edit.ensures.value in
-    let told = c.in_ok-affected.ensures in
+    let is = c.in-Ok-edit.ensures.value in
+    let told = c.in-Ok.ensures in
     let change = edit_change g.row.NW g.row.PAGES e s.timeline in
     let few : recorded k s.trace ≤ 1000000 = omega (arith, c.recorded-recorded.ensures.bound, c.recorded-recorded.ensures.steps) in
     let runs = can g.row.NW g.row.PAGES k inv.4 s.source s.timeline s.trace s.work inv.8 inv.3 c.limit-limit.ensures.timeline inv.7 in
@@ -57,7 +57,7 @@ invariant_of-self-2 g c =
       inv.4,
       inv.5,
       inv.6,
-      ap (λ (t : Schedule). t.limit) c.in_ok-edit.ensures.value ∙ limit_stays c.args.edit.now c.self.inside.timeline ∙ inv.7,
+      ap (λ (t : Schedule). t.limit) c.in-Ok-edit.ensures.value ∙ limit_stays c.args.edit.now c.self.inside.timeline ∙ inv.7,
       (edit g (goal.at.invariant_of-self-2 g c).After-commit).run,
     )
 
@@ -65,7 +65,7 @@ pub returns : goal.returns
 returns g c =
     let d = (goal.at.returns g c).After-commit in
     record {
-      accepted = subst (λ (w : Workbench). timeline_fault c.args.edit.now w.kept.timeline ≡ None) c.self.view_is c.in_ok-affected.ensures.accepted;
+      accepted = subst (λ (w : Workbench). timeline_fault c.args.edit.now w.kept.timeline ≡ None) c.self.view_is c.in-Ok.ensures.accepted;
       edited = subst (λ (w : Workbench). IsDone g d w (after g d)) c.self.view_is (edit g d).done;
       refused = tt;
       unchanged = tt;

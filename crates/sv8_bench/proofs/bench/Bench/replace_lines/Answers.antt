@@ -30,8 +30,8 @@ pub image_patches-requires : goal.image_patches-requires
 image_patches-requires g c =
     let inv = c.self.invariant in
     let s = c.self.inside in
-    let e = c.changes.ensures ∙ c.in_ok-plan.ensures.changed in
-    (omega arith, (inv.1, (inv.3, subst (All (λ (w : Change). w.address + 4 ≤ ram_size g.row.PAGES)) (sym e) (changes_inside g.row.PAGES s.source c.in_ok-plan.plan.to inv.6))))
+    let e = c.changes.ensures ∙ c.in-Ok.ensures.changed in
+    (omega arith, (inv.1, (inv.3, subst (All (λ (w : Change). w.address + 4 ≤ ram_size g.row.PAGES)) (sym e) (changes_inside g.row.PAGES s.source c.in-Ok.plan.to inv.6))))
 
 -- the workbench before the edit, and after it
 abbrev before : (g : Over) → After-commit-2 g → Workbench
@@ -55,8 +55,8 @@ edit g c =
     let inv = c.self.invariant in
     let k = g.row.K in
     let s = c.self.inside in
-    let next = c.in_ok-plan.plan.to in
-    let to = c.in_ok-plan.ensures.to in
+    let next = c.in-Ok.plan.to in
+    let to = c.in-Ok.ensures.to in
     let lines = replaced c.args.first c.args.last (texts c.args.lines.now) s.source in
     let changes = image_changes g.row.NW g.row.PAGES s.source lines s.timeline in
     let few : recorded k s.trace ≤ 1000000 = omega (arith, c.recorded-recorded.ensures.bound, c.recorded-recorded.ensures.steps) in
@@ -64,7 +64,7 @@ edit g c =
     let contents : AreContents g.row.PAGES (reset_state g.row.NW g.row.PAGES next).memory = subst (λ (m : State). AreContents g.row.PAGES m.memory) reset c.ram_size-size.ensures.contents in
     let runs = can g.row.NW g.row.PAGES k inv.4 s.source s.timeline s.trace s.work inv.8 inv.3 c.limit-limit.ensures.timeline inv.7 in
     let law = image_edits g.row.NW g.row.PAGES s.source next s.timeline runs (bytes_below g.row.NW g.row.PAGES next contents) in
-    let words = c.changes.ensures ∙ c.in_ok-plan.ensures.changed in
+    let words = c.changes.ensures ∙ c.in-Ok.ensures.changed in
     let made = c.in_ok-patches.ensures.changes s.source next inv.6 words reset inv.8.sound ∙ ap (λ t. image_changes g.row.NW g.row.PAGES s.source t s.timeline) to in
     after_change g.row.NW g.row.PAGES k inv.4 s.source s.timeline s.trace s.work inv.8 inv.3 c.limit-limit.ensures.timeline inv.7 few (cells changes) c.commit.new.self s.timeline
     (subst (λ t. Edits g.row.NW g.row.PAGES (image_changes g.row.NW g.row.PAGES s.source t s.timeline) s.source s.timeline c.commit.new.self s.timeline runs) to
@@ -81,7 +81,7 @@ invariant_of-self g c =
       inv.3,
       inv.4,
       inv.5,
-      ap (λ (t : Text). t.limit) (c.commit.ensures ∙ c.in_ok-plan.ensures.to) ∙ inv.6,
+      ap (λ (t : Text). t.limit) (c.commit.ensures ∙ c.in-Ok.ensures.to) ∙ inv.6,
       inv.7,
       (edit g (goal.at.invariant_of-self g c).After-commit-2).run,
     )
