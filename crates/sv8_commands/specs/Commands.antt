@@ -1,73 +1,40 @@
--- The commands: each has its name, and how the words after it are read.
-use Rattle.std.specs.Prelude.{ℕ, List, [], ◌∷◌, Option, Some, None, if◌then◌else◌, codes, bytes_eq, option_and_then}
+-- The commands: each has its name, the form of its operands, and what is made of them.
+use Rattle.std.specs.Prelude.{ℕ, List, [], ◌∷◌, Option, None, if◌then◌else◌, codes, bytes_eq, option_map}
+use Rattle.std.specs.Option.{option_or}
 use Rattle.sv8_commands.specs.declared.command.Command.{Command}
 use Rattle.sv8_commands.specs.declared.command.Command.TheVariants.{Edit, Poke, ClearPoke, PokeByte, ClearPokeByte, Input, ClearInput, Request, ClearRequest, Listing, Regs, Mem, Out, Quit}
-use Rattle.sv8_commands.specs.Words.{first_number, first_hex, first_bytes}
+use Rattle.sv8_commands.specs.Operands.{alone, one_number, two_numbers, three_numbers, number_address, number_address_value, number_address_number, number_bytes}
 
--- this command, where no word is left
-unfoldable pub alone : Command → List (List ℕ) → Option Command
-alone command [] = Some command
-alone command (word ∷ words) = None
+-- the command of a name that pokes RAM, or clears what is poked; a value of a byte has at most two digits
+unfoldable pub poke_of : List ℕ → List (List ℕ) → Option Command
+poke_of name words =
+    if bytes_eq name (codes "poke") then option_map (λ x. Poke x.0 x.1 x.2) (number_address_value 8 words)
+    else (if bytes_eq name (codes "unpoke") then option_map (λ x. ClearPoke x.0 x.1) (number_address words)
+    else (if bytes_eq name (codes "pokeb") then option_map (λ x. PokeByte x.0 x.1 x.2) (number_address_value 2 words)
+    else (if bytes_eq name (codes "unpokeb") then option_map (λ x. ClearPokeByte x.0 x.1) (number_address words)
+    else None)))
 
-unfoldable pub edit_of : List (List ℕ) → Option Command
-edit_of words =
-    option_and_then (λ first. option_and_then (λ last. option_and_then (λ count. alone (Edit first.0 last.0 count.0) count.1) (first_number last.1)) (first_number first.1)) (first_number words)
+-- the edit of a name, of the source or of the timeline
+unfoldable pub edit_of : List ℕ → List (List ℕ) → Option Command
+edit_of name words =
+    if bytes_eq name (codes "edit") then option_map (λ x. Edit x.0 x.1 x.2) (three_numbers words)
+    else (if bytes_eq name (codes "input") then option_map (λ x. Input x.0 x.1) (number_bytes words)
+    else (if bytes_eq name (codes "uninput") then option_map ClearInput (one_number words)
+    else (if bytes_eq name (codes "irq") then option_map (λ x. Request x.0 x.1) (two_numbers words)
+    else (if bytes_eq name (codes "unirq") then option_map (λ x. ClearRequest x.0 x.1) (two_numbers words)
+    else poke_of name words))))
 
-unfoldable pub regs_of : List (List ℕ) → Option Command
-regs_of words = option_and_then (λ step. alone (Regs step.0) step.1) (first_number words)
-
--- a step, an address and a value
-unfoldable pub poke_of : List (List ℕ) → Option Command
-poke_of words =
-    option_and_then (λ step. option_and_then (λ address. option_and_then (λ value. alone (Poke step.0 address.0 value.0) value.1) (first_hex 8 address.1)) (first_hex 8 step.1)) (first_number words)
-
-unfoldable pub clear_poke_of : List (List ℕ) → Option Command
-clear_poke_of words = option_and_then (λ step. option_and_then (λ address. alone (ClearPoke step.0 address.0) address.1) (first_hex 8 step.1)) (first_number words)
-
--- a value of a byte has at most two digits
-unfoldable pub poke_byte_of : List (List ℕ) → Option Command
-poke_byte_of words =
-    option_and_then (λ step. option_and_then (λ address. option_and_then (λ value. alone (PokeByte step.0 address.0 value.0) value.1) (first_hex 2 address.1)) (first_hex 8 step.1)) (first_number words)
-
-unfoldable pub clear_poke_byte_of : List (List ℕ) → Option Command
-clear_poke_byte_of words = option_and_then (λ step. option_and_then (λ address. alone (ClearPokeByte step.0 address.0) address.1) (first_hex 8 step.1)) (first_number words)
-
-unfoldable pub input_of : List (List ℕ) → Option Command
-input_of words = option_and_then (λ step. option_and_then (λ bytes. alone (Input step.0 bytes.0) bytes.1) (first_bytes step.1)) (first_number words)
-
-unfoldable pub clear_input_of : List (List ℕ) → Option Command
-clear_input_of words = option_and_then (λ step. alone (ClearInput step.0) step.1) (first_number words)
-
-unfoldable pub request_of : List (List ℕ) → Option Command
-request_of words = option_and_then (λ step. option_and_then (λ level. alone (Request step.0 level.0) level.1) (first_number step.1)) (first_number words)
-
-unfoldable pub clear_request_of : List (List ℕ) → Option Command
-clear_request_of words = option_and_then (λ step. option_and_then (λ level. alone (ClearRequest step.0 level.0) level.1) (first_number step.1)) (first_number words)
-
--- a step, an address, and how many words
-unfoldable pub mem_of : List (List ℕ) → Option Command
-mem_of words =
-    option_and_then (λ step. option_and_then (λ address. option_and_then (λ count. alone (Mem step.0 address.0 count.0) count.1) (first_number address.1)) (first_hex 8 step.1)) (first_number words)
-
-unfoldable pub out_of : List (List ℕ) → Option Command
-out_of words = option_and_then (λ step. alone (Out step.0) step.1) (first_number words)
+-- the query of a name, or the end of the run
+unfoldable pub query_of : List ℕ → List (List ℕ) → Option Command
+query_of name words =
+    if bytes_eq name (codes "list") then alone Listing words
+    else (if bytes_eq name (codes "regs") then option_map Regs (one_number words)
+    else (if bytes_eq name (codes "mem") then option_map (λ x. Mem x.0 x.1 x.2) (number_address_number words)
+    else (if bytes_eq name (codes "out") then option_map Out (one_number words)
+    else (if bytes_eq name (codes "quit") then alone Quit words
+    else None))))
 
 -- the command that words are
 unfoldable pub command_of : List (List ℕ) → Option Command
 command_of [] = None
-command_of (name ∷ words) =
-    if bytes_eq name (codes "edit") then edit_of words
-    else (if bytes_eq name (codes "poke") then poke_of words
-    else (if bytes_eq name (codes "unpoke") then clear_poke_of words
-    else (if bytes_eq name (codes "pokeb") then poke_byte_of words
-    else (if bytes_eq name (codes "unpokeb") then clear_poke_byte_of words
-    else (if bytes_eq name (codes "input") then input_of words
-    else (if bytes_eq name (codes "uninput") then clear_input_of words
-    else (if bytes_eq name (codes "irq") then request_of words
-    else (if bytes_eq name (codes "unirq") then clear_request_of words
-    else (if bytes_eq name (codes "list") then alone Listing words
-    else (if bytes_eq name (codes "regs") then regs_of words
-    else (if bytes_eq name (codes "mem") then mem_of words
-    else (if bytes_eq name (codes "out") then out_of words
-    else (if bytes_eq name (codes "quit") then alone Quit words
-    else None)))))))))))))
+command_of (name ∷ words) = option_or (edit_of name words) (query_of name words)

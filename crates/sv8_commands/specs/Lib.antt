@@ -2,6 +2,7 @@
 pub mod Commands
 pub mod Order
 pub mod Words
+pub mod Operands
 pub mod Text
 pub mod Refusal
 -- What the contracts of its parts say besides

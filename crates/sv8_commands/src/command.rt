@@ -1,11 +1,15 @@
 //! Commands, and how a line reads as one.
-ghost use Rattle.std.specs.Prelude.{true, ◌≡◌, ℕ, ◌+◌, ◌-◌, ◌*◌, ◌<◌, ◌≤◌, ◌++◌, ◌∷◌, [], List, length, drop, Some, None, IsTrue, MatchOption, MatchResult};
-ghost use Rattle.sv8_commands.specs.Words.{words_of, first_number, first_hex, first_bytes};
-ghost use Rattle.sv8_commands.specs.Commands.{command_of, edit_of, poke_of, clear_poke_of, poke_byte_of, clear_poke_byte_of, input_of, clear_input_of, request_of, clear_request_of, regs_of, mem_of, out_of, alone};
+ghost use Rattle.std.specs.Prelude.{◌≡◌, Some, None, MatchResult};
+ghost use Rattle.sv8_commands.specs.Words.{words_of};
+ghost use Rattle.sv8_commands.specs.Commands.{command_of, edit_of, poke_of, query_of};
 
 use crate::hex_bytes::HexBytes;
-use crate::words::{hex, next_word, number};
-use thiserror::Error;
+use crate::operands::{
+    BadCommand, read_alone, read_number_address, read_number_address_byte,
+    read_number_address_number, read_number_address_word, read_number_bytes, read_one_number,
+    read_three_numbers, read_two_numbers,
+};
+use crate::words::next_word;
 
 /// A command, as one line gives it.
 #[derive(Drop)]
@@ -40,11 +44,6 @@ pub enum Command<'a> {
     Quit,
 }
 
-/// A line that is no command.
-#[derive(Debug, Drop, Clone, Copy, PartialEq, Eq, Error)]
-#[error("not a command")]
-pub struct BadCommand;
-
 /// Reads a line, without its end, as a command: words between spaces and tabs, steps, levels and numbers of lines of 1 to 10
 /// decimal digits below 2^32, addresses and values of 1 to 8 hexadecimal digits of either case, and the value of a byte of 1 or 2,
 /// the bytes of an input of two each.
@@ -52,279 +51,100 @@ pub struct BadCommand;
 /// # Errors
 ///
 /// `BadCommand` where the line is no command; a blank one is none.
+#[tactic(auto, unfolding(crate::specs::Commands::command_of))]
 pub fn parse_command(text: &[u8]) -> Result<Command<'_>, BadCommand>
     ensures { MatchResult result (λ c. command_of (words_of text.now) ≡ Some c)
         (λ _. command_of (words_of text.now) ≡ None) }
 {
     match next_word(text) {
         None => Err(BadCommand),
-        Some((name, rest)) => named(name, rest),
+        Some((name, rest)) => match read_edit(name, rest) {
+            Ok(edit) => Ok(edit),
+            Err(_) => read_query(name, rest),
+        },
     }
 }
 
-#[tactic(auto, unfolding(crate::specs::Commands::command_of))]
-fn named<'a>(name: &[u8], rest: &'a [u8]) -> Result<Command<'a>, BadCommand>
-    ensures { MatchResult result (λ c. command_of (name.now ∷ words_of rest.now) ≡ Some c)
-        (λ _. command_of (name.now ∷ words_of rest.now) ≡ None) }
+/// A poke of RAM, or what clears it.
+#[tactic(auto, unfolding(crate::specs::Commands::poke_of))]
+fn read_poke<'a>(name: &[u8], rest: &'a [u8]) -> Result<Command<'a>, BadCommand>
+    ensures { MatchResult result (λ c. poke_of name.now (words_of rest.now) ≡ Some c)
+        (λ _. poke_of name.now (words_of rest.now) ≡ None) }
 {
-    if name == b"edit".as_slice() {
-        read_edit(rest)
-    } else if name == b"poke".as_slice() {
-        read_poke(rest)
+    if name == b"poke".as_slice() {
+        let (step, address, value) = read_number_address_word(rest)?;
+        Ok(Command::Poke {
+            step,
+            address,
+            value,
+        })
     } else if name == b"unpoke".as_slice() {
-        read_clear_poke(rest)
+        let (step, address) = read_number_address(rest)?;
+        Ok(Command::ClearPoke { step, address })
     } else if name == b"pokeb".as_slice() {
-        read_poke_byte(rest)
+        let (step, address, value) = read_number_address_byte(rest)?;
+        Ok(Command::PokeByte {
+            step,
+            address,
+            value,
+        })
     } else if name == b"unpokeb".as_slice() {
-        read_clear_poke_byte(rest)
-    } else if name == b"input".as_slice() {
-        read_input(rest)
-    } else if name == b"uninput".as_slice() {
-        read_clear_input(rest)
-    } else if name == b"irq".as_slice() {
-        read_request(rest)
-    } else if name == b"unirq".as_slice() {
-        read_clear_request(rest)
-    } else if name == b"list".as_slice() {
-        read_alone(Command::Listing, rest)
-    } else if name == b"regs".as_slice() {
-        read_regs(rest)
-    } else if name == b"mem".as_slice() {
-        read_mem(rest)
-    } else if name == b"out".as_slice() {
-        read_out(rest)
-    } else if name == b"quit".as_slice() {
-        read_alone(Command::Quit, rest)
+        let (step, address) = read_number_address(rest)?;
+        Ok(Command::ClearPokeByte { step, address })
     } else {
         Err(BadCommand)
     }
 }
 
-#[tactic(auto, unfolding(crate::specs::Commands::alone))]
-fn read_alone<'a>(command: Command<'a>, rest: &'a [u8]) -> Result<Command<'a>, BadCommand>
-    ensures { MatchResult result (λ c. alone command.entry (words_of rest.now) ≡ Some c)
-        (λ _. alone command.entry (words_of rest.now) ≡ None) }
+#[tactic(auto, unfolding(crate::specs::Commands::edit_of))]
+fn read_edit<'a>(name: &[u8], rest: &'a [u8]) -> Result<Command<'a>, BadCommand>
+    ensures { MatchResult result (λ c. edit_of name.now (words_of rest.now) ≡ Some c)
+        (λ _. edit_of name.now (words_of rest.now) ≡ None) }
 {
-    match next_word(rest) {
-        None => Ok(command),
-        Some(_) => Err(BadCommand),
+    if name == b"edit".as_slice() {
+        let (first, last, count) = read_three_numbers(rest)?;
+        Ok(Command::Edit { first, last, count })
+    } else if name == b"input".as_slice() {
+        let (step, bytes) = read_number_bytes(rest)?;
+        Ok(Command::Input { step, bytes })
+    } else if name == b"uninput".as_slice() {
+        let step = read_one_number(rest)?;
+        Ok(Command::ClearInput { step })
+    } else if name == b"irq".as_slice() {
+        let (step, level) = read_two_numbers(rest)?;
+        Ok(Command::Request { step, level })
+    } else if name == b"unirq".as_slice() {
+        let (step, level) = read_two_numbers(rest)?;
+        Ok(Command::ClearRequest { step, level })
+    } else {
+        read_poke(name, rest)
     }
 }
 
-#[tactic(auto, unfolding(crate::specs::Commands::edit_of))]
-fn read_edit(rest: &[u8]) -> Result<Command<'_>, BadCommand>
-    ensures { MatchResult result (λ c. edit_of (words_of rest.now) ≡ Some c)
-        (λ _. edit_of (words_of rest.now) ≡ None) }
+/// A query, or `quit`.
+#[tactic(auto, unfolding(crate::specs::Commands::query_of))]
+fn read_query<'a>(name: &[u8], rest: &'a [u8]) -> Result<Command<'a>, BadCommand>
+    ensures { MatchResult result (λ c. query_of name.now (words_of rest.now) ≡ Some c)
+        (λ _. query_of name.now (words_of rest.now) ≡ None) }
 {
-    let (first, rest) = read_number(rest)?;
-    let (last, rest) = read_number(rest)?;
-    let (count, rest) = read_number(rest)?;
-    read_alone(Command::Edit { first, last, count }, rest)
-}
-
-#[tactic(auto, unfolding(crate::specs::Commands::poke_of))]
-fn read_poke(rest: &[u8]) -> Result<Command<'_>, BadCommand>
-    ensures { MatchResult result (λ c. poke_of (words_of rest.now) ≡ Some c)
-        (λ _. poke_of (words_of rest.now) ≡ None) }
-{
-    let (step, rest) = read_number(rest)?;
-    let (address, rest) = read_hex(rest)?;
-    let (value, rest) = read_hex(rest)?;
-    read_alone(
-        Command::Poke {
-            step,
-            address,
-            value,
-        },
-        rest,
-    )
-}
-
-#[tactic(auto, unfolding(crate::specs::Commands::clear_poke_of))]
-fn read_clear_poke(rest: &[u8]) -> Result<Command<'_>, BadCommand>
-    ensures { MatchResult result (λ c. clear_poke_of (words_of rest.now) ≡ Some c)
-        (λ _. clear_poke_of (words_of rest.now) ≡ None) }
-{
-    let (step, rest) = read_number(rest)?;
-    let (address, rest) = read_hex(rest)?;
-    read_alone(Command::ClearPoke { step, address }, rest)
-}
-
-#[tactic(auto, unfolding(crate::specs::Commands::poke_byte_of))]
-fn read_poke_byte(rest: &[u8]) -> Result<Command<'_>, BadCommand>
-    ensures { MatchResult result (λ c. poke_byte_of (words_of rest.now) ≡ Some c)
-        (λ _. poke_byte_of (words_of rest.now) ≡ None) }
-{
-    let (step, rest) = read_number(rest)?;
-    let (address, rest) = read_hex(rest)?;
-    let (value, rest) = read_hex_byte(rest)?;
-    read_alone(
-        Command::PokeByte {
-            step,
-            address,
-            value,
-        },
-        rest,
-    )
-}
-
-#[tactic(auto, unfolding(crate::specs::Commands::clear_poke_byte_of))]
-fn read_clear_poke_byte(rest: &[u8]) -> Result<Command<'_>, BadCommand>
-    ensures { MatchResult result (λ c. clear_poke_byte_of (words_of rest.now) ≡ Some c)
-        (λ _. clear_poke_byte_of (words_of rest.now) ≡ None) }
-{
-    let (step, rest) = read_number(rest)?;
-    let (address, rest) = read_hex(rest)?;
-    read_alone(Command::ClearPokeByte { step, address }, rest)
-}
-
-#[tactic(auto, unfolding(crate::specs::Commands::input_of))]
-fn read_input(rest: &[u8]) -> Result<Command<'_>, BadCommand>
-    ensures { MatchResult result (λ c. input_of (words_of rest.now) ≡ Some c)
-        (λ _. input_of (words_of rest.now) ≡ None) }
-{
-    let (step, rest) = read_number(rest)?;
-    let (bytes, rest) = read_bytes(rest)?;
-    read_alone(Command::Input { step, bytes }, rest)
-}
-
-#[tactic(auto, unfolding(crate::specs::Commands::clear_input_of))]
-fn read_clear_input(rest: &[u8]) -> Result<Command<'_>, BadCommand>
-    ensures { MatchResult result (λ c. clear_input_of (words_of rest.now) ≡ Some c)
-        (λ _. clear_input_of (words_of rest.now) ≡ None) }
-{
-    let (step, rest) = read_number(rest)?;
-    read_alone(Command::ClearInput { step }, rest)
-}
-
-#[tactic(auto, unfolding(crate::specs::Commands::request_of))]
-fn read_request(rest: &[u8]) -> Result<Command<'_>, BadCommand>
-    ensures { MatchResult result (λ c. request_of (words_of rest.now) ≡ Some c)
-        (λ _. request_of (words_of rest.now) ≡ None) }
-{
-    let (step, rest) = read_number(rest)?;
-    let (level, rest) = read_number(rest)?;
-    read_alone(Command::Request { step, level }, rest)
-}
-
-#[tactic(auto, unfolding(crate::specs::Commands::clear_request_of))]
-fn read_clear_request(rest: &[u8]) -> Result<Command<'_>, BadCommand>
-    ensures { MatchResult result (λ c. clear_request_of (words_of rest.now) ≡ Some c)
-        (λ _. clear_request_of (words_of rest.now) ≡ None) }
-{
-    let (step, rest) = read_number(rest)?;
-    let (level, rest) = read_number(rest)?;
-    read_alone(Command::ClearRequest { step, level }, rest)
-}
-
-#[tactic(auto, unfolding(crate::specs::Commands::regs_of))]
-fn read_regs(rest: &[u8]) -> Result<Command<'_>, BadCommand>
-    ensures { MatchResult result (λ c. regs_of (words_of rest.now) ≡ Some c)
-        (λ _. regs_of (words_of rest.now) ≡ None) }
-{
-    let (step, rest) = read_number(rest)?;
-    read_alone(Command::Regs { step }, rest)
-}
-
-#[tactic(auto, unfolding(crate::specs::Commands::mem_of))]
-fn read_mem(rest: &[u8]) -> Result<Command<'_>, BadCommand>
-    ensures { MatchResult result (λ c. mem_of (words_of rest.now) ≡ Some c)
-        (λ _. mem_of (words_of rest.now) ≡ None) }
-{
-    let (step, rest) = read_number(rest)?;
-    let (address, rest) = read_hex(rest)?;
-    let (count, rest) = read_number(rest)?;
-    read_alone(
-        Command::Mem {
+    if name == b"list".as_slice() {
+        read_alone(Command::Listing, rest)
+    } else if name == b"regs".as_slice() {
+        let step = read_one_number(rest)?;
+        Ok(Command::Regs { step })
+    } else if name == b"mem".as_slice() {
+        let (step, address, count) = read_number_address_number(rest)?;
+        Ok(Command::Mem {
             step,
             address,
             count,
-        },
-        rest,
-    )
-}
-
-#[tactic(auto, unfolding(crate::specs::Commands::out_of))]
-fn read_out(rest: &[u8]) -> Result<Command<'_>, BadCommand>
-    ensures { MatchResult result (λ c. out_of (words_of rest.now) ≡ Some c)
-        (λ _. out_of (words_of rest.now) ≡ None) }
-{
-    let (step, rest) = read_number(rest)?;
-    read_alone(Command::Out { step }, rest)
-}
-
-/// Reads a number, and answers the words behind it.
-///
-/// # Errors
-///
-/// `BadCommand` where the first word is not 1 to 10 decimal digits below 2^32, or there is none.
-#[tactic(auto, unfolding(crate::specs::Words::first_number))]
-pub fn read_number(text: &[u8]) -> Result<(u32, &[u8]), BadCommand>
-    ensures { MatchResult result
-        (λ r. first_number (words_of text.now) ≡ Some (r.0, words_of r.1.now))
-        (λ _. first_number (words_of text.now) ≡ None) }
-{
-    match next_word(text) {
-        None => Err(BadCommand),
-        Some((word, rest)) => match number(word) {
-            None => Err(BadCommand),
-            Some(n) => Ok((n, rest)),
-        },
-    }
-}
-
-/// Reads an address or a value of a word, and answers the words behind it.
-///
-/// # Errors
-///
-/// `BadCommand` where the first word is not 1 to 8 hexadecimal digits, or there is none.
-#[tactic(auto, unfolding(crate::specs::Words::first_hex))]
-pub fn read_hex(text: &[u8]) -> Result<(u32, &[u8]), BadCommand>
-    ensures { MatchResult result
-        (λ r. first_hex 8 (words_of text.now) ≡ Some (r.0, words_of r.1.now))
-        (λ _. first_hex 8 (words_of text.now) ≡ None) }
-{
-    match next_word(text) {
-        None => Err(BadCommand),
-        Some((word, rest)) => match hex(word, 8) {
-            None => Err(BadCommand),
-            Some(n) => Ok((n, rest)),
-        },
-    }
-}
-
-/// Reads a value of a byte, and answers the words behind it.
-///
-/// # Errors
-///
-/// `BadCommand` where the first word is not 1 or 2 hexadecimal digits, or there is none.
-#[tactic(auto, unfolding(crate::specs::Words::first_hex))]
-pub fn read_hex_byte(text: &[u8]) -> Result<(u8, &[u8]), BadCommand>
-    ensures { MatchResult result
-        (λ r. first_hex 2 (words_of text.now) ≡ Some (r.0, words_of r.1.now))
-        (λ _. first_hex 2 (words_of text.now) ≡ None) }
-{
-    match next_word(text) {
-        None => Err(BadCommand),
-        Some((word, rest)) => match hex(word, 2) {
-            None => Err(BadCommand),
-            Some(n) => Ok((n as u8, rest)),
-        },
-    }
-}
-
-/// The bytes of an input.
-#[tactic(auto, unfolding(crate::specs::Words::first_bytes))]
-fn read_bytes(text: &[u8]) -> Result<(HexBytes<'_>, &[u8]), BadCommand>
-    ensures { MatchResult result
-        (λ r. first_bytes (words_of text.now) ≡ Some (r.0, words_of r.1.now))
-        (λ _. first_bytes (words_of text.now) ≡ None) }
-{
-    match next_word(text) {
-        None => Err(BadCommand),
-        Some((word, rest)) => match HexBytes::read(word) {
-            None => Err(BadCommand),
-            Some(bytes) => Ok((bytes, rest)),
-        },
+        })
+    } else if name == b"out".as_slice() {
+        let step = read_one_number(rest)?;
+        Ok(Command::Out { step })
+    } else if name == b"quit".as_slice() {
+        read_alone(Command::Quit, rest)
+    } else {
+        Err(BadCommand)
     }
 }

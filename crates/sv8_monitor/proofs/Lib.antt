@@ -1,6 +1,5 @@
 pub mod QueryLemmas
 pub mod MonitorLemmas
-pub mod QuestionLemmas
 pub mod KeepLemmas
 pub mod WorkbenchLemmas
 pub mod ConditionLemmas

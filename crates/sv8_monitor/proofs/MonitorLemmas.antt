@@ -2,14 +2,10 @@
 use Rattle.std.proofs.Common.{◌≡◌, ℕ, true, List, Option, Some, None, Result, refl}
 use Rattle.std.proofs.lemmas.Bool.{false≢true}
 use Rattle.sv8_session.specs.Language.{takes_lines}
-use Rattle.sv8_session.specs.Put.{Puts, Replies}
+use Rattle.sv8_session.specs.Put.{Replies}
 use Rattle.sv8_commands.specs.Order as workbench_order
-use Rattle.sv8_commands.specs.Refusal.{bad_command}
-use Rattle.sv8_commands.specs.Text.{refusal_line}
 use Rattle.sv8_shell.specs.Put as outcomes
 use Rattle.sv8_shell.specs.Session as workbench
-use Rattle.sv8_shell.proofs.AnswerLemmas.{reply-bad}
-use Rattle.sv8_shell.proofs.OrderLemmas.{reply-order}
 use Rattle.sv8_monitor.specs.declared.question.Question.{Question}
 use Rattle.sv8_monitor.specs.declared.question.Question.TheVariants.{Differ}
 use Rattle.sv8_monitor.specs.Answers.{differ_outcome}
@@ -20,18 +16,12 @@ pub reply-on-now : {A E : Type 0} (r : Result A E) (a b : Option (List ℕ)) (ol
     → Replies language r a b old (shell o) next
 reply-on-now r a b old next o h same = record { text = h.text; answers = record { answers = h.answers; before = same }; put = h.put }
 
--- a line that is no command, of the monitor's or of the workbench's
-pub reply-no-command : {A E : Type 0} (r : Result A E) (a b : Option (List ℕ)) (kept : Both) → Puts r a b (refusal_line bad_command) → Replies language r a b kept (shell workbench_order.bad) kept
-reply-no-command r a b kept put =
-    reply-on-now r a b kept kept workbench_order.bad (reply-order r a b kept.now kept.now workbench_order.bad (reply-bad r a b kept.now put)) refl
-
 -- only a command of the workbench's takes lines
-pub reply-lost-lines : {A E : Type 0} (r : Result A E) (a b : Option (List ℕ)) (kept : Both) (q : Option (Option Question)) (text : List ℕ) (lines : List (List ℕ)) → takes_lines (begins q text) ≡ true
+pub reply-lost-lines : {A E : Type 0} (r : Result A E) (a b : Option (List ℕ)) (kept : Both) (q : Option Question) (text : List ℕ) (lines : List (List ℕ)) → takes_lines (begins q text) ≡ true
     → (takes_lines (workbench.language.begins text) ≡ true → Replies workbench.language r a b kept.now (workbench.language.order text lines) kept.now)
     → Replies language r a b kept (order q text lines) kept
 reply-lost-lines r a b kept None text lines takes h = reply-on-now r a b kept kept (workbench.language.order text lines) (h takes) refl
-reply-lost-lines r a b kept (Some None) text lines takes h = absurd (false≢true takes)
-reply-lost-lines r a b kept (Some (Some question)) text lines takes h = absurd (false≢true takes)
+reply-lost-lines r a b kept (Some question) text lines takes h = absurd (false≢true takes)
 
 -- what the one that is edited answers to a question about both
 pub reply-differ : {A E : Type 0} (r : Result A E) (a b : Option (List ℕ)) (old next : Both) (at_now at_before count : ℕ) → next.before ≡ old.before

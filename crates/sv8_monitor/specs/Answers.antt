@@ -3,8 +3,9 @@ use Rattle.std.specs.Prelude.{ℕ, ◌+◌, ◌-◌, ◌*◌, Bool, true, false,
 use Rattle.sv8_mmu.specs.Place.{place_of}
 use Rattle.sv8_source.specs.Listing.{listing}
 use Rattle.sv8_source.specs.Names.{names}
+use Rattle.sv8_source.specs.declared.fault.SourceFault.TheVariants.{NoSuchLine}
 use Rattle.sv8_bench.specs.declared.fault.BenchFault.{BenchFault}
-use Rattle.sv8_bench.specs.declared.fault.BenchFault.TheVariants.{NoSuchLine}
+use Rattle.sv8_bench.specs.declared.fault.BenchFault.TheVariants.{Source}
 use Rattle.sv8_bench.specs.Faults.{step_refusal}
 use Rattle.sv8_bench.specs.Kept.{Kept}
 use Rattle.sv8_bench.specs.Shown.{machine_state}
@@ -25,7 +26,7 @@ abbrev pub are_lines : ℕ → ℕ → Kept → Bool
 are_lines first last k = nat_le 1 first && nat_le first (length k.source.lines + 1) && nat_le first (last + 1) && nat_le last (length k.source.lines)
 
 abbrev pub lines_refusal : ℕ → ℕ → Kept → Option BenchFault
-lines_refusal first last k = if are_lines first last k then None else Some NoSuchLine
+lines_refusal first last k = if are_lines first last k then None else Some (Source NoSuchLine)
 
 -- ---- outcomes
 

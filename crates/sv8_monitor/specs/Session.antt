@@ -1,13 +1,14 @@
 -- The language of the monitor: all commands of the workbench, and its own questions. Answers to its orders, from what is kept alone.
-use Rattle.std.specs.Prelude.{◌≡◌, ◌⊎◌, ℕ, List, ◌++◌, Option, Some, None, Result, Ok, Err}
+use Rattle.std.specs.Prelude.{◌≡◌, ◌⊎◌, ℕ, List, ◌++◌, Option, Some, None}
+use Rattle.sv8_model.specs.declared.refused.Refused.{Refused}
+use Rattle.sv8_model.specs.declared.refused.Refused.TheVariants.{OutOfMemory}
+use Rattle.sv8_model.specs.Refused.{IsRefused}
 use Rattle.sv8_bench.specs.declared.fault.BenchFault.{BenchFault}
-use Rattle.sv8_bench.specs.declared.fault.BenchFault.TheVariants.{OutOfMemory}
-use Rattle.sv8_bench.specs.Faults.{IsQueryFault}
 use Rattle.sv8_shell.specs.Refusal.{refusal_of}
 use Rattle.sv8_commands.specs.Text.{ok_line, refusal_line}
 use Rattle.sv8_bench.specs.Kept.{Kept, empty}
 use Rattle.sv8_session.specs.declared.begun.Begun.{Begun}
-use Rattle.sv8_session.specs.declared.begun.Begun.TheVariants.{Bad, Takes}
+use Rattle.sv8_session.specs.declared.begun.Begun.TheVariants.{Takes}
 use Rattle.sv8_session.specs.Language.{Language}
 use Rattle.sv8_session.specs.Session as session
 use Rattle.sv8_session.specs.Run as session_run
@@ -43,26 +44,14 @@ pub data Order : Type 0 where
   shell : shell_order.Order → Order
   ask : Question → Order
 
-abbrev pub begins_own : Option Question → Begun
-begins_own None = Bad
-begins_own (Some question) = Takes 0
-
--- what was read of it
-abbrev pub begins_read : {E : Type 0} → Result Question E → Begun
-begins_read (Ok question) = Takes 0
-begins_read (Err _) = Bad
-
-abbrev pub begins : Option (Option Question) → List ℕ → Begun
+-- a question takes no lines; every other line is the workbench's
+abbrev pub begins : Option Question → List ℕ → Begun
 begins None text = shell_session.language.begins text
-begins (Some question) text = begins_own question
+begins (Some question) text = Takes 0
 
-abbrev pub order_own : Option Question → Order
-order_own None = shell shell_order.bad
-order_own (Some question) = ask question
-
-abbrev pub order : Option (Option Question) → List ℕ → List (List ℕ) → Order
+abbrev pub order : Option Question → List ℕ → List (List ℕ) → Order
 order None text lines = shell (shell_session.language.order text lines)
-order (Some question) text lines = order_own question
+order (Some question) text lines = ask question
 
 -- an outcome of the one that is edited leaves before as it is
 pub record OnNow (kept : Both) (outcome : Outcome) (text : List ℕ) (next : Both) : Type 0 where
@@ -89,8 +78,8 @@ pub record TellsParting (kept : Both) (from to : ℕ) (text : List ℕ) : Type 0
 
 -- a refusal, or want of memory where there is none
 pub record TellsFault (refusal : Option BenchFault) (text : List ℕ) : Type 0 where
-  pub fault : BenchFault
-  pub due : IsQueryFault refusal fault
+  pub fault : Refused BenchFault
+  pub due : IsRefused refusal fault
   pub told : text ≡ refusal_line (refusal_of fault)
 
 pub record IsParting (kept : Both) (from to : ℕ) (text : List ℕ) (next : Both) : Type 0 where

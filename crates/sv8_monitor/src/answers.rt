@@ -17,10 +17,11 @@ use crate::piece::tell_pieces;
 use crate::question::Query;
 use crate::window_lines::put_windows;
 use std::io::Write;
-use sv8_bench::{Bench, BenchFault, DefinedName, LAST_STEP};
+use sv8_bench::{Bench, DefinedName, LAST_STEP, NO_SUCH_LINE, STEP_TOO_LARGE};
 use sv8_commands::put::{WriteFault, accept, done, refuse};
 use sv8_commands::text::Text;
 use sv8_cpu::Place;
+use sv8_model::Refused;
 use sv8_regs::Regs;
 use sv8_search::steps;
 use sv8_shell::listing::add_lines;
@@ -126,7 +127,7 @@ fn answer_names<const NW: usize, const PAGES: usize, const K: u32, W: Write>(
 {
     match bench.names() {
         Ok(names) => tell_names(writer, names.as_slice()),
-        Err(_) => refuse(writer, refusal_of(BenchFault::OutOfMemory)),
+        Err(_) => refuse(writer, refusal_of(Refused::OutOfMemory)),
     }
 }
 
@@ -164,7 +165,7 @@ fn answer_lines<const NW: usize, const PAGES: usize, const K: u32, W: Write>(
     if are_lines(bench, first, last) {
         tell_lines(bench, writer, first, last)
     } else {
-        refuse(writer, refusal_of(BenchFault::NoSuchLine))
+        refuse(writer, refusal_of(NO_SUCH_LINE))
     }
 }
 
@@ -194,7 +195,7 @@ fn answer_events<const NW: usize, const PAGES: usize, const K: u32, W: Write>(
     ensures { Replies result (W.contents writer.old) (W.contents writer.new) bench.now.kept (query_outcome (Events first last) bench.now.kept) bench.now.kept }
 {
     if LAST_STEP < first || LAST_STEP < last {
-        return refuse(writer, refusal_of(BenchFault::StepTooLarge));
+        return refuse(writer, refusal_of(STEP_TOO_LARGE));
     }
     if last < first {
         return done(writer);

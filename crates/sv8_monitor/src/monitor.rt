@@ -10,7 +10,7 @@ ghost use Rattle.sv8_shell.specs.Session as workbench;
 ghost use Rattle.sv8_commands.specs.Text.{ok_line};
 ghost use Rattle.sv8_monitor.specs.Answers.{differ_outcome};
 ghost use Rattle.sv8_monitor.specs.Questions.{asks, is_answerable};
-ghost use Rattle.sv8_monitor.specs.Session.{Both, Order, ask, begins_read, kept_of, language, new_pair, shell};
+ghost use Rattle.sv8_monitor.specs.Session.{Both, Order, ask, kept_of, language, new_pair, shell};
 ghost use Rattle.sv8_monitor.specs.Texts.{parted_text};
 ghost use Rattle.sv8_monitor.specs.declared.question.Question.TheVariants.{BeforeCommand, Keep, Part, Differ};
 
@@ -21,10 +21,11 @@ use crate::question::{Question, parse_question};
 use std::alloc::{AllocError, Global};
 use std::io::Write;
 use std::marker::Model;
-use sv8_bench::{Bench, BenchFault, LAST_STEP};
+use sv8_bench::{Bench, LAST_STEP};
+use sv8_commands::Command;
 use sv8_commands::put::{WriteFault, accept, done, refuse};
 use sv8_commands::text::Text;
-use sv8_commands::{Command, bad_command};
+use sv8_model::Refused;
 use sv8_search::{differ, part};
 use sv8_session::{Begun, Commands};
 use sv8_shell::refusal::refusal_of;
@@ -131,7 +132,7 @@ impl<const NW: usize, const PAGES: usize, const K: u32> Commands for Monitoring<
     fn begins(text: &[u8]) -> Begun {
         match parse_question(text) {
             None => Shell::<NW, PAGES, K>::begins(text),
-            Some(question) => begins_own(&question),
+            Some(_) => Begun::Takes(0),
         }
     }
 
@@ -143,8 +144,7 @@ impl<const NW: usize, const PAGES: usize, const K: u32> Commands for Monitoring<
     ) -> Result<(), WriteFault> {
         match parse_question(text) {
             None => answer_command(state, text, lines, writer),
-            Some(Ok(question)) => answer_question(state, writer, question),
-            Some(Err(_)) => refuse(writer, bad_command()),
+            Some(question) => answer_question(state, writer, question),
         }
     }
 
@@ -154,16 +154,6 @@ impl<const NW: usize, const PAGES: usize, const K: u32> Commands for Monitoring<
 
     fn lose<W: Write>(writer: &mut W) -> Result<(), WriteFault> {
         Shell::<NW, PAGES, K>::lose(writer)
-    }
-}
-
-/// What a question of the monitor's begins; one that cannot be read is no command.
-fn begins_own<E>(question: &Result<Question<'_>, E>) -> Begun
-    ensures { result ≡ begins_read question.now }
-{
-    match question {
-        Ok(_) => Begun::Takes(0),
-        Err(_) => Begun::Bad,
     }
 }
 
@@ -244,7 +234,7 @@ fn answer_keep<const NW: usize, const PAGES: usize, const K: u32, W: Write>(
 {
     match monitor.keep() {
         Ok(()) => done(writer),
-        Err(_) => refuse(writer, refusal_of(BenchFault::OutOfMemory)),
+        Err(_) => refuse(writer, refusal_of(Refused::OutOfMemory)),
     }
 }
 

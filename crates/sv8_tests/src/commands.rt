@@ -1,7 +1,9 @@
 //! Lines that are commands, and lines that are not.
 
 use std::test::Fail;
-use sv8_commands::{Command, parse_command};
+use sv8_commands::{Command, next_word, parse_command};
+use sv8_program::Program;
+use sv8_shell::Sparc8;
 
 #[test]
 fn lines_that_are_commands(rt: HostRuntime) -> Result<(), Fail> {
@@ -197,6 +199,70 @@ fn lines_that_are_none(rt: HostRuntime) -> Result<(), Fail> {
     ];
     for line in lines {
         assert!(rt; parse_command(line).is_err());
+    }
+    Ok(())
+}
+
+/// The name of a command.
+fn name_of(command: &Command<'_>) -> &'static [u8] {
+    match command {
+        Command::Edit { .. } => b"edit",
+        Command::Poke { .. } => b"poke",
+        Command::ClearPoke { .. } => b"unpoke",
+        Command::PokeByte { .. } => b"pokeb",
+        Command::ClearPokeByte { .. } => b"unpokeb",
+        Command::Input { .. } => b"input",
+        Command::ClearInput { .. } => b"uninput",
+        Command::Request { .. } => b"irq",
+        Command::ClearRequest { .. } => b"unirq",
+        Command::Listing => b"list",
+        Command::Regs { .. } => b"regs",
+        Command::Mem { .. } => b"mem",
+        Command::Out { .. } => b"out",
+        Command::Quit => b"quit",
+    }
+}
+
+/// Whether a line of the help begins with this word.
+fn help_has(name: &[u8]) -> bool {
+    for line in Sparc8::description().commands.lines() {
+        if let Some((word, _)) = next_word(line.as_bytes())
+            && word == name
+        {
+            return true;
+        }
+    }
+    false
+}
+
+/// Whether a line is a command whose name begins a line of the help.
+fn is_in_the_help(line: &[u8]) -> bool {
+    match parse_command(line) {
+        Ok(command) => help_has(name_of(&command)),
+        Err(_) => false,
+    }
+}
+
+#[test]
+fn help_has_a_line_of_each_command(rt: HostRuntime) -> Result<(), Fail> {
+    let lines: [&[u8]; 14] = [
+        b"edit 1 0 4",
+        b"poke 0 0 0",
+        b"unpoke 0 0",
+        b"pokeb 0 0 0",
+        b"unpokeb 0 0",
+        b"input 0 41",
+        b"uninput 0",
+        b"irq 0 1",
+        b"unirq 0 1",
+        b"list",
+        b"regs 0",
+        b"mem 0 0 1",
+        b"out 0",
+        b"quit",
+    ];
+    for line in lines {
+        assert!(rt; is_in_the_help(line));
     }
     Ok(())
 }

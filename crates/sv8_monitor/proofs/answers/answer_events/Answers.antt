@@ -1,5 +1,7 @@
 use Rattle.std.proofs.Common.{◌+◌, ◌++◌, false, refl, ap, arith}
-use Rattle.sv8_bench.specs.declared.fault.BenchFault.TheVariants.{StepTooLarge}
+use Rattle.sv8_model.specs.declared.refused.Refused.TheVariants.{By}
+use Rattle.sv8_time.specs.declared.fault.TimeFault.TheVariants.{StepTooLarge}
+use Rattle.sv8_bench.specs.declared.fault.BenchFault.TheVariants.{Time}
 use Rattle.sv8_shell.specs.Refusal.{refusal_of}
 use Rattle.sv8_commands.specs.Text.{ok_line}
 use Rattle.sv8_shell.specs.Outcome.{told, refused}
@@ -13,7 +15,7 @@ use Rattle.sv8_monitor.proofs.answers.answer_events.Goals as goal
 pub returns-then-first-gt-LAST_STEP : goal.returns-then-first-gt-LAST_STEP
 returns-then-first-gt-LAST_STEP g c =
     rw (range-wrong c.args.first c.args.last c.then-first-gt-LAST_STEP.either)
-    (reply-due c.refuse.result _ _ _ (refused (refusal_of StepTooLarge)) (rw c.refusal_of.ensures.value at c.refuse.ensures))
+    (reply-due c.refuse.result _ _ _ (refused (refusal_of (By (Time StepTooLarge)))) (rw c.refusal_of.ensures.value at c.refuse.ensures))
 
 pub returns-then-last-first : goal.returns-then-last-first
 returns-then-last-first g c =

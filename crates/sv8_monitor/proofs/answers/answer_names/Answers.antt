@@ -1,6 +1,6 @@
-use Rattle.std.proofs.Common.{true, None, inr, refl}
+use Rattle.std.proofs.Common.{true, None, refl}
 use Rattle.sv8_source.specs.Names.{names}
-use Rattle.sv8_bench.specs.declared.fault.BenchFault.TheVariants.{OutOfMemory}
+use Rattle.sv8_model.specs.declared.refused.Refused.TheVariants.{OutOfMemory}
 use Rattle.sv8_shell.specs.Outcome.{told}
 use Rattle.sv8_shell.proofs.AnswerLemmas.{reply-due, reply-refused}
 use Rattle.sv8_monitor.specs.Texts.{names_text}
@@ -12,4 +12,4 @@ returns-in-Ok g c =
 
 pub returns-in-Err : goal.returns-in-Err
 returns-in-Err g c =
-    reply-refused c.refuse.result _ _ _ _ None (told true (names_text (names c.args.bench.now.kept.source))) OutOfMemory (inr (refl, refl)) refl refl (rw c.refusal_of.ensures.value at c.refuse.ensures)
+    reply-refused c.refuse.result _ _ _ _ None (told true (names_text (names c.args.bench.now.kept.source))) OutOfMemory refl refl refl (rw c.refusal_of.ensures.value at c.refuse.ensures)
