@@ -11,10 +11,10 @@ use thiserror::Error;
 /// Why an edit or a query is refused, however much memory there is.
 #[derive(Debug, Drop, Clone, Copy, PartialEq, Eq, Error)]
 pub enum BenchFault {
-    /// By the source.
+    /// An edit of lines that the source does not take.
     #[error("{0}")]
     Source(SourceFault),
-    /// By the timeline. A query asks it for its step and its address.
+    /// An edit that the timeline does not take, or a query of a step or an address that is not shown.
     #[error("{0}")]
     Time(TimeFault),
 }

@@ -5,11 +5,18 @@ ghost use Rattle.std.specs.Prelude.{◌≤◌};
 use std::alloc::Global;
 use std::test::Fail;
 use sv8_bench::BenchFault::{self, Source, Time};
-use sv8_bench::{BAD_ADDRESS, Bench, NO_SUCH_LINE, STEP_TOO_LARGE, Shown};
+use sv8_bench::{Bench, Shown};
 use sv8_model::Refused::{self, By};
 use sv8_source::SourceFault;
 use sv8_syntax::LineFault;
 use sv8_time::TimeFault;
+
+/// The refusals that edits and queries share, written out here.
+const STEP_TOO_LARGE: Refused<BenchFault> = By(Time(TimeFault::StepTooLarge));
+
+const BAD_ADDRESS: Refused<BenchFault> = By(Time(TimeFault::BadAddress));
+
+const NO_SUCH_LINE: Refused<BenchFault> = By(Source(SourceFault::NoSuchLine));
 
 /// A loop whose branch annuls its delay slot.
 const LOOP: &[&[u8]] = &[b"loop: ba,a loop", b".word 0"];
