@@ -1,5 +1,5 @@
 -- An ordinary step, and what is carried out in it over two memories.
-use Rattle.std.proofs.Common.{drop, length, subst, ◌≡◌, ◌≢◌, ◌∙◌, ◌⊎◌, inl, inr, ◌+◌, ◌-◌, ◌==◌, ℕ, zero, suc, Bool, true, false, None, Some, List, [], refl, sym, ap, arith}
+use Rattle.std.proofs.Common.{drop, length, subst, ◌≡◌, ◌≢◌, ◌∙◌, ◌⊎◌, inl, inr, ◌+◌, ◌-◌, ◌==◌, ℕ, zero, suc, Bool, true, false, None, Option, Some, List, [], refl, sym, ap, arith}
 use Rattle.std.proofs.lemmas.Bool.Decides.{nat_tests}
 use Rattle.sv8_isa.specs.declared.instr.Instr.{Instr}
 use Rattle.sv8_isa.specs.declared.instr.Instr.TheVariants.{Memory}
@@ -28,7 +28,7 @@ use Rattle.sv8_iu.specs.declared.request.Response.{Response}
 use Rattle.sv8_iu.specs.declared.request.Response.TheVariants.{Value}
 use Rattle.sv8_iu.specs.declared.request.AccessRequest.{AccessRequest}
 use Rattle.sv8_iu.specs.Operands.{sum_of_sources}
-use Rattle.sv8_iu.specs.Instruction.{raised, trapped, complete, data_space, IsPlain}
+use Rattle.sv8_iu.specs.Instruction.{raised, trapped, complete, data_space, IsUnaided}
 use Rattle.sv8_iu.specs.Instruction as iu
 use Rattle.sv8_iu.specs.Memory.{low_word, access_of, memory_traps, transferred_data}
 use Rattle.sv8_memory.specs.declared.physical.Physical.{Physical}
@@ -38,7 +38,7 @@ use Rattle.sv8_memory.proofs.Poking.{quiet}
 use Rattle.sv8_cpu.specs.Step.{Inner, carried_out, executed, continued, requested, interruptible, action}
 use Rattle.sv8_cpu.specs.State.{State, inner_of, left_by}
 use Rattle.sv8_cpu.specs.Run.{step, acted_on}
-use Rattle.sv8_cpu.proofs.Steps.{trap_taken, carried_out_by, carried_out_plainly, instruction_by, interruptible_by, awake_by}
+use Rattle.sv8_cpu.proofs.Steps.{trap_taken, carried_out_by, carried_out_unaided, instruction_by, interruptible_by, awake_by}
 use Rattle.sv8_memory.specs.View.{IsTaken, timed_units, units_of}
 use Rattle.sv8_cpu.specs.Lockstep.{state_over, counted_down, timed, CountsDown, IsCarriedOut, IsLoaded, IsStored, MayBeCarriedOut, MayBeMade, IsCalm, IsFetched}
 
@@ -193,9 +193,9 @@ module _ (windows : ℕ) {pages : ℕ} (bytes : List ℕ) (word : ℕ) (p q : Pr
   later = record m { phys = counted_down m.phys }
 
   -- an instruction that makes no access
-  pub plainly_carried_out : (m' : Physical pages) → IsPlain windows p (meaning word) q → m' ≡ record m { phys = counted_down m.phys } → IsCarriedOut windows bytes word p m q m'
-  plainly_carried_out m' plain is = rw is (record {
-    done = carried_out_plainly (keeping false false) windows (ram_size pages) (inner_of (timed (state_over p m))) (outside_of m.phys bytes) no_notes word q (inner_of (state_over q later)) plain refl;
+  pub unaided_carried_out : (m' : Physical pages) → IsUnaided windows p (meaning word) q → m' ≡ record m { phys = counted_down m.phys } → IsCarriedOut windows bytes word p m q m'
+  unaided_carried_out m' unaided is = rw is (record {
+    done = carried_out_unaided (keeping false false) windows (ram_size pages) (inner_of (timed (state_over p m))) (outside_of m.phys bytes) no_notes no_notes word q (inner_of (state_over q later)) unaided refl refl;
     taken = refl;
     mmu = refl;
   })

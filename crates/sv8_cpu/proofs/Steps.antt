@@ -1,5 +1,5 @@
 -- The parts of a step, one after another.
-use Rattle.std.proofs.Common.{◌≡◌, ℕ, true, MatchOption, Option, Some, None, [], ◌∷◌, refl, sym, ◌∙◌, subst}
+use Rattle.std.proofs.Common.{◌≡◌, ℕ, true, Option, Some, None, [], ◌∷◌, refl, sym, ◌∙◌, subst}
 use Rattle.sv8_isa.specs.declared.instr.Instr.{Instr}
 use Rattle.sv8_isa.specs.declared.instr.Instr.TheVariants.{Memory}
 use Rattle.sv8_isa.specs.declared.instr.MemoryOp.{MemoryOp}
@@ -23,8 +23,9 @@ use Rattle.sv8_memory.specs.Units.{Units, Served, served}
 use Rattle.sv8_memory.specs.Access.{access}
 use Rattle.sv8_iu.specs.Operands.{sum_of_sources}
 use Rattle.sv8_iu.specs.Memory.{memory_traps, access_of}
-use Rattle.sv8_iu.specs.Instruction.{raised, asked, trapped, data_space, IsPlain}
-use Rattle.sv8_cpu.specs.Step.{Inner, trap_seen, refusal_seen, observed_trap, answered, finished_access, executed, carried_out, fetched, instruction, requested, interruptible, with_timer, awake}
+use Rattle.sv8_iu.specs.Instruction.{raised, asked, trapped, data_space, ended, IsUnaided}
+use Rattle.sv8_iu.specs.Seen.{trap_seen, taken_seen}
+use Rattle.sv8_cpu.specs.Step.{Inner, refusal_seen, observed_trap, answered, finished_access, executed, carried_out, fetched, instruction, requested, interruptible, with_timer, awake}
 
 -- a trap is seen, and then something is there
 pub does_trap : {A : Type 0} (keeps : Keeps) (t : Trap) (x y : A) (o : Outside) (ns ns1 : Notes) → ns1 ≡ noting keeps ns [] (trap_seen t ∷ []) → y ≡ x
@@ -62,21 +63,23 @@ module _ (keeps : Keeps) (windows limit : ℕ) (m : Inner) where
       (subst (λ t. Does keeps (executed windows limit m i t) o o1 y ns ns2) (sym none) (access_answered o o1 ns ns1 ns2 i q s y e h see f))
 
   -- a word is carried out by what its instruction makes of the processor alone
-  pub carried_out_plainly : (o : Outside) (ns : Notes) (word : ℕ) (q : Processor) (y : Inner) → IsPlain windows m.processor (meaning word) q
-      → y ≡ record m { processor = q } → Does keeps (carried_out windows limit m word) o o y ns ns
+  pub carried_out_unaided : (o : Outside) (ns ns1 : Notes) (word : ℕ) (q : Processor) (y : Inner) → IsUnaided windows m.processor (meaning word) q
+      → ns1 ≡ noting keeps ns [] (taken_seen (taken (raised windows m.processor (meaning word)))) → y ≡ record m { processor = q } → Does keeps (carried_out windows limit m word) o o y ns ns1
   unfolding access
-  carried_out_plainly o ns word q y (none, unasked, is) e =
-      carried_out_by o o ns ns ns word (meaning word) Nothing (served m.units 0) y refl none (sym unasked) (does_done keeps (served m.units 0) (served m.units 0) o ns refl) (sym (noting_none keeps ns)) (rw e (rw is refl))
+  carried_out_unaided o ns ns1 word q y (unasked, is) see e = by_trap (taken (raised windows m.processor (meaning word))) see (e ∙ rw is refl)
+    where
+      by_trap : (t : Option Trap) → ns1 ≡ noting keeps ns [] (taken_seen t) → y ≡ record m { processor = ended windows m.processor (meaning word) t } → Does keeps (executed windows limit m (meaning word) t) o o y ns ns1
+      by_trap None see e =
+          access_answered o o ns ns ns1 (meaning word) Nothing (served m.units 0) y (sym unasked) (does_done keeps (served m.units 0) (served m.units 0) o ns refl) see e
+      by_trap (Some t) see e = trap_taken o ns ns1 (meaning word) (Some t) t y refl see e
 
-  -- a word is carried out by the access of a load or a store, if it was made at all
-  pub transferred : (unmade : Type 0) (o o1 : Outside) (ns ns1 ns2 : Notes) (op : MemoryOp) (rd rs1 : ℕ) (operand : Operand) (at : ℕ) (u : Units) (found : Option Response) (r : Response) (y : Inner)
-      → at ≡ sum_of_sources windows m.processor rs1 operand → taken (memory_traps op rd at) ≡ None → found ≡ Some r
-      → MatchOption found unmade (λ z. Does keeps (access limit m.units (access_of windows m.processor op (data_space m.processor) rd at)) o o1 (record { response = z; units = u }) ns ns1)
-      → ns2 ≡ noting keeps ns1 [] (refusal_seen r) → y ≡ record { processor = answered windows m.processor (Memory op rd rs1 operand) r; units = u }
-      → (word : ℕ) → Memory op rd rs1 operand ≡ meaning word → Does keeps (carried_out windows limit m word) o o1 y ns ns2
-  transferred unmade o o1 ns ns1 ns2 op rd rs1 operand at u found r y e none made h see f word is =
-      carried_out_by o o1 ns ns1 ns2 word (Memory op rd rs1 operand) (access_of windows m.processor op (data_space m.processor) rd at) (record { response = r; units = u }) y is (rw (← e) none) (rw e refl)
-      (subst (λ a. MatchOption a unmade (λ z. Does keeps (access limit m.units (access_of windows m.processor op (data_space m.processor) rd at)) o o1 (record { response = z; units = u }) ns ns1)) made h) see f
+  -- a word is carried out by the access of a load or a store
+  pub transferred : (o o1 : Outside) (ns ns1 ns2 : Notes) (word : ℕ) (op : MemoryOp) (rd rs1 : ℕ) (operand : Operand) (at : ℕ) (s : Served) (y : Inner)
+      → meaning word ≡ Memory op rd rs1 operand → at ≡ sum_of_sources windows m.processor rs1 operand → taken (memory_traps op rd at) ≡ None
+      → Does keeps (access limit m.units (access_of windows m.processor op (data_space m.processor) rd at)) o o1 s ns ns1
+      → ns2 ≡ noting keeps ns1 [] (refusal_seen s.response) → y ≡ finished_access windows m.processor (Memory op rd rs1 operand) s → Does keeps (carried_out windows limit m word) o o1 y ns ns2
+  transferred o o1 ns ns1 ns2 word op rd rs1 operand at s y is e none made see f =
+      carried_out_by o o1 ns ns1 ns2 word (Memory op rd rs1 operand) (access_of windows m.processor op (data_space m.processor) rd at) s y (sym is) (rw (← e) none) (rw e refl) made see f
 
   module _ (o o1 o2 : Outside) (ns ns1 ns2 : Notes) (y : Inner) where
     -- a fetch is answered, and what follows

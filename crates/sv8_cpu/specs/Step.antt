@@ -3,13 +3,12 @@ use Rattle.std.specs.Prelude.{ℕ, List, [], ◌∷◌, ◌==◌, Option, Some, 
 use Rattle.sv8_isa.specs.declared.instr.Instr.{Instr}
 use Rattle.sv8_isa.specs.Table.{meaning}
 use Rattle.sv8_model.specs.declared.observation.Observation.{Observation}
-use Rattle.sv8_model.specs.declared.observation.Observation.TheVariants as seen
 use Rattle.sv8_model.specs.Action.{Action, done, ask_levels, observe, ◌>>=◌}
 use Rattle.sv8_phys.specs.declared.timer.Timer.{Timer}
 use Rattle.sv8_phys.specs.Devices.{tick}
 use Rattle.sv8_trap.specs.declared.table.Trap.{Trap}
 use Rattle.sv8_trap.specs.declared.table.Trap.TheVariants.{Interrupt}
-use Rattle.sv8_trap.specs.Table.{row_of, taken}
+use Rattle.sv8_trap.specs.Table.{taken}
 use Rattle.sv8_trap.specs.Processor.{Processor, slot_skipped}
 use Rattle.sv8_trap.specs.Entry.{with_trap, interrupted}
 use Rattle.sv8_trap.specs.Interrupt.{unmasked, highest}
@@ -17,6 +16,7 @@ use Rattle.sv8_iu.specs.declared.request.AccessRequest.TheVariants.{Fetch}
 use Rattle.sv8_iu.specs.declared.request.Response.{Response}
 use Rattle.sv8_iu.specs.declared.request.Response.TheVariants.{Value, Refused}
 use Rattle.sv8_iu.specs.Memory.{low_word}
+use Rattle.sv8_iu.specs.Seen.{trap_seen}
 use Rattle.sv8_iu.specs.Instruction.{raised, trapped, asked, complete}
 use Rattle.sv8_memory.specs.Units.{Units, Served}
 use Rattle.sv8_memory.specs.Access.{access}
@@ -25,10 +25,6 @@ use Rattle.sv8_memory.specs.Access.{access}
 pub record Inner : Type 0 where
   pub processor : Processor
   pub units : Units
-
--- an observer sees the type of a trap
-abbrev pub trap_seen : Trap → Observation
-trap_seen t = seen.Trap (row_of t).trap_type
 
 -- ---- one instruction
 

@@ -1,13 +1,12 @@
 -- What the parts of a machine stand for, and what it means that they did an action.
-use Rattle.std.specs.Prelude.{◌≡◌, ℕ, Bool, true, false, List}
+use Rattle.std.specs.Prelude.{ℕ, List}
 use Rattle.sv8_model.specs.Action.{Action}
 use Rattle.sv8_model.specs.Does.{Does, Keeps, Notes}
-use Rattle.sv8_phys.specs.Memory.{ram_size}
 use Rattle.sv8_phys.specs.Contents.{outside_of}
 use Rattle.sv8_memory.specs.declared.feed.Feed.{Feed}
 use Rattle.sv8_memory.specs.Feeding.{bytes_fed, IsFed}
 use Rattle.sv8_cpu.specs.declared.parts.Parts.{Parts}
-use Rattle.sv8_cpu.specs.Step.{Inner, carried_out}
+use Rattle.sv8_cpu.specs.Step.{Inner}
 use Rattle.sv8_cpu.specs.State.{State}
 use Rattle.sv8_memory.specs.View.{units_of}
 
@@ -27,8 +26,3 @@ MachineDoes keeps bytes a p p' ns ns' = Does keeps a (outside_of p.memory.phys b
 pub record Acts {windows pages : ℕ} (keeps : Keeps) (feed : Feed) (a : Action Inner) (p p' : Parts windows pages) (ns ns' : Notes) : Type 0 where
   pub ok : MachineDoes keeps (bytes_fed feed) a p p' ns ns'
   pub fed : IsFed feed p'.memory.phys
-
--- a shorter way has carried a word out, or it has left all as it was
-abbrev pub MayCarryOut : {windows pages : ℕ} → Keeps → Feed → ℕ → Parts windows pages → Parts windows pages → Notes → Notes → Bool → Type 0
-MayCarryOut {windows} {pages} keeps feed word p p' ns ns' true = Acts keeps feed (carried_out windows (ram_size pages) (inner_of_parts p) word) p p' ns ns'
-MayCarryOut keeps feed word p p' ns ns' false = (p' ≡ p) × (ns' ≡ ns)

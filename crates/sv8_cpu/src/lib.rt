@@ -1,11 +1,11 @@
 //! The machine: its state, and one step of it (The SPARC Architecture Manual, Version 8).
 #![tactic(auto)]
 
-mod frequent;
 mod lockstep;
 mod machine;
 mod parts;
 mod readers;
+mod transfer;
 mod work;
 
 pub use machine::Machine;

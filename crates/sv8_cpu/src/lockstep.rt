@@ -27,9 +27,9 @@ use crate::machine::Machine;
 use crate::parts::Parts;
 use crate::work::Work;
 use std::alloc::AllocError;
-use sv8_isa::{Group, Instr, MemoryOp, Operand, decode, decode_memory, group};
+use sv8_isa::{Group, Instr, MemoryOp, Operand, decode_memory, group};
 use sv8_iu::{
-    AccessRequest, Space, asked, carry_out_plainly, complete, data_space, finish_access, low_word,
+    AccessRequest, Space, asked, carry_out_unaided, complete, data_space, finish_access, low_word,
     memory_trap, raised_by, space_of, sum_of_sources, take_trap,
 };
 use sv8_memory::{Feed, Memory};
@@ -221,8 +221,8 @@ fn transfer_both<const NW: usize, const PAGES: usize>(
     }
 }
 
-/// Completes an instruction that raises no trap over both memories, if its access, where it makes one, is known at once and gives
-/// both the same.
+/// Completes an instruction that raises no trap over both memories, if its access is a load or a store that is known at once and
+/// gives both the same.
 #[inline(always)]
 fn complete_both<const NW: usize, const PAGES: usize>(
     p: &mut Processor<NW>,
@@ -242,11 +242,6 @@ fn complete_both<const NW: usize, const PAGES: usize>(
     ensures others { IfOk result (λ done. (word : ℕ) → instr ≡ meaning word → MayBeCarriedOut NW (bytes_fed other_feed.entry) word p.old other.old p.new other.new done) }
 {
     match asked(p, instr) {
-        AccessRequest::Nothing => {
-            count_down_both(memory, other)?;
-            complete(p, instr, 0);
-            Ok(true)
-        }
         AccessRequest::Load { size, asi, at } if is_virtual(asi) => {
             let Some(value) = load_from_both(memory, other, size, asi, at, feed, other_feed)? else {
                 return Ok(false);
@@ -272,7 +267,8 @@ fn complete_both<const NW: usize, const PAGES: usize>(
     }
 }
 
-/// Carries a word out over both memories by the way of every instruction: takes the trap that it raises, or completes it.
+/// Carries a load or a store out over both memories by the way of every instruction: takes the trap that it raises, or completes
+/// it.
 #[inline(never)]
 fn carry_out_rarely<const NW: usize, const PAGES: usize>(
     p: &mut Processor<NW>,
@@ -284,12 +280,13 @@ fn carry_out_rarely<const NW: usize, const PAGES: usize>(
 ) -> Result<bool, AllocError>
     requires counting { CountsDown memory.old }
     requires others_counting { CountsDown other.old }
+    requires group { group_of word ≡ Group.Memory }
     requires fed { IsFed feed memory.old.phys }
     requires others_fed { IsFed other_feed other.old.phys }
     ensures own { IfOk result (MayBeCarriedOut NW (bytes_fed feed.entry) word p.old memory.old p.new memory.new) }
     ensures others { IfOk result (MayBeCarriedOut NW (bytes_fed other_feed.entry) word p.old other.old p.new other.new) }
 {
-    let instr = decode(word);
+    let instr = decode_memory(word);
     match raised_by(p, instr) {
         Some(trap) => {
             count_down_both(memory, other)?;
@@ -303,33 +300,8 @@ fn carry_out_rarely<const NW: usize, const PAGES: usize>(
     }
 }
 
-/// Carries a word out over both memories by the way of its own that a frequent instruction has, as `carry_out_plainly` and
-/// `transfer_both` do. Tells whether it has; where it has not, nothing has changed.
-#[inline(always)]
-fn carry_out_frequently<const NW: usize, const PAGES: usize>(
-    p: &mut Processor<NW>,
-    memory: &mut Memory<PAGES>,
-    other: &mut Memory<PAGES>,
-    word: u32,
-) -> Result<bool, AllocError>
-    requires counting { CountsDown memory.old }
-    requires others_counting { CountsDown other.old }
-    ensures own { IfOk result (MayAlwaysBeCarriedOut NW word p.old memory.old p.new memory.new) }
-    ensures others { IfOk result (MayAlwaysBeCarriedOut NW word p.old other.old p.new other.new) }
-{
-    match group(word) {
-        Group::Memory => transfer_both(p, memory, other, word),
-        _ => {
-            if !carry_out_plainly(p, word) {
-                return Ok(false);
-            }
-            count_down_both(memory, other)?;
-            Ok(true)
-        }
-    }
-}
-
-/// Carries a word out over both memories, once the bytes of their feeds have come in, if it does the same to the processor. Tells whether it has; where it has not, nothing has changed.
+/// Carries a word out over both memories, once the bytes of their feeds have come in, if it does the same to the processor. Tells
+/// whether it has; where it has not, nothing has changed.
 #[inline(always)]
 fn carry_out_both<const NW: usize, const PAGES: usize>(
     p: &mut Processor<NW>,
@@ -346,11 +318,20 @@ fn carry_out_both<const NW: usize, const PAGES: usize>(
     ensures own { IfOk result (MayBeCarriedOut NW (bytes_fed feed.entry) word p.old memory.old p.new memory.new) }
     ensures others { IfOk result (MayBeCarriedOut NW (bytes_fed other_feed.entry) word p.old other.old p.new other.new) }
 {
-    let done = carry_out_frequently(p, memory, other, word)?;
-    if done {
-        return Ok(true);
+    match group(word) {
+        Group::Memory => {
+            let done = transfer_both(p, memory, other, word)?;
+            if done {
+                return Ok(true);
+            }
+            carry_out_rarely(p, memory, other, word, feed, other_feed)
+        }
+        _ => {
+            count_down_both(memory, other)?;
+            carry_out_unaided(p, word, &mut NoTouches)?;
+            Ok(true)
+        }
     }
-    carry_out_rarely(p, memory, other, word, feed, other_feed)
 }
 
 /// Fetches the instruction at PC from both memories and carries it out over both, in step n, if that does the same to the processor.

@@ -7,7 +7,7 @@ ghost use Rattle.sv8_cpu.specs.Run.{step};
 ghost use Rattle.sv8_trap.specs.Table.{taken};
 ghost use Rattle.sv8_phys.specs.Memory.{ram_size};
 ghost use Rattle.sv8_iu.specs.Instruction.{raised};
-ghost use Rattle.sv8_cpu.specs.Step.{trap_seen, refusal_seen, answered, executed, carried_out, fetched, instruction, continued, requested, interruptible, awake, action};
+ghost use Rattle.sv8_cpu.specs.Step.{refusal_seen, answered, executed, carried_out, fetched, instruction, continued, requested, interruptible, awake, action};
 ghost use Rattle.sv8_memory.specs.Feeding.{IsFed};
 ghost use Rattle.sv8_memory.specs.View.{units_of};
 ghost use Rattle.sv8_cpu.specs.Whole.{inner_of_parts, Acts};
@@ -15,10 +15,11 @@ ghost use Rattle.sv8_cpu.specs.Whole.{inner_of_parts, Acts};
 use std::alloc::AllocError;
 use sv8_isa::{Group, Instr, decode, group};
 use sv8_iu::{
-    AccessRequest, Response, asked, carry_out_plainly, complete, low_word, raised_by, take_trap,
+    AccessRequest, Response, asked, carry_out_unaided, complete, low_word, raised_by, show_trap,
+    take_trap,
 };
 use sv8_memory::{Feed, Memory};
-use sv8_phys::{Observation, Touches};
+use sv8_phys::Touches;
 use sv8_trap::{Processor, Trap, highest_level};
 
 /// The state of a machine, kept in one place so that a step changes it where it stands.
@@ -28,14 +29,6 @@ pub struct Parts<const NW: usize, const PAGES: usize> {
     pub memory: Memory<PAGES>,
 }
 
-/// What an observer sees of a trap.
-#[inline(always)]
-fn seen(trap: Trap) -> Observation
-    ensures { result ≡ trap_seen trap }
-{
-    Observation::Trap(trap.row().trap_type)
-}
-
 /// Lets an observer see the trap that a refused access raises.
 #[inline(always)]
 pub fn show_refusal<T: Touches>(response: Response, notes: &mut T) -> Result<(), AllocError>
@@ -43,10 +36,7 @@ pub fn show_refusal<T: Touches>(response: Response, notes: &mut T) -> Result<(),
 {
     match response {
         Response::Value(_) => Ok(()),
-        Response::Refused(trap) => {
-            notes.observe(seen(trap))?;
-            Ok(())
-        }
+        Response::Refused(trap) => show_trap(trap, notes),
     }
 }
 
@@ -100,7 +90,7 @@ impl<const NW: usize, const PAGES: usize> Parts<NW, PAGES> {
     {
         match raised_by(&self.processor, instr) {
             Some(trap) => {
-                notes.observe(seen(trap))?;
+                show_trap(trap, notes)?;
                 take_trap(&mut self.processor, instr, trap);
                 Ok(())
             }
@@ -111,9 +101,10 @@ impl<const NW: usize, const PAGES: usize> Parts<NW, PAGES> {
         }
     }
 
-    /// Carries out a word. It is a function of its own, so that a word comes in and no decoded instruction goes from one function to another.
+    /// Carries out any word. It is a function of its own, so that a word comes in and no decoded instruction goes from one function
+    /// to another.
     #[inline(never)]
-    fn carry_out_word<T: Touches>(
+    pub fn carry_out_word<T: Touches>(
         &mut self,
         word: u32,
         feed: Feed<'_>,
@@ -127,7 +118,7 @@ impl<const NW: usize, const PAGES: usize> Parts<NW, PAGES> {
         Ok(())
     }
 
-    /// Carries out a word that was fetched, by a way of its own where it has one.
+    /// Carries out a word that was fetched.
     #[inline(always)]
     fn carry_out_fetched<T: Touches>(
         &mut self,
@@ -141,15 +132,11 @@ impl<const NW: usize, const PAGES: usize> Parts<NW, PAGES> {
     {
         match group(word) {
             Group::Memory => {
-                if !self.carry_out_access(word, feed, notes)? {
-                    self.carry_out_word(word, feed, notes)?;
-                }
+                self.carry_out_transfer(word, feed, notes)?;
                 Ok(())
             }
             _ => {
-                if !carry_out_plainly(&mut self.processor, word) {
-                    self.carry_out_word(word, feed, notes)?;
-                }
+                carry_out_unaided(&mut self.processor, word, notes)?;
                 Ok(())
             }
         }
@@ -169,7 +156,7 @@ impl<const NW: usize, const PAGES: usize> Parts<NW, PAGES> {
     {
         match response {
             Response::Refused(trap) => {
-                notes.observe(seen(trap))?;
+                show_trap(trap, notes)?;
                 self.processor.take(trap);
                 Ok(())
             }
@@ -261,7 +248,7 @@ impl<const NW: usize, const PAGES: usize> Parts<NW, PAGES> {
                 Ok(())
             }
             Some(level) => {
-                notes.observe(seen(Trap::Interrupt(level.number() as u8)))?;
+                show_trap(Trap::Interrupt(level.number() as u8), notes)?;
                 self.processor.interrupt(level);
                 Ok(())
             }

@@ -1,3 +1,4 @@
+pub mod Accesses
 pub mod Operands
 pub mod Registers
 pub mod Table

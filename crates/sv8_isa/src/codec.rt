@@ -1,6 +1,7 @@
 //! From words to instructions, and back.
 
-ghost use Rattle.std.specs.Prelude.{◌≡◌, ◌<◌, ◌≤◌, IfSome};
+ghost use Rattle.std.specs.Prelude.{◌≡◌, ◌≢◌, ◌<◌, ◌≤◌, false, IfSome};
+ghost use Rattle.sv8_isa.specs.Accesses.{makes_access};
 ghost use Rattle.sv8_isa.specs.Encoding.{encoding};
 ghost use Rattle.sv8_isa.specs.Registers.{HasRegisters};
 ghost use Rattle.sv8_isa.specs.Table.{instr_at, row_at, meaning, is_queue_store, group_of};
@@ -216,6 +217,7 @@ fn arithmetic_at(word: u32, op3: u32) -> Instr
     requires { op3 < 0x20 }
     ensures value { result ≡ instr_at (row_at 2 op3 word) word }
     ensures registers { HasRegisters result }
+    ensures unaided { makes_access result ≡ false }
 {
     opcodes!(arithmetic_rows!(word op3))
 }
@@ -227,6 +229,7 @@ fn control_at(word: u32, op3: u32) -> Instr
     requires below { op3 < 0x40 }
     ensures value { result ≡ instr_at (row_at 2 op3 word) word }
     ensures registers { HasRegisters result }
+    ensures unaided { makes_access result ≡ false }
 {
     opcodes!(control_rows!(word op3))
 }
@@ -248,6 +251,7 @@ pub fn decode_format_2(word: u32) -> Instr
     requires { group_of word ≡ Group.Format2 }
     ensures value { result ≡ meaning word }
     ensures registers { HasRegisters result }
+    ensures unaided { makes_access result ≡ false }
 {
     opcodes!(format_2_rows!(word))
 }
@@ -259,6 +263,7 @@ pub fn decode_call(word: u32) -> Instr
     requires { group_of word ≡ Group.Call }
     ensures value { result ≡ meaning word }
     ensures registers { HasRegisters result }
+    ensures unaided { makes_access result ≡ false }
 {
     call(word)
 }
@@ -269,6 +274,7 @@ pub fn decode_arithmetic(word: u32) -> Instr
     requires { group_of word ≡ Group.Arithmetic }
     ensures value { result ≡ meaning word }
     ensures registers { HasRegisters result }
+    ensures unaided { makes_access result ≡ false }
 {
     arithmetic_at(word, bits(word, 24, 19))
 }
@@ -279,6 +285,7 @@ pub fn decode_shift(word: u32) -> Instr
     requires { group_of word ≡ Group.Shift }
     ensures value { result ≡ meaning word }
     ensures registers { HasRegisters result }
+    ensures unaided { makes_access result ≡ false }
 {
     control_at(word, bits(word, 24, 19))
 }
@@ -289,6 +296,7 @@ pub fn decode_control(word: u32) -> Instr
     requires { group_of word ≡ Group.Control }
     ensures value { result ≡ meaning word }
     ensures registers { HasRegisters result }
+    ensures unaided { makes_access result ≡ false }
 {
     control_at(word, bits(word, 24, 19))
 }
@@ -311,6 +319,7 @@ pub fn decode_memory(word: u32) -> Instr
 pub fn decode(word: u32) -> Instr
     ensures value { result ≡ meaning word }
     ensures registers { HasRegisters result }
+    ensures unaided { group_of word ≢ Group.Memory → makes_access result ≡ false }
 {
     match group(word) {
         Group::Format2 => decode_format_2(word),

@@ -1,6 +1,6 @@
 -- What each instruction does, one clause for each row of the opcode table. What the clauses say stands in the file of the row's group: Arithmetic,
 -- Control, Windows, StateRegisters, Memory.
-use Rattle.std.specs.Prelude.{◌≡◌, ℕ, None, not, ◌&&◌, List, [], ◌∷◌, ◌++◌, if◌then◌else◌}
+use Rattle.std.specs.Prelude.{◌≡◌, ℕ, Option, Some, None, not, ◌&&◌, List, [], ◌∷◌, ◌++◌, if◌then◌else◌}
 use Rattle.sv8_isa.specs.Table.{is_queue_store}
 use Rattle.sv8_isa.specs.declared.instr.Instr.{Instr}
 use Rattle.sv8_isa.specs.declared.instr.Instr.TheVariants as row
@@ -112,6 +112,11 @@ asked windows p i = (behaviour windows p i).request
 abbrev pub complete : ℕ → Processor → Instr → ℕ → Processor
 complete windows p i value = (behaviour windows p i).outcome value
 
--- the instruction raises no trap, asks for no access, and makes q of the processor p
-abbrev pub IsPlain : ℕ → Processor → Instr → Processor → Type 0
-IsPlain windows p i q = (taken (raised windows p i) ≡ None) × (asked windows p i ≡ Nothing) × (q ≡ complete windows p i 0)
+-- what an instruction that makes no access comes to: the trap that it takes, or its end
+abbrev pub ended : ℕ → Processor → Instr → Option Trap → Processor
+ended windows p i (Some t) = trapped windows p i t
+ended windows p i None = complete windows p i 0
+
+-- the instruction asks for no access, and makes q of the processor p
+abbrev pub IsUnaided : ℕ → Processor → Instr → Processor → Type 0
+IsUnaided windows p i q = (asked windows p i ≡ Nothing) × (q ≡ ended windows p i (taken (raised windows p i)))

@@ -6,3 +6,4 @@ pub mod StateRegisters
 pub mod Requests
 pub mod Memory
 pub mod Instruction
+pub mod Seen

@@ -119,7 +119,7 @@ fn operate_apart<const NW: usize>(
 
 /// An operation that has a form which sets the condition codes.
 #[inline(always)]
-fn arithmetic_in_place<const NW: usize>(
+pub fn arithmetic_in_place<const NW: usize>(
     p: &mut Processor<NW>,
     op: ArithOp,
     cc: bool,
@@ -157,42 +157,8 @@ pub fn arithmetic<const NW: usize>(
     operate_apart(p, op, cc, rd, x, y);
 }
 
-/// Carries an operation out, unless it divides: then nothing is done. Tells whether it has. There is an arm for each operation, so
-/// the built program asks once which one it is, and has code for each.
 #[inline(always)]
-pub fn arithmetic_by_operation<const NW: usize>(
-    p: &mut Processor<NW>,
-    op: ArithOp,
-    cc: bool,
-    rd: u8,
-    rs1: u8,
-    operand: Operand,
-) -> bool
-    requires rd { rd < 32 }
-    requires rs1 { rs1 < 32 }
-    requires operand { OperandHasRegister operand }
-    ensures which { result ≡ not (divides op) }
-    ensures done { MatchBool result (p.new ≡ arithmetic NW p.old op cc rd rs1 operand) (p.new ≡ p.old) }
-{
-    match op {
-        ArithOp::Add => arithmetic_in_place(p, ArithOp::Add, cc, rd, rs1, operand),
-        ArithOp::Addx => arithmetic_in_place(p, ArithOp::Addx, cc, rd, rs1, operand),
-        ArithOp::Sub => arithmetic_in_place(p, ArithOp::Sub, cc, rd, rs1, operand),
-        ArithOp::Subx => arithmetic_in_place(p, ArithOp::Subx, cc, rd, rs1, operand),
-        ArithOp::And => arithmetic_in_place(p, ArithOp::And, cc, rd, rs1, operand),
-        ArithOp::Andn => arithmetic_in_place(p, ArithOp::Andn, cc, rd, rs1, operand),
-        ArithOp::Or => arithmetic_in_place(p, ArithOp::Or, cc, rd, rs1, operand),
-        ArithOp::Orn => arithmetic_in_place(p, ArithOp::Orn, cc, rd, rs1, operand),
-        ArithOp::Xor => arithmetic_in_place(p, ArithOp::Xor, cc, rd, rs1, operand),
-        ArithOp::Xnor => arithmetic_in_place(p, ArithOp::Xnor, cc, rd, rs1, operand),
-        ArithOp::Umul | ArithOp::Smul => arithmetic(p, op, cc, rd, rs1, operand),
-        ArithOp::Udiv | ArithOp::Sdiv => return false,
-    }
-    true
-}
-
-#[inline(always)]
-pub fn divides(op: ArithOp) -> bool
+fn divides(op: ArithOp) -> bool
     ensures { result ≡ divides op }
 {
     matches!(op, ArithOp::Udiv | ArithOp::Sdiv)
@@ -327,7 +293,7 @@ pub fn shift<const NW: usize>(p: &mut Processor<NW>, op: ShiftOp, rd: u8, rs1: u
     p.finish_with(rd, sv8_alu::shift(shift_form(op), x, count));
 }
 
-/// The same, with an arm for each operation, as `arithmetic_by_operation` has.
+/// The same, with an arm for each operation: so the built program asks once which one it is, and has code for each.
 #[inline(always)]
 pub fn shift_by_operation<const NW: usize>(
     p: &mut Processor<NW>,

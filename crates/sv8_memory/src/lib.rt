@@ -5,6 +5,7 @@
 mod at_once;
 mod events;
 mod feed;
+mod in_place;
 pub mod laws;
 mod locating;
 mod memory;

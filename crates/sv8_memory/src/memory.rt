@@ -19,9 +19,10 @@ ghost use Rattle.sv8_memory.specs.View.{IsTaken, MemoryDoes, timed_units, units_
 use crate::at_once::{fetched_at_once, is_stored_at_once, loaded_at_once, waiting_at_once};
 use crate::events::happen;
 use crate::feed::Feed;
+use crate::in_place::{fetch_in_place, load_translated, store_translated};
 use crate::physical::Physical;
-use crate::spaces::{access, load_translated, load_untranslated};
-use crate::stores::{store_translated, store_untranslated};
+use crate::spaces::{access, load_untranslated};
+use crate::stores::store_untranslated;
 use std::alloc::{AllocError, Global};
 use std::marker::Model;
 use sv8_iu::{AccessRequest, Response, Space};
@@ -143,8 +144,9 @@ impl<const PAGES: usize> Memory<PAGES> {
         Ok(response)
     }
 
-    /// Fetches an instruction as `access` does, where addresses are not translated and it stands in RAM. `None` where it does not, or
-    /// they are: nothing is done then.
+    /// Fetches an instruction as `access` does, where it stands in RAM and its address is known at once: it is not translated, or
+    /// the walk of its page was used last and sets no mark. `None` where it is not known: nothing is done then. That a
+    /// translated fetch is made wherever it could be is no part of the contract: another way costs time alone.
     ///
     /// # Errors
     ///
@@ -161,8 +163,11 @@ impl<const PAGES: usize> Memory<PAGES> {
             self.now self.now (Response.Value word) (T.noted notes.old) (T.noted notes.new))) }
         ensures otherwise { IfOk result (λ found. found ≡ None → (translates self.now.mmu || not (nat_lt at (ram_size PAGES))) ≡ true) }
     {
-        let found = self.physical.fetch_in_place(supervisor, at, notes)?;
-        Ok(found)
+        let physical = &self.physical;
+        if physical.mmu.translates() {
+            return fetch_in_place::<true, PAGES, T>(physical, &self.buffer, supervisor, at, notes);
+        }
+        fetch_in_place::<false, PAGES, T>(physical, &self.buffer, supervisor, at, notes)
     }
 
     /// The word that a fetch gives, where it is known at once, and the fetch changes nothing: it is of RAM, and its address is not
@@ -274,11 +279,9 @@ impl<const PAGES: usize> Memory<PAGES> {
         let physical = &mut self.physical;
         let buffer = &mut self.buffer;
         if TRANSLATED {
-            let response = load_translated(physical, buffer, size, asi, at, feed, notes)?;
-            return Ok(response);
+            return load_translated(physical, buffer, size, asi, at, feed, notes);
         }
-        let response = load_untranslated(physical, buffer, size, asi, at, feed, notes)?;
-        Ok(response)
+        load_untranslated(physical, buffer, size, asi, at, feed, notes)
     }
 
     /// Stores to user or supervisor data, as `access` does. It is built as `load_data` is.
@@ -306,11 +309,9 @@ impl<const PAGES: usize> Memory<PAGES> {
         let physical = &mut self.physical;
         let buffer = &mut self.buffer;
         if TRANSLATED {
-            let response = store_translated(physical, buffer, size, asi, at, value, notes)?;
-            return Ok(response);
+            return store_translated(physical, buffer, size, asi, at, value, notes);
         }
-        let response = store_untranslated(physical, buffer, size, asi, at, value, notes)?;
-        Ok(response)
+        store_untranslated(physical, buffer, size, asi, at, value, notes)
     }
 
     /// Makes an interrupt level pending, or no longer pending.

@@ -1,19 +1,18 @@
 //! Accesses at a physical address: RAM, the devices, and the registers of the memory management unit, which record faults.
 
-ghost use Rattle.std.specs.Prelude.{◌≡◌, ℕ, ◌+◌, ◌*◌, ◌%◌, ◌/◌, ◌≤◌, ◌<◌, ◌∷◌, [], ◌||◌, List, true, not, nat_lt, None, IfOk, OnOk, OnErr, MatchOption};
+ghost use Rattle.std.specs.Prelude.{◌≡◌, ℕ, ◌+◌, ◌*◌, ◌%◌, ◌/◌, ◌≤◌, ◌<◌, ◌∷◌, [], List, true, nat_lt, IfOk, OnOk, OnErr};
 ghost use Rattle.sv8_model.specs.Does.{keeping, noting};
 ghost use Rattle.sv8_phys.specs.declared.timer.Timer.{Timer};
 ghost use Rattle.sv8_phys.specs.Memory.{bytes_in, ram_size};
 ghost use Rattle.sv8_mmu.specs.Kept.{DiffersInPage};
-ghost use Rattle.sv8_mmu.specs.Registers.{translates};
 ghost use Rattle.sv8_memory.specs.Units.{served, failed, is_hidden};
 ghost use Rattle.sv8_memory.specs.Feeding.{bytes_fed, IsFed};
-ghost use Rattle.sv8_memory.specs.Access.{access, access_seen, seen_if, load_type, store_type, bus_fault, fetched_from, load_answer, is_word, takes_byte, counts_bytes, plainly_loaded, loaded_from, answer_to_store, stored_at, exchanged_at};
+ghost use Rattle.sv8_memory.specs.Access.{access_seen, seen_if, load_type, store_type, bus_fault, fetched_from, load_answer, is_word, takes_byte, counts_bytes, plainly_loaded, loaded_from, answer_to_store, stored_at, exchanged_at};
 ghost use Rattle.sv8_memory.specs.View.{MemoryDoes, units_of};
 
 use crate::feed::Feed;
 use std::alloc::AllocError;
-use sv8_iu::{AccessRequest, Response, low_word};
+use sv8_iu::{Response, low_word};
 use sv8_mmu::{AccessType, Fault, FaultType, Mmu, TableLevel};
 use sv8_phys::{AccessKind, BusError, INPUT, Observation, Phys, Size, Touches, WAITING};
 use sv8_trap::Trap;
@@ -177,6 +176,22 @@ impl<const PAGES: usize> Physical<PAGES> {
 }
 
 impl<const PAGES: usize> Physical<PAGES> {
+    /// Fetches an instruction from RAM. Its address space and its virtual address are of no matter there.
+    #[inline(always)]
+    pub fn fetch_ram<T: Touches>(&self, pa: u64, notes: &mut T) -> Result<u64, AllocError>
+        requires within { nat_lt pa (ram_size PAGES) ≡ true }
+        requires aligned { pa % 4 ≡ 0 }
+        ensures { IfOk result (λ word. (asi va : ℕ) (bytes : List ℕ) → MemoryDoes (keeping T.KEEPS T.OBSERVES) bytes (fetched_from (ram_size PAGES) (units_of self.now) asi va pa)
+            self.now self.now (Response.Value word) (T.noted notes.old) (T.noted notes.new)) }
+    {
+        let word = self.phys.read_ram(pa, Size::Word, notes)?;
+        notes.observe(Observation::Fetch {
+            from: pa,
+            word: low_word(word),
+        })?;
+        Ok(word)
+    }
+
     /// Fetches an instruction.
     #[inline(always)]
     #[tactic(auto, unfolding(crate::specs::Access::fetched_from))]
@@ -195,43 +210,11 @@ impl<const PAGES: usize> Physical<PAGES> {
         ensures taken { OnOk result (self.new.phys.taken ≡ self.old.phys.taken) }
     {
         if self.phys.is_ram(pa) {
-            let word = self.phys.read_ram(pa, Size::Word, notes)?;
-            notes.observe(Observation::Fetch {
-                from: pa,
-                word: low_word(word),
-            })?;
+            let word = self.fetch_ram(pa, notes)?;
             Ok(Response::Value(word))
         } else {
             Ok(self.fail_bus(Trap::InstructionAccessException, asi, load_type(asi), va))
         }
-    }
-
-    /// Fetches an instruction as an access does, where addresses are not translated and it stands in RAM; else nothing is done.
-    #[inline(always)]
-    pub fn fetch_in_place<T: Touches>(
-        &self,
-        supervisor: bool,
-        at: u32,
-        notes: &mut T,
-    ) -> Result<Option<u64>, AllocError>
-        requires { at % 4 ≡ 0 }
-        ensures found { IfOk result (λ found. MatchOption found (T.noted notes.new ≡ T.noted notes.old) (λ word. (bytes : List ℕ) → MemoryDoes (keeping T.KEEPS T.OBSERVES) bytes (access (ram_size PAGES) (units_of self.now) (AccessRequest.Fetch supervisor at))
-            self.now self.now (Response.Value word) (T.noted notes.old) (T.noted notes.new))) }
-        ensures otherwise { IfOk result (λ found. found ≡ None → (translates self.now.mmu || not (nat_lt at (ram_size PAGES))) ≡ true) }
-    {
-        let pa = u64::from(at);
-        if self.mmu.translates() {
-            return Ok(None);
-        }
-        if !self.phys.is_ram(pa) {
-            return Ok(None);
-        }
-        let word = self.phys.read_ram(pa, Size::Word, notes)?;
-        notes.observe(Observation::Fetch {
-            from: pa,
-            word: low_word(word),
-        })?;
-        Ok(Some(word))
     }
 
     /// Loads from RAM or a device, but for the console's input.
@@ -258,7 +241,7 @@ impl<const PAGES: usize> Physical<PAGES> {
 
     /// Loads from RAM. The address space is of no matter there.
     #[inline(always)]
-    fn load_ram<T: Touches>(
+    pub fn load_ram<T: Touches>(
         &self,
         size: Size,
         va: u32,
@@ -267,9 +250,10 @@ impl<const PAGES: usize> Physical<PAGES> {
     ) -> Result<Response, AllocError>
         requires within { pa < ram_size PAGES }
         requires aligned { pa % bytes_in size ≡ 0 }
-        ensures ok { IfOk result (λ r. (asi : ℕ) (bytes : List ℕ) → MemoryDoes (keeping T.KEEPS T.OBSERVES) bytes (plainly_loaded (ram_size PAGES) (units_of self.now) size asi va pa)
+        ensures ok { IfOk result (λ r. (asi : ℕ) (bytes : List ℕ) → MemoryDoes (keeping T.KEEPS T.OBSERVES) bytes (loaded_from (ram_size PAGES) (units_of self.now) size asi va pa)
             self.now self.now r (T.noted notes.old) (T.noted notes.new)) }
     {
+        let _size = self.phys.ram_size();
         let value = self.phys.read_ram(pa, size, notes)?;
         notes.observe(seen(AccessKind::Load, size, va, pa))?;
         Ok(Response::Value(value))

@@ -67,8 +67,8 @@ fn fetch<const PAGES: usize, T: Touches>(
 }
 
 /// Loads from RAM or a device at a virtual address.
-#[inline(always)]
-fn load_virtual<const PAGES: usize, T: Touches>(
+#[inline(never)]
+pub fn load_virtual<const PAGES: usize, T: Touches>(
     physical: &mut Physical<PAGES>,
     buffer: &mut Buffer,
     size: Size,
@@ -203,29 +203,6 @@ pub fn load_untranslated<const PAGES: usize, T: Touches>(
     ensures serves { Serves physical.new buffer.now }
 {
     let response = physical.load(size, asi, at, at as u64, feed, notes)?;
-    Ok(response)
-}
-
-/// `load_virtual` as a function of its own, so that a caller in whose way it seldom is has no part of it.
-#[inline(never)]
-pub fn load_translated<const PAGES: usize, T: Touches>(
-    physical: &mut Physical<PAGES>,
-    buffer: &mut Buffer,
-    size: Size,
-    asi: u8,
-    at: u32,
-    feed: Feed<'_>,
-    notes: &mut T,
-) -> Result<Response, AllocError>
-    requires aligned { at % bytes_in size ≡ 0 }
-    requires fed { IsFed feed physical.old.phys }
-    requires serves { Serves physical.old buffer.old }
-    ensures ok { IfOk result (λ r. MemoryDoes (keeping T.KEEPS T.OBSERVES) (bytes_fed feed.entry) (loaded_in (ram_size PAGES) (units_of physical.old) size asi at Space.Virtual)
-        physical.old physical.new r (T.noted notes.old) (T.noted notes.new)) }
-    ensures fed { OnOk result (IsFed feed.entry physical.new.phys) }
-    ensures serves { Serves physical.new buffer.new }
-{
-    let response = load_virtual(physical, buffer, size, asi, at, feed, notes)?;
     Ok(response)
 }
 

@@ -20,7 +20,7 @@ use sv8_trap::Trap;
 
 /// Stores to RAM or a device at a physical address. What the buffer keeps of the page is forgotten.
 #[inline(always)]
-fn store_physical<const PAGES: usize, T: Touches>(
+pub fn store_physical<const PAGES: usize, T: Touches>(
     physical: &mut Physical<PAGES>,
     buffer: &mut Buffer,
     size: Size,
@@ -44,8 +44,8 @@ fn store_physical<const PAGES: usize, T: Touches>(
 }
 
 /// Stores to RAM or a device at a virtual address.
-#[inline(always)]
-fn store_virtual<const PAGES: usize, T: Touches>(
+#[inline(never)]
+pub fn store_virtual<const PAGES: usize, T: Touches>(
     physical: &mut Physical<PAGES>,
     buffer: &mut Buffer,
     size: Size,
@@ -276,27 +276,5 @@ pub fn store_untranslated<const PAGES: usize, T: Touches>(
     ensures serves { Serves physical.new buffer.new }
 {
     let response = store_physical(physical, buffer, size, asi, at, at as u64, value, notes)?;
-    Ok(response)
-}
-
-/// `store_virtual` as a function of its own, as `load_translated` is.
-#[inline(never)]
-pub fn store_translated<const PAGES: usize, T: Touches>(
-    physical: &mut Physical<PAGES>,
-    buffer: &mut Buffer,
-    size: Size,
-    asi: u8,
-    at: u32,
-    value: u64,
-    notes: &mut T,
-) -> Result<Response, AllocError>
-    requires aligned { at % bytes_in size ≡ 0 }
-    requires serves { Serves physical.old buffer.old }
-    ensures ok { IfOk result (λ r. (bytes : List ℕ) → MemoryDoes (keeping T.KEEPS T.OBSERVES) bytes (stored_in (ram_size PAGES) (units_of physical.old) size asi at value Space.Virtual)
-        physical.old physical.new r (T.noted notes.old) (T.noted notes.new)) }
-    ensures taken { OnOk result (physical.new.phys.taken ≡ physical.old.phys.taken) }
-    ensures serves { Serves physical.new buffer.new }
-{
-    let response = store_virtual(physical, buffer, size, asi, at, value, notes)?;
     Ok(response)
 }

@@ -25,7 +25,8 @@ use Rattle.sv8_trap.specs.Interrupt.{highest_from, highest}
 use Rattle.sv8_iu.specs.declared.request.AccessRequest.TheVariants.{Fetch}
 use Rattle.sv8_memory.specs.Units.{Units, Served}
 use Rattle.sv8_memory.specs.Access.{at_virtual, fetched_from, access}
-use Rattle.sv8_cpu.specs.Step.{Inner, trap_seen, fetched, with_timer, instruction, continued, requested, interruptible, awake, action}
+use Rattle.sv8_iu.specs.Seen.{trap_seen}
+use Rattle.sv8_cpu.specs.Step.{Inner, fetched, with_timer, instruction, continued, requested, interruptible, awake, action}
 use Rattle.sv8_cpu.specs.State.{inner_of}
 use Rattle.sv8_cpu.specs.Run as run
 use Rattle.sv8_cpu.specs.Touching.{touches_byte, IsInterrupted, FetchesTouch, AnnulledStepsPass}

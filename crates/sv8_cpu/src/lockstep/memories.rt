@@ -89,11 +89,9 @@ fn store<const PAGES: usize>(
     ensures taken { OnOk result (memory.new.phys.taken ≡ memory.old.phys.taken) }
 {
     if memory.translates() {
-        let response = memory.store_data::<true, NoTouches>(size, asi, at, value, &mut NoTouches)?;
-        return Ok(response);
+        return memory.store_data::<true, NoTouches>(size, asi, at, value, &mut NoTouches);
     }
-    let response = memory.store_data::<false, NoTouches>(size, asi, at, value, &mut NoTouches)?;
-    Ok(response)
+    memory.store_data::<false, NoTouches>(size, asi, at, value, &mut NoTouches)
 }
 
 /// Stores to both memories in a step of both timers, where it is known at once that both answer it. Tells whether it has; where it

@@ -1,26 +1,18 @@
-use Rattle.std.proofs.Common.{refl, sym}
-use Rattle.sv8_cpu.proofs.Ordinary.{plainly_carried_out, loads, stores}
+use Rattle.std.proofs.Common.{refl}
+use Rattle.sv8_cpu.proofs.Ordinary.{loads, stores}
 use Rattle.sv8_cpu.proofs.lockstep.complete_both.Goals as goal
-
-pub returns-in_ok-count_down_both-in-Nothing-clause-own : goal.returns-in_ok-count_down_both-in-Nothing-clause-own
-returns-in_ok-count_down_both-in-Nothing-clause-own g c = λ word is.
-    plainly_carried_out _ _ _ _ _ _ _ (rw (← is) (c.requires.no_trap, sym c.in-Nothing.ensures.value, c.complete.ensures)) c.in_ok-count_down_both-in-Nothing.ensures.own
-
-pub returns-in_ok-count_down_both-in-Nothing-clause-others : goal.returns-in_ok-count_down_both-in-Nothing-clause-others
-returns-in_ok-count_down_both-in-Nothing-clause-others g c = λ word is.
-    plainly_carried_out _ _ _ _ _ _ _ (rw (← is) (c.requires.no_trap, sym c.in-Nothing.ensures.value, c.complete.ensures)) c.in_ok-count_down_both-in-Nothing.ensures.others
 
 pub returns-in_ok-count_down_both-in-Load-clause-own : goal.returns-in_ok-count_down_both-in-Load-clause-own
 returns-in_ok-count_down_both-in-Load-clause-own g c = λ word is.
     let told = c.in_ok-value-in-Load.ensures.own in
     let loaded = rw c.in-Some.is at told in
-    loads _ _ _ _ _ _ c.args.instr c.in-Some.value is c.requires.no_trap c.complete-in-Load.ensures _ _ _ _ c.in-Load.ensures.value loaded c.in_ok-count_down_both-in-Load.ensures.own
+    loads _ _ _ _ _ _ c.args.instr c.in-Some.value is c.requires.no_trap c.complete.ensures _ _ _ _ c.in-Load.ensures.value loaded c.in_ok-count_down_both-in-Load.ensures.own
 
 pub returns-in_ok-count_down_both-in-Load-clause-others : goal.returns-in_ok-count_down_both-in-Load-clause-others
 returns-in_ok-count_down_both-in-Load-clause-others g c = λ word is.
     let told = c.in_ok-value-in-Load.ensures.others in
     let loaded = rw c.in-Some.is at told in
-    loads _ _ _ _ _ _ c.args.instr c.in-Some.value is c.requires.no_trap c.complete-in-Load.ensures _ _ _ _ c.in-Load.ensures.value loaded c.in_ok-count_down_both-in-Load.ensures.others
+    loads _ _ _ _ _ _ c.args.instr c.in-Some.value is c.requires.no_trap c.complete.ensures _ _ _ _ c.in-Load.ensures.value loaded c.in_ok-count_down_both-in-Load.ensures.others
 
 pub returns-else-not-stored-clause-own : goal.returns-else-not-stored-clause-own
 returns-else-not-stored-clause-own g c = λ word is.

@@ -1,22 +1,19 @@
-//! A way of its own for the frequent loads and stores, beside that of other frequent instructions (`sv8_iu`).
-//!
-//! `carry_out_word` of the machine carries out every instruction. What is here carries out some of them by a shorter way, tells
-//! whether it has, and leaves all others as they are.
+//! Loads and stores (Appendices B.1 to B.8).
 
-ghost use Rattle.std.specs.Prelude.{◌≡◌, ℕ, ◌%◌, ◌≤◌, ◌<◌, None, true, false, MatchBool, MatchOption, IfOk, OnOk};
+ghost use Rattle.std.specs.Prelude.{◌≡◌, ℕ, ◌%◌, ◌<◌, None, true, false, MatchOption, IfOk, OnOk};
 ghost use Rattle.sv8_model.specs.Does.{keeping};
 ghost use Rattle.sv8_isa.specs.Registers.{OperandHasRegister};
 ghost use Rattle.sv8_isa.specs.Table.{group_of, meaning};
-ghost use Rattle.sv8_mmu.specs.Registers.{translates};
 ghost use Rattle.sv8_phys.specs.Memory.{bytes_in, ram_size};
+ghost use Rattle.sv8_mmu.specs.Registers.{translates};
 ghost use Rattle.sv8_memory.specs.Feeding.{bytes_fed, IsFed};
 ghost use Rattle.sv8_memory.specs.Access.{access};
 ghost use Rattle.sv8_iu.specs.Instruction.{data_space};
-ghost use Rattle.sv8_iu.specs.Memory.{size_of, access_of};
+ghost use Rattle.sv8_iu.specs.Memory.{access_of, size_of};
 ghost use Rattle.sv8_iu.specs.Operands.{sum_of_sources};
-ghost use Rattle.sv8_cpu.specs.Step.{answered};
+ghost use Rattle.sv8_cpu.specs.Step.{answered, carried_out};
 ghost use Rattle.sv8_memory.specs.View.{MemoryDoes, units_of};
-ghost use Rattle.sv8_cpu.specs.Whole.{MayCarryOut};
+ghost use Rattle.sv8_cpu.specs.Whole.{inner_of_parts, Acts};
 
 use crate::parts::{Parts, show_refusal};
 use std::alloc::AllocError;
@@ -26,7 +23,7 @@ use sv8_memory::{Feed, Memory};
 use sv8_phys::{Size, Touches};
 use sv8_trap::Processor;
 
-/// Makes the access of a load or a store of a word or a byte.
+/// Makes the access of a load or a store of a word or a byte. `None` for the others: nothing is done.
 #[inline(always)]
 #[tactic(auto, unfolding(sv8_iu::specs::Memory::access_of))]
 fn make_access<const NW: usize, const PAGES: usize, const TRANSLATED: bool, T: Touches>(
@@ -78,184 +75,185 @@ fn finish<const NW: usize>(p: &mut Processor<NW>, op: MemoryOp, rd: u8, response
 }
 
 impl<const NW: usize, const PAGES: usize> Parts<NW, PAGES> {
-    /// Makes the access of a load or a store at an address and completes it, if it is one of a word or a byte and raises no trap before its access.
+    /// Carries out a load or a store at an address.
     #[inline(always)]
     #[tactic(auto, using(sv8_iu::proofs::Choices::aligned_access))]
     fn complete_transfer<const TRANSLATED: bool, T: Touches>(
         &mut self,
+        word: u32,
         op: MemoryOp,
         rd: u8,
         at: u32,
         feed: Feed<'_>,
         notes: &mut T,
-    ) -> Result<bool, AllocError>
+    ) -> Result<(), AllocError>
         requires translated { translates self.old.memory.mmu ≡ TRANSLATED }
         requires rd { rd < 32 }
         requires fed { IsFed feed self.old.memory.phys }
-        ensures { IfOk result (λ found. (word rs1 : ℕ) (operand : Operand) → Instr.Memory op rd rs1 operand ≡ meaning word
-            → at ≡ sum_of_sources NW self.old.processor rs1 operand → MayCarryOut (keeping T.KEEPS T.OBSERVES) feed.entry word self.old self.new (T.noted notes.old) (T.noted notes.new) found) }
+        ensures { OnOk result ((rs1 : ℕ) (operand : Operand) → meaning word ≡ Instr.Memory op rd rs1 operand → at ≡ sum_of_sources NW self.old.processor rs1 operand
+            → Acts (keeping T.KEEPS T.OBSERVES) feed.entry (carried_out NW (ram_size PAGES) (inner_of_parts self.old) word) self.old self.new (T.noted notes.old) (T.noted notes.new)) }
     {
         match memory_trap(op, rd, at) {
-            Some(_) => Ok(false),
+            Some(_) => self.carry_out_word(word, feed, notes),
             None => {
                 let p = &self.processor;
                 let memory = &mut self.memory;
                 match make_access::<NW, PAGES, TRANSLATED, T>(p, memory, op, rd, at, feed, notes)? {
-                    None => Ok(false),
+                    None => self.carry_out_word(word, feed, notes),
                     Some(response) => {
                         show_refusal(response, notes)?;
                         finish(&mut self.processor, op, rd, response);
-                        Ok(true)
+                        Ok(())
                     }
                 }
             }
         }
     }
 
-    /// `complete_transfer` as a call, where addresses are not translated: for those that are not of RAM.
+    /// The same as a call, where addresses are not translated: for those that are not of RAM.
     #[inline(never)]
     fn complete_outside_ram<T: Touches>(
         &mut self,
+        word: u32,
         op: MemoryOp,
         rd: u8,
         at: u32,
         feed: Feed<'_>,
         notes: &mut T,
-    ) -> Result<bool, AllocError>
+    ) -> Result<(), AllocError>
         requires untranslated { translates self.old.memory.mmu ≡ false }
         requires rd { rd < 32 }
         requires fed { IsFed feed self.old.memory.phys }
-        ensures { IfOk result (λ found. (word rs1 : ℕ) (operand : Operand) → Instr.Memory op rd rs1 operand ≡ meaning word
-            → at ≡ sum_of_sources NW self.old.processor rs1 operand → MayCarryOut (keeping T.KEEPS T.OBSERVES) feed.entry word self.old self.new (T.noted notes.old) (T.noted notes.new) found) }
+        ensures { OnOk result ((rs1 : ℕ) (operand : Operand) → meaning word ≡ Instr.Memory op rd rs1 operand → at ≡ sum_of_sources NW self.old.processor rs1 operand
+            → Acts (keeping T.KEEPS T.OBSERVES) feed.entry (carried_out NW (ram_size PAGES) (inner_of_parts self.old) word) self.old self.new (T.noted notes.old) (T.noted notes.new)) }
     {
-        self.complete_transfer::<false, T>(op, rd, at, feed, notes)
+        self.complete_transfer::<false, T>(word, op, rd, at, feed, notes)
     }
 
-    /// Makes the access of a load or a store with these fields and completes it, as `complete_transfer` does, where addresses are
-    /// not translated. In the built program an address of RAM has no device in its way.
+    /// Carries out a load or a store with these fields, where addresses are not translated. In the built program an address of RAM
+    /// has no device in its way.
     #[inline(always)]
     fn transfer_in_place<T: Touches>(
         &mut self,
+        word: u32,
         op: MemoryOp,
         rd: u8,
         rs1: u8,
         operand: Operand,
         feed: Feed<'_>,
         notes: &mut T,
-    ) -> Result<bool, AllocError>
+    ) -> Result<(), AllocError>
         requires untranslated { translates self.old.memory.mmu ≡ false }
         requires rd { rd < 32 }
         requires rs1 { rs1 < 32 }
         requires operand { OperandHasRegister operand }
+        requires word { meaning word ≡ Instr.Memory op rd rs1 operand }
         requires fed { IsFed feed self.old.memory.phys }
-        ensures { IfOk result (λ found. (word : ℕ) → Instr.Memory op rd rs1 operand ≡ meaning word
-            → MayCarryOut (keeping T.KEEPS T.OBSERVES) feed.entry word self.old self.new (T.noted notes.old) (T.noted notes.new) found) }
+        ensures { OnOk result (Acts (keeping T.KEEPS T.OBSERVES) feed.entry (carried_out NW (ram_size PAGES) (inner_of_parts self.old) word)
+            self.old self.new (T.noted notes.old) (T.noted notes.new)) }
     {
         let at = sum_of_sources(&self.processor, rs1, operand);
         if self.memory.phys().is_ram(u64::from(at)) {
-            let found = self.complete_transfer::<false, T>(op, rd, at, feed, notes)?;
-            return Ok(found);
+            return self.complete_transfer::<false, T>(word, op, rd, at, feed, notes);
         }
-        let found = self.complete_outside_ram(op, rd, at, feed, notes)?;
-        Ok(found)
+        self.complete_outside_ram(word, op, rd, at, feed, notes)
     }
 
-    /// The same, with an arm for each operation: so the built program asks once which one it is, and has code for each.
+    /// The same, with an arm for each frequent operation: so the built program asks once which one it is, and has code for each.
     #[inline(always)]
     fn transfer<T: Touches>(
         &mut self,
+        word: u32,
         op: MemoryOp,
         rd: u8,
         rs1: u8,
         operand: Operand,
         feed: Feed<'_>,
         notes: &mut T,
-    ) -> Result<bool, AllocError>
+    ) -> Result<(), AllocError>
         requires untranslated { translates self.old.memory.mmu ≡ false }
         requires rd { rd < 32 }
         requires rs1 { rs1 < 32 }
         requires operand { OperandHasRegister operand }
+        requires word { meaning word ≡ Instr.Memory op rd rs1 operand }
         requires fed { IsFed feed self.old.memory.phys }
-        ensures { IfOk result (λ found. (word : ℕ) → Instr.Memory op rd rs1 operand ≡ meaning word
-            → MayCarryOut (keeping T.KEEPS T.OBSERVES) feed.entry word self.old self.new (T.noted notes.old) (T.noted notes.new) found) }
+        ensures { OnOk result (Acts (keeping T.KEEPS T.OBSERVES) feed.entry (carried_out NW (ram_size PAGES) (inner_of_parts self.old) word)
+            self.old self.new (T.noted notes.old) (T.noted notes.new)) }
     {
         match op {
             MemoryOp::Ld => {
                 let op = MemoryOp::Ld;
-                self.transfer_in_place(op, rd, rs1, operand, feed, notes)
+                self.transfer_in_place(word, op, rd, rs1, operand, feed, notes)
             }
             MemoryOp::Ldub => {
                 let op = MemoryOp::Ldub;
-                self.transfer_in_place(op, rd, rs1, operand, feed, notes)
+                self.transfer_in_place(word, op, rd, rs1, operand, feed, notes)
             }
             MemoryOp::St => {
                 let op = MemoryOp::St;
-                self.transfer_in_place(op, rd, rs1, operand, feed, notes)
+                self.transfer_in_place(word, op, rd, rs1, operand, feed, notes)
             }
             MemoryOp::Stb => {
                 let op = MemoryOp::Stb;
-                self.transfer_in_place(op, rd, rs1, operand, feed, notes)
+                self.transfer_in_place(word, op, rd, rs1, operand, feed, notes)
             }
-            _ => Ok(false),
+            _ => self.carry_out_word(word, feed, notes),
         }
     }
 
-    /// Carries out a load or a store of a word or a byte that raises no trap before its access, where addresses are translated
-    /// (Appendices B.1 and B.4).
+    /// Carries out a word of op 3 where addresses are translated. It is a function of its own, so that its frame is not made where
+    /// they are not.
     #[inline(never)]
     fn carry_out_translated<T: Touches>(
         &mut self,
         word: u32,
         feed: Feed<'_>,
         notes: &mut T,
-    ) -> Result<bool, AllocError>
+    ) -> Result<(), AllocError>
         requires group { group_of word ≡ Group.Memory }
         requires translated { translates self.old.memory.mmu ≡ true }
         requires fed { IsFed feed self.old.memory.phys }
-        ensures { IfOk result (MayCarryOut (keeping T.KEEPS T.OBSERVES) feed.entry word self.old self.new (T.noted notes.old) (T.noted notes.new)) }
+        ensures { OnOk result (Acts (keeping T.KEEPS T.OBSERVES) feed.entry (carried_out NW (ram_size PAGES) (inner_of_parts self.old) word)
+            self.old self.new (T.noted notes.old) (T.noted notes.new)) }
     {
-        match decode_memory(word) {
-            Instr::Memory {
-                op,
-                rd,
-                rs1,
-                operand,
-            } => {
-                let at = sum_of_sources(&self.processor, rs1, operand);
-                let found = self.complete_transfer::<true, T>(op, rd, at, feed, notes)?;
-                Ok(found)
-            }
-            _ => Ok(false),
-        }
+        let Instr::Memory {
+            op,
+            rd,
+            rs1,
+            operand,
+        } = decode_memory(word)
+        else {
+            return self.carry_out_word(word, feed, notes);
+        };
+        let at = sum_of_sources(&self.processor, rs1, operand);
+        self.complete_transfer::<true, T>(word, op, rd, at, feed, notes)
     }
 
-    /// Carries out a load or a store of a word or a byte that raises no trap before its access (Appendices B.1 and B.4). Tells
-    /// whether it has; where it has not, nothing has changed.
+    /// Carries out a load or a store (Appendices B.1 to B.8), and every other word of op 3.
     #[inline(never)]
-    pub fn carry_out_access<T: Touches>(
+    pub fn carry_out_transfer<T: Touches>(
         &mut self,
         word: u32,
         feed: Feed<'_>,
         notes: &mut T,
-    ) -> Result<bool, AllocError>
+    ) -> Result<(), AllocError>
         requires group { group_of word ≡ Group.Memory }
         requires fed { IsFed feed self.old.memory.phys }
-        ensures { IfOk result (MayCarryOut (keeping T.KEEPS T.OBSERVES) feed.entry word self.old self.new (T.noted notes.old) (T.noted notes.new)) }
+        ensures { OnOk result (Acts (keeping T.KEEPS T.OBSERVES) feed.entry (carried_out NW (ram_size PAGES) (inner_of_parts self.old) word)
+            self.old self.new (T.noted notes.old) (T.noted notes.new)) }
     {
         if self.memory.translates() {
             return self.carry_out_translated(word, feed, notes);
         }
-        match decode_memory(word) {
-            Instr::Memory {
-                op,
-                rd,
-                rs1,
-                operand,
-            } => {
-                let found = self.transfer(op, rd, rs1, operand, feed, notes)?;
-                Ok(found)
-            }
-            _ => Ok(false),
-        }
+        let Instr::Memory {
+            op,
+            rd,
+            rs1,
+            operand,
+        } = decode_memory(word)
+        else {
+            return self.carry_out_word(word, feed, notes);
+        };
+        self.transfer(word, op, rd, rs1, operand, feed, notes)
     }
 }

@@ -1,0 +1,22 @@
+//! What an observer sees of traps.
+
+ghost use Rattle.std.specs.Prelude.{◌≡◌, ◌∷◌, [], OnOk};
+ghost use Rattle.sv8_model.specs.Does.{noting, keeping};
+ghost use Rattle.sv8_iu.specs.Seen.{trap_seen};
+
+use std::alloc::AllocError;
+use sv8_phys::{Observation, Touches};
+use sv8_trap::Trap;
+
+/// Lets an observer see a trap: its type.
+///
+/// # Errors
+///
+/// `AllocError` where memory for the note cannot be had.
+#[inline(always)]
+pub fn show_trap<T: Touches>(trap: Trap, notes: &mut T) -> Result<(), AllocError>
+    ensures { OnOk result (T.noted notes.new ≡ noting (keeping T.KEEPS T.OBSERVES) (T.noted notes.old) [] (trap_seen trap ∷ [])) }
+{
+    notes.observe(Observation::Trap(trap.row().trap_type))?;
+    Ok(())
+}
