@@ -1,7 +1,7 @@
-//! Fetches, loads and stores of RAM at an address that is known at once: addresses are not translated, or the walk of its page
+//! Fetches, loads and stores at an address of RAM that is known at once: addresses are not translated, or the walk of its page
 //! was used last, and the access is allowed and sets no mark.
 
-ghost use Rattle.std.specs.Prelude.{◌≡◌, ℕ, ◌%◌, ◌||◌, List, true, not, nat_lt, None, IfOk, OnOk, MatchOption};
+ghost use Rattle.std.specs.Prelude.{◌≡◌, ℕ, ◌%◌, List, true, false, not, nat_lt, None, IfOk, OnOk, MatchOption};
 ghost use Rattle.sv8_model.specs.Does.{keeping};
 ghost use Rattle.sv8_phys.specs.Memory.{bytes_in, ram_size};
 ghost use Rattle.sv8_mmu.specs.Registers.{translates};
@@ -16,43 +16,58 @@ use crate::spaces::{instruction_space, load_virtual};
 use crate::stores::{store_physical, store_virtual};
 use std::alloc::AllocError;
 use sv8_iu::{AccessRequest, Response, Space};
-use sv8_mmu::{Buffer, Reach, VirtualAccess, resolve_in_ram};
+use sv8_mmu::{Buffer, Reach, VirtualAccess, resolve_by_memo};
 use sv8_phys::{Size, Touches};
 
-/// Fetches an instruction. It is built for addresses that are translated, and for others.
+/// Fetches an instruction, where addresses are translated.
 #[inline(always)]
-pub fn fetch_in_place<const TRANSLATED: bool, const PAGES: usize, T: Touches>(
+pub fn fetch_translated<const PAGES: usize, T: Touches>(
     physical: &Physical<PAGES>,
     buffer: &Buffer,
     supervisor: bool,
     at: u32,
     notes: &mut T,
 ) -> Result<Option<u64>, AllocError>
+    requires translated { translates physical.now.mmu ≡ true }
     requires aligned { at % 4 ≡ 0 }
-    requires translated { translates physical.now.mmu ≡ TRANSLATED }
     requires serves { Serves physical.now buffer.now }
-    ensures found { IfOk result (λ found. MatchOption found (T.noted notes.new ≡ T.noted notes.old) (λ word. (bytes : List ℕ) → MemoryDoes (keeping T.KEEPS T.OBSERVES) bytes (access (ram_size PAGES) (units_of physical.now) (AccessRequest.Fetch supervisor at))
+    ensures { IfOk result (λ found. MatchOption found (T.noted notes.new ≡ T.noted notes.old) (λ word. (bytes : List ℕ) → MemoryDoes (keeping T.KEEPS T.OBSERVES) bytes (access (ram_size PAGES) (units_of physical.now) (AccessRequest.Fetch supervisor at))
         physical.now physical.now (Response.Value word) (T.noted notes.old) (T.noted notes.new))) }
-    ensures otherwise { IfOk result (λ found. found ≡ None → (TRANSLATED || not (nat_lt at (ram_size PAGES))) ≡ true) }
 {
     let access = VirtualAccess {
         address: at,
         access_type: load_type(instruction_space(supervisor)),
         reach: Reach::Ram,
     };
-    match resolve_in_ram::<TRANSLATED, PAGES, T>(
-        &physical.mmu,
-        buffer,
-        &physical.phys,
-        access,
-        notes,
-    )? {
+    match resolve_by_memo(&physical.mmu, buffer, &physical.phys, access, notes)? {
         Some(pa) => {
             let word = physical.fetch_ram(pa, notes)?;
             Ok(Some(word))
         }
         None => Ok(None),
     }
+}
+
+/// Fetches an instruction, where addresses are not translated.
+#[inline(always)]
+pub fn fetch_untranslated<const PAGES: usize, T: Touches>(
+    physical: &Physical<PAGES>,
+    supervisor: bool,
+    at: u32,
+    notes: &mut T,
+) -> Result<Option<u64>, AllocError>
+    requires untranslated { translates physical.now.mmu ≡ false }
+    requires aligned { at % 4 ≡ 0 }
+    ensures found { IfOk result (λ found. MatchOption found (T.noted notes.new ≡ T.noted notes.old) (λ word. (bytes : List ℕ) → MemoryDoes (keeping T.KEEPS T.OBSERVES) bytes (access (ram_size PAGES) (units_of physical.now) (AccessRequest.Fetch supervisor at))
+        physical.now physical.now (Response.Value word) (T.noted notes.old) (T.noted notes.new))) }
+    ensures otherwise { IfOk result (λ found. found ≡ None → not (nat_lt at (ram_size PAGES)) ≡ true) }
+{
+    let pa = u64::from(at);
+    if !physical.phys.is_ram(pa) {
+        return Ok(None);
+    }
+    let word = physical.fetch_ram(pa, notes)?;
+    Ok(Some(word))
 }
 
 /// Loads at a virtual address, where addresses are translated.
@@ -76,7 +91,7 @@ fn load_in_place<const PAGES: usize, T: Touches>(
         access_type: load_type(asi),
         reach: reach_of(size),
     };
-    match resolve_in_ram::<true, PAGES, T>(&physical.mmu, buffer, &physical.phys, access, notes)? {
+    match resolve_by_memo(&physical.mmu, buffer, &physical.phys, access, notes)? {
         Some(pa) => {
             let response = physical.load_ram(size, at, pa, notes)?;
             Ok(Some(response))
@@ -137,7 +152,7 @@ fn store_in_place<const PAGES: usize, T: Touches>(
         access_type: store_type(asi),
         reach: reach_of(size),
     };
-    match resolve_in_ram::<true, PAGES, T>(&physical.mmu, buffer, &physical.phys, access, notes)? {
+    match resolve_by_memo(&physical.mmu, buffer, &physical.phys, access, notes)? {
         Some(pa) => {
             let response = store_physical(physical, buffer, size, asi, at, pa, value, notes)?;
             Ok(Some(response))

@@ -19,7 +19,7 @@ ghost use Rattle.sv8_memory.specs.View.{IsTaken, MemoryDoes, timed_units, units_
 use crate::at_once::{fetched_at_once, is_stored_at_once, loaded_at_once, waiting_at_once};
 use crate::events::happen;
 use crate::feed::Feed;
-use crate::in_place::{fetch_in_place, load_translated, store_translated};
+use crate::in_place::{fetch_translated, fetch_untranslated, load_translated, store_translated};
 use crate::physical::Physical;
 use crate::spaces::{access, load_untranslated};
 use crate::stores::store_untranslated;
@@ -165,9 +165,9 @@ impl<const PAGES: usize> Memory<PAGES> {
     {
         let physical = &self.physical;
         if physical.mmu.translates() {
-            return fetch_in_place::<true, PAGES, T>(physical, &self.buffer, supervisor, at, notes);
+            return fetch_translated(physical, &self.buffer, supervisor, at, notes);
         }
-        fetch_in_place::<false, PAGES, T>(physical, &self.buffer, supervisor, at, notes)
+        fetch_untranslated(physical, supervisor, at, notes)
     }
 
     /// The word that a fetch gives, where it is known at once, and the fetch changes nothing: it is of RAM, and its address is not

@@ -23,5 +23,5 @@ pub use probing::{ProbeKind, probe, probe_by_address};
 pub use registers::{Fault, Mmu};
 pub use table_level::TableLevel;
 pub use translation::{
-    Reach, Translated, VirtualAccess, address_in_ram, is_device, resolve, resolve_in_ram,
+    Reach, Translated, VirtualAccess, address_in_ram, is_device, resolve, resolve_by_memo,
 };

@@ -1,6 +1,6 @@
 //! Translation of a virtual address.
 
-ghost use Rattle.std.specs.Prelude.{◌≡◌, ℕ, ◌<◌, ◌≤◌, ◌+◌, ◌*◌, ◌/◌, ◌%◌, ◌^◌, ◌||◌, List, [], ◌++◌, IfOk, IfSome, MatchOption, None, OnOk, OnErr, nat_lt, not, true, slice_index_or};
+ghost use Rattle.std.specs.Prelude.{◌≡◌, ℕ, ◌<◌, ◌≤◌, ◌+◌, ◌*◌, ◌/◌, ◌%◌, ◌^◌, List, [], ◌++◌, IfOk, IfSome, MatchOption, OnOk, OnErr, nat_lt, true, slice_index_or};
 ghost use Rattle.sv8_model.specs.Outside.{Outside, with_word};
 ghost use Rattle.sv8_model.specs.Does.{Does, DoesUnnoted, kept, noting, keeping, touching, no_notes};
 ghost use Rattle.sv8_phys.specs.Memory.{ram_size};
@@ -340,36 +340,29 @@ pub fn address_in_ram<const PAGES: usize>(
     if phys.is_ram(pa) { Some(pa) } else { None }
 }
 
-/// Gives the physical address of an access in RAM where it is known at once, as `address_in_ram` does, and notes what the walk
-/// of its page read. Where it is not, nothing is done or noted. It is built for addresses that are translated, or for others:
-/// what is built for others has no translation in its way.
+/// Gives the physical address of an access in RAM, where addresses are translated and it is known at once, as `address_in_ram`
+/// does, and notes what the walk of its page read. Where it is not known, nothing is done or noted.
 ///
 /// # Errors
 ///
 /// `AllocError` where memory for a note cannot be had.
 #[inline(always)]
-#[tactic(auto, unfolding(crate::specs::Translation::translate))]
-pub fn resolve_in_ram<const TRANSLATED: bool, const PAGES: usize, T: Touches>(
+pub fn resolve_by_memo<const PAGES: usize, T: Touches>(
     registers: &Mmu,
     buffer: &Buffer,
     phys: &Phys<PAGES>,
     access: VirtualAccess,
     notes: &mut T,
 ) -> Result<Option<u64>, AllocError>
-    requires translated { translates registers.now ≡ TRANSLATED }
+    requires translated { translates registers.now ≡ true }
     requires stand { AllStand (ram_size PAGES) phys.now.ram registers.now.table_pointer buffer.now }
     ensures found { IfOk result (λ found. MatchOption found (T.noted notes.new ≡ T.noted notes.old)
         (λ pa. (bytes : List ℕ) → Does (keeping T.KEEPS T.OBSERVES) (translate (ram_size PAGES) registers.now access.address access.access_type access.reach)
         (outside_of phys.now bytes) (outside_of phys.now bytes) (Translated.At pa) (T.noted notes.old) (T.noted notes.new))) }
     ensures ram { IfOk result (λ found. IfSome found (λ pa. nat_lt pa (ram_size PAGES) ≡ true)) }
     ensures answer { IfOk result (λ found. IfSome found (λ pa. IsTranslation access.address (Translated.At pa))) }
-    ensures otherwise { IfOk result (λ found. found ≡ None → (TRANSLATED || not (nat_lt access.address (ram_size PAGES))) ≡ true) }
     ensures err { OnErr result (T.KEEPS ≡ true) }
 {
-    if !TRANSLATED {
-        let pa = access.address as u64;
-        return Ok(if phys.is_ram(pa) { Some(pa) } else { None });
-    }
     match find_shortcut(registers, buffer, phys, access) {
         Some((pa, trail)) => {
             note_reads(trail, notes)?;
@@ -438,7 +431,7 @@ pub fn resolve<const PAGES: usize, T: Touches>(
     if !registers.translates() {
         return Ok(Translated::At(access.address as u64));
     }
-    if let Some(pa) = resolve_in_ram::<true, PAGES, T>(registers, buffer, phys, access, notes)? {
+    if let Some(pa) = resolve_by_memo(registers, buffer, phys, access, notes)? {
         return Ok(Translated::At(pa));
     }
     let answer = translate_by_tables(registers, buffer, phys, access, notes)?;
