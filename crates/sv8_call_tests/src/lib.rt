@@ -1,7 +1,7 @@
-//! Tests of the calls of crates below the commands: lines, statements and sources, translations and probes, which trap
-//! a word takes that makes no access, what a machine has put out and what is seen of its steps, where addresses lie, in
-//! what two machines differ, and the workbench with its edits, its recorded run and its copies. These stand here, and
-//! not in the crates that they test, as each crate with tests is proved twice.
+//! Tests of the calls of crates below the commands: lines, statements and sources, translations and probes, what a
+//! machine has put out and what is seen of its steps, where addresses lie, in what two machines differ, and the
+//! workbench with its edits, its recorded run and its copies. These stand here, and not in the crates that they test, as
+//! each crate with tests is proved twice.
 #![tactic(auto)]
 
 #[cfg(test)]
@@ -30,8 +30,6 @@ mod timelines;
 mod translation;
 #[cfg(test)]
 mod trapless;
-#[cfg(test)]
-mod unaided;
 #[cfg(test)]
 mod unreached;
 #[cfg(test)]
