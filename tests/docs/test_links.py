@@ -10,6 +10,7 @@ TOP = Path(__file__).resolve().parents[2]
 DOCUMENTS = [TOP / "README.md", TOP / "CHANGELOG.md", *sorted((TOP / "docs").glob("*.md"))]
 LINK = re.compile(r"\]\(([^)\s]+)\)")
 PLACE = re.compile(r"`((?:docs|crates|lib|tests|tools|bench|examples|\.ci)/[\w./-]+)`")
+FILE_OF_A_CRATE = re.compile(r"`((?:sv8_|sparc8)\w*/[\w./-]+)`")
 PLACEHOLDER = re.compile(r"(?:^|/)(?:[A-Z]+|NAME[-.][\w.-]*)(?=/|$)")
 HEAD = re.compile(r"^#+ (.*)$", re.MULTILINE)
 
@@ -48,6 +49,13 @@ class Links(unittest.TestCase):
                 for place in PLACE.findall(document.read_text()):
                     with self.subTest(document=document.name, place=place):
                         self.assertTrue(PLACEHOLDER.search(place) or (TOP / place).exists())
+
+    def test_each_file_of_a_crate_that_is_named_is_there(self) -> None:
+        for document in DOCUMENTS:
+            if document.name != "CHANGELOG.md":
+                for place in FILE_OF_A_CRATE.findall(document.read_text()):
+                    with self.subTest(document=document.name, place=place):
+                        self.assertTrue((TOP / "crates" / place).exists())
 
     def test_each_document_stands_in_the_index(self) -> None:
         index = (TOP / "docs/README.md").read_text()

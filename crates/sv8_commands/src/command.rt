@@ -1,7 +1,7 @@
 //! Commands, and how a line reads as one.
 ghost use Rattle.std.specs.Prelude.{◌≡◌, Some, None, MatchResult};
 ghost use Rattle.sv8_commands.specs.Words.{words_of};
-ghost use Rattle.sv8_commands.specs.Commands.{command_of, edit_of, poke_of, query_of};
+ghost use Rattle.sv8_commands.specs.Commands.{command_of, edit_of, timeline_of, poke_of, query_of, asking_of};
 
 use crate::hex_bytes::HexBytes;
 use crate::operands::{
@@ -10,36 +10,33 @@ use crate::operands::{
     read_three_numbers, read_two_numbers,
 };
 use crate::words::next_word;
+use sv8_time::TimelineEdit;
+
+/// A query of a workbench.
+#[derive(Clone, Copy)]
+pub enum Query {
+    /// The listing.
+    Listing,
+    /// The machine at a step.
+    Regs { step: u32 },
+    /// Words of RAM at a step.
+    Mem { step: u32, address: u32, count: u32 },
+    /// The bytes put out at the console below a step.
+    Out { step: u32 },
+}
 
 /// A command, as one line gives it.
 #[derive(Drop)]
 pub enum Command<'a> {
     /// `edit A B COUNT`: lines A to B are replaced by the COUNT lines that follow.
     Edit { first: u32, last: u32, count: u32 },
-    /// `poke N ADDR VALUE`: a word of RAM gets a value at step N.
-    Poke { step: u32, address: u32, value: u32 },
-    /// `unpoke N ADDR`: the pokes of a word's bytes are cleared.
-    ClearPoke { step: u32, address: u32 },
-    /// `pokeb N ADDR VALUE`: a byte of RAM gets a value at step N.
-    PokeByte { step: u32, address: u32, value: u8 },
-    /// `unpokeb N ADDR`: the poke of a byte is cleared.
-    ClearPokeByte { step: u32, address: u32 },
     /// `input N BYTES`: bytes come in at the console at step N.
     Input { step: u32, bytes: HexBytes<'a> },
-    /// `uninput N`: no bytes come in at step N.
-    ClearInput { step: u32 },
-    /// `irq N LEVEL`: an interrupt of a level is requested at step N.
-    Request { step: u32, level: u32 },
-    /// `unirq N LEVEL`: the request of a level is cleared.
-    ClearRequest { step: u32, level: u32 },
-    /// `list`: the listing.
-    Listing,
-    /// `regs N`: the machine at step N.
-    Regs { step: u32 },
-    /// `mem N ADDR COUNT`: words of RAM at step N.
-    Mem { step: u32, address: u32, count: u32 },
-    /// `out N`: the bytes put out at the console below step N.
-    Out { step: u32 },
+    /// `poke N ADDR VALUE`, `unpoke N ADDR`, `pokeb N ADDR VALUE`, `unpokeb N ADDR`, `uninput N`, `irq N LEVEL` and `unirq N LEVEL`: an
+    /// edit of the timeline at step N.
+    Timeline(TimelineEdit<'a>),
+    /// `list`, `regs N`, `mem N ADDR COUNT` and `out N`: a query, which changes nothing.
+    Ask(Query),
     /// `quit`: the end of the run.
     Quit,
 }
@@ -60,39 +57,59 @@ pub fn parse_command(text: &[u8]) -> Result<Command<'_>, BadCommand>
         None => Err(BadCommand),
         Some((name, rest)) => match read_edit(name, rest) {
             Ok(edit) => Ok(edit),
-            Err(_) => read_query(name, rest),
+            Err(_) => read_asking(name, rest),
         },
     }
 }
 
 /// A poke of RAM, or what clears it.
 #[tactic(auto, unfolding(crate::specs::Commands::poke_of))]
-fn read_poke<'a>(name: &[u8], rest: &'a [u8]) -> Result<Command<'a>, BadCommand>
-    ensures { MatchResult result (λ c. poke_of name.now (words_of rest.now) ≡ Some c)
+fn read_poke<'a>(name: &[u8], rest: &[u8]) -> Result<TimelineEdit<'a>, BadCommand>
+    ensures { MatchResult result (λ e. poke_of name.now (words_of rest.now) ≡ Some e)
         (λ _. poke_of name.now (words_of rest.now) ≡ None) }
 {
     if name == b"poke".as_slice() {
         let (step, address, value) = read_number_address_word(rest)?;
-        Ok(Command::Poke {
+        Ok(TimelineEdit::SetPoke {
             step,
             address,
             value,
         })
     } else if name == b"unpoke".as_slice() {
         let (step, address) = read_number_address(rest)?;
-        Ok(Command::ClearPoke { step, address })
+        Ok(TimelineEdit::ClearPoke { step, address })
     } else if name == b"pokeb".as_slice() {
         let (step, address, value) = read_number_address_byte(rest)?;
-        Ok(Command::PokeByte {
+        Ok(TimelineEdit::SetPokeByte {
             step,
             address,
             value,
         })
     } else if name == b"unpokeb".as_slice() {
         let (step, address) = read_number_address(rest)?;
-        Ok(Command::ClearPokeByte { step, address })
+        Ok(TimelineEdit::ClearPokeByte { step, address })
     } else {
         Err(BadCommand)
+    }
+}
+
+/// An edit of the timeline, but for bytes that come in.
+#[tactic(auto, unfolding(crate::specs::Commands::timeline_of))]
+fn read_timeline<'a>(name: &[u8], rest: &[u8]) -> Result<TimelineEdit<'a>, BadCommand>
+    ensures { MatchResult result (λ e. timeline_of name.now (words_of rest.now) ≡ Some e)
+        (λ _. timeline_of name.now (words_of rest.now) ≡ None) }
+{
+    if name == b"uninput".as_slice() {
+        let step = read_one_number(rest)?;
+        Ok(TimelineEdit::ClearInput { step })
+    } else if name == b"irq".as_slice() {
+        let (step, level) = read_two_numbers(rest)?;
+        Ok(TimelineEdit::SetRequest { step, level })
+    } else if name == b"unirq".as_slice() {
+        let (step, level) = read_two_numbers(rest)?;
+        Ok(TimelineEdit::ClearRequest { step, level })
+    } else {
+        read_poke(name, rest)
     }
 }
 
@@ -107,44 +124,52 @@ fn read_edit<'a>(name: &[u8], rest: &'a [u8]) -> Result<Command<'a>, BadCommand>
     } else if name == b"input".as_slice() {
         let (step, bytes) = read_number_bytes(rest)?;
         Ok(Command::Input { step, bytes })
-    } else if name == b"uninput".as_slice() {
-        let step = read_one_number(rest)?;
-        Ok(Command::ClearInput { step })
-    } else if name == b"irq".as_slice() {
-        let (step, level) = read_two_numbers(rest)?;
-        Ok(Command::Request { step, level })
-    } else if name == b"unirq".as_slice() {
-        let (step, level) = read_two_numbers(rest)?;
-        Ok(Command::ClearRequest { step, level })
     } else {
-        read_poke(name, rest)
+        let edit = read_timeline(name, rest)?;
+        Ok(Command::Timeline(edit))
     }
 }
 
-/// A query, or `quit`.
+/// Reads a query by its name and the rest of its line.
+///
+/// # Errors
+///
+/// `BadCommand` where it is none.
 #[tactic(auto, unfolding(crate::specs::Commands::query_of))]
-fn read_query<'a>(name: &[u8], rest: &'a [u8]) -> Result<Command<'a>, BadCommand>
-    ensures { MatchResult result (λ c. query_of name.now (words_of rest.now) ≡ Some c)
+pub fn read_query(name: &[u8], rest: &[u8]) -> Result<Query, BadCommand>
+    ensures { MatchResult result (λ q. query_of name.now (words_of rest.now) ≡ Some q)
         (λ _. query_of name.now (words_of rest.now) ≡ None) }
 {
     if name == b"list".as_slice() {
-        read_alone(Command::Listing, rest)
+        read_alone(Query::Listing, rest)
     } else if name == b"regs".as_slice() {
         let step = read_one_number(rest)?;
-        Ok(Command::Regs { step })
+        Ok(Query::Regs { step })
     } else if name == b"mem".as_slice() {
         let (step, address, count) = read_number_address_number(rest)?;
-        Ok(Command::Mem {
+        Ok(Query::Mem {
             step,
             address,
             count,
         })
     } else if name == b"out".as_slice() {
         let step = read_one_number(rest)?;
-        Ok(Command::Out { step })
-    } else if name == b"quit".as_slice() {
-        read_alone(Command::Quit, rest)
+        Ok(Query::Out { step })
     } else {
         Err(BadCommand)
+    }
+}
+
+/// A query, or `quit`.
+#[tactic(auto, unfolding(crate::specs::Commands::asking_of))]
+fn read_asking<'a>(name: &[u8], rest: &[u8]) -> Result<Command<'a>, BadCommand>
+    ensures { MatchResult result (λ c. asking_of name.now (words_of rest.now) ≡ Some c)
+        (λ _. asking_of name.now (words_of rest.now) ≡ None) }
+{
+    if name == b"quit".as_slice() {
+        read_alone(Command::Quit, rest)
+    } else {
+        let query = read_query(name, rest)?;
+        Ok(Command::Ask(query))
     }
 }

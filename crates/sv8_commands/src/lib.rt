@@ -11,7 +11,7 @@ pub mod text;
 pub mod texts;
 mod words;
 
-pub use command::{Command, parse_command};
+pub use command::{Command, Query, parse_command, read_query};
 pub use hex_bytes::HexBytes;
 pub use operands::{
     BadCommand, read_alone, read_hex, read_hex_byte, read_number, read_number_address,

@@ -17,8 +17,4 @@ pub mod Edits
 pub mod Input
 pub mod Words
 pub mod Acting
-pub mod Toy
-pub mod Events
-pub mod Numbers
-pub mod TraceNumbers
 pub mod Common

@@ -8,7 +8,3 @@ pub mod Reads
 pub mod Patches
 pub mod Input
 pub mod Laws
-pub mod Toy
-pub mod Runs
-pub mod Worked
-pub mod WorkedTraces

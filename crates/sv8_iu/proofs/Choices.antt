@@ -11,12 +11,14 @@ use Rattle.sv8_isa.specs.declared.instr.Operand.{Operand}
 use Rattle.sv8_isa.specs.declared.instr.StateRegister.{StateRegister}
 use Rattle.sv8_isa.specs.declared.instr.MemoryOp.{MemoryOp}
 use Rattle.sv8_phys.specs.Memory.{bytes_in}
+use Rattle.sv8_phys.specs.declared.size.Size.{Size}
 use Rattle.sv8_iu.specs.Operands.{sum_of_sources, when}
 use Rattle.sv8_iu.specs.Control.{is_misaligned, jump_traps, return_traps}
 use Rattle.sv8_iu.specs.StateRegisters.{is_privileged, names_no_window, written_word, write_traps}
-use Rattle.sv8_isa.specs.declared.instr.MemoryOp.TheVariants as memory
 use Rattle.sv8_iu.specs.Requests.{IsAligned}
-use Rattle.sv8_iu.specs.Memory.{size_of, takes_pair, memory_traps, access_of}
+use Rattle.sv8_iu.specs.declared.memory.TransferKind.{TransferKind}
+use Rattle.sv8_iu.specs.declared.memory.TransferKind.TheVariants as kinds
+use Rattle.sv8_iu.specs.Memory.{transfer_of, size_of, takes_pair, memory_traps, requested, access_of}
 use Rattle.sv8_iu.specs.Instruction.{alternate_traps}
 
 -- one condition
@@ -126,28 +128,24 @@ present_window windows p register rs1 operand e =
 pub aligned_access : (op : MemoryOp) (rd address : ℕ) → taken (memory_traps op rd address) ≡ None → address % bytes_in (size_of op) ≡ 0
 unfolding memory_traps
 aligned_access op rd address e =
-    multiple (address % bytes_in (size_of op)) (none_second (takes_pair op && rd % 2 == 1) (not (address % bytes_in (size_of op) == 0)) IllegalInstruction MemAddressNotAligned e)
+    multiple (address % bytes_in (size_of op)) (none_second (takes_pair (size_of op) && rd % 2 == 1) (not (address % bytes_in (size_of op) == 0)) IllegalInstruction MemAddressNotAligned e)
 
 pub aligned_request : (windows : ℕ) (p : Processor) (op : MemoryOp) (asi rd address : ℕ) → taken (memory_traps op rd address) ≡ None → IsAligned (access_of windows p op asi rd address)
 unfolding access_of
-aligned_request windows p memory.Ld asi rd address e = aligned_access memory.Ld rd address e
-aligned_request windows p memory.Ldub asi rd address e = aligned_access memory.Ldub rd address e
-aligned_request windows p memory.Ldsb asi rd address e = aligned_access memory.Ldsb rd address e
-aligned_request windows p memory.Lduh asi rd address e = aligned_access memory.Lduh rd address e
-aligned_request windows p memory.Ldsh asi rd address e = aligned_access memory.Ldsh rd address e
-aligned_request windows p memory.Ldd asi rd address e = aligned_access memory.Ldd rd address e
-aligned_request windows p memory.St asi rd address e = aligned_access memory.St rd address e
-aligned_request windows p memory.Stb asi rd address e = aligned_access memory.Stb rd address e
-aligned_request windows p memory.Sth asi rd address e = aligned_access memory.Sth rd address e
-aligned_request windows p memory.Std asi rd address e = aligned_access memory.Std rd address e
-aligned_request windows p memory.Ldstub asi rd address e = aligned_access memory.Ldstub rd address e
-aligned_request windows p memory.Swap asi rd address e = aligned_access memory.Swap rd address e
+aligned_request windows p op asi rd address e = of_kind (transfer_of op).kind (size_of op) (aligned_access op rd address e)
+  where
+    of_kind : (kind : TransferKind) (size : Size) → address % bytes_in size ≡ 0 → IsAligned (requested windows p kind size asi rd address)
+    of_kind kinds.Load size h = h
+    of_kind kinds.LoadSigned size h = h
+    of_kind kinds.Store size h = h
+    of_kind kinds.Swap size h = h
+    of_kind kinds.Mark size h = h
 
 -- the address of an alternate space form
 pub aligned_alternate : (windows : ℕ) (p : Processor) (op : MemoryOp) (asi rd address : ℕ) → taken (alternate_traps p (memory_traps op rd address)) ≡ None → IsAligned (access_of windows p op asi rd address)
 unfolding alternate_traps memory_traps
 aligned_alternate windows p op asi rd address e =
-    aligned_request windows p op asi rd address (none_of_rest (not p.registers.psr.s) (takes_pair op && rd % 2 == 1) (not (address % bytes_in (size_of op) == 0)) e)
+    aligned_request windows p op asi rd address (none_of_rest (not p.registers.psr.s) (takes_pair (size_of op) && rd % 2 == 1) (not (address % bytes_in (size_of op) == 0)) e)
   where
     none_of_rest : (a b c : Bool) → taken (when a PrivilegedInstruction ++ (when b IllegalInstruction ++ when c MemAddressNotAligned)) ≡ None → taken (when b IllegalInstruction ++ when c MemAddressNotAligned) ≡ None
     none_of_rest true true true e = absurd cc

@@ -11,56 +11,62 @@ use Rattle.sv8_trap.specs.declared.table.Trap.{Trap}
 use Rattle.sv8_trap.specs.declared.table.Trap.TheVariants.{IllegalInstruction, MemAddressNotAligned}
 use Rattle.sv8_trap.specs.Processor.{Processor, advanced, with_register, with_result}
 use Rattle.sv8_iu.specs.Operands.{when}
+use Rattle.sv8_iu.specs.declared.memory.Transfer.{Transfer}
+use Rattle.sv8_iu.specs.declared.memory.TransferKind.{TransferKind}
+use Rattle.sv8_iu.specs.declared.memory.TransferKind.TheVariants as kinds
 use Rattle.sv8_iu.specs.declared.request.AccessRequest.{AccessRequest}
 use Rattle.sv8_iu.specs.declared.request.AccessRequest.TheVariants.{Load, Store, Exchange}
 
--- how much it loads or stores
+-- what each of them does, and of how much
+abbrev pub transfer_of : MemoryOp → Transfer
+transfer_of memory.Ld = record { kind = kinds.Load; size = Word }
+transfer_of memory.Ldub = record { kind = kinds.Load; size = Byte }
+transfer_of memory.Lduh = record { kind = kinds.Load; size = Half }
+transfer_of memory.Ldd = record { kind = kinds.Load; size = Double }
+transfer_of memory.Ldsb = record { kind = kinds.LoadSigned; size = Byte }
+transfer_of memory.Ldsh = record { kind = kinds.LoadSigned; size = Half }
+transfer_of memory.St = record { kind = kinds.Store; size = Word }
+transfer_of memory.Stb = record { kind = kinds.Store; size = Byte }
+transfer_of memory.Sth = record { kind = kinds.Store; size = Half }
+transfer_of memory.Std = record { kind = kinds.Store; size = Double }
+transfer_of memory.Swap = record { kind = kinds.Swap; size = Word }
+transfer_of memory.Ldstub = record { kind = kinds.Mark; size = Byte }
+
 abbrev pub size_of : MemoryOp → Size
-size_of memory.Ld = Word
-size_of memory.Ldub = Byte
-size_of memory.Lduh = Half
-size_of memory.Ldd = Double
-size_of memory.St = Word
-size_of memory.Stb = Byte
-size_of memory.Sth = Half
-size_of memory.Std = Double
-size_of memory.Ldsb = Byte
-size_of memory.Ldsh = Half
-size_of memory.Ldstub = Byte
-size_of memory.Swap = Word
+size_of op = (transfer_of op).size
 
 -- a doubleword stands in an even register and the odd one behind it
 abbrev pub odd_register : ℕ → ℕ
 odd_register rd = rd / 2 * 2 + 1
 
-abbrev pub takes_pair : MemoryOp → Bool
-takes_pair memory.Ldd = true
-takes_pair memory.Std = true
-takes_pair op = false
+abbrev pub takes_pair : Size → Bool
+takes_pair Double = true
+takes_pair size = false
 
 -- an odd register for a doubleword is illegal; the address is a multiple of the size
 unfoldable pub memory_traps : MemoryOp → ℕ → ℕ → List Trap
 memory_traps op rd address =
-    when (takes_pair op && rd % 2 == 1) IllegalInstruction ++ when (not (address % bytes_in (size_of op) == 0)) MemAddressNotAligned
+    when (takes_pair (size_of op) && rd % 2 == 1) IllegalInstruction ++ when (not (address % bytes_in (size_of op) == 0)) MemAddressNotAligned
 
 -- the doubleword of two registers
 abbrev pub pair : ℕ → Processor → ℕ → ℕ
 pair windows p rd = read windows p.registers rd * 2 ^ 32 + read windows p.registers (odd_register rd)
 
--- the access in an address space
+-- what a store takes of the registers
+abbrev pub stored : ℕ → Processor → Size → ℕ → ℕ
+stored windows p Double rd = pair windows p rd
+stored windows p size rd = read windows p.registers rd
+
+-- the access of a kind and a size in an address space
+abbrev pub requested : ℕ → Processor → TransferKind → Size → ℕ → ℕ → ℕ → AccessRequest
+requested windows p kinds.Load size asi rd address = Load size asi address
+requested windows p kinds.LoadSigned size asi rd address = Load size asi address
+requested windows p kinds.Store size asi rd address = Store size asi address (stored windows p size rd)
+requested windows p kinds.Swap size asi rd address = Exchange size asi address (read windows p.registers rd)
+requested windows p kinds.Mark size asi rd address = Exchange size asi address 0xff
+
 unfoldable pub access_of : ℕ → Processor → MemoryOp → ℕ → ℕ → ℕ → AccessRequest
-access_of windows p memory.Ld asi rd address = Load Word asi address
-access_of windows p memory.Ldub asi rd address = Load Byte asi address
-access_of windows p memory.Ldsb asi rd address = Load Byte asi address
-access_of windows p memory.Lduh asi rd address = Load Half asi address
-access_of windows p memory.Ldsh asi rd address = Load Half asi address
-access_of windows p memory.Ldd asi rd address = Load Double asi address
-access_of windows p memory.St asi rd address = Store Word asi address (read windows p.registers rd)
-access_of windows p memory.Stb asi rd address = Store Byte asi address (read windows p.registers rd)
-access_of windows p memory.Sth asi rd address = Store Half asi address (read windows p.registers rd)
-access_of windows p memory.Std asi rd address = Store Double asi address (pair windows p rd)
-access_of windows p memory.Ldstub asi rd address = Exchange Byte asi address 0xff
-access_of windows p memory.Swap asi rd address = Exchange Word asi address (read windows p.registers rd)
+access_of windows p op asi rd address = requested windows p (transfer_of op).kind (size_of op) asi rd address
 
 -- the low word of what an access gave
 abbrev pub low_word : ℕ → ℕ
@@ -74,17 +80,24 @@ sign_extended value k = word_of_number (signed (value % 2 ^ k) k)
 unfoldable pub with_pair : ℕ → Processor → ℕ → ℕ → Processor
 with_pair windows p rd value = with_result windows (with_register windows p rd (value / 2 ^ 32 % 2 ^ 32)) (odd_register rd) (low_word value)
 
--- what was loaded goes to rd; a store leaves the registers
+-- what was loaded goes to rd, or to rd and the register behind it
+abbrev pub loaded : ℕ → Processor → Size → ℕ → ℕ → Processor
+loaded windows p Double rd value = with_pair windows p rd value
+loaded windows p size rd value = with_result windows p rd (low_word value)
+
+-- a byte or a halfword with its sign; no instruction loads more so
+abbrev pub with_sign : Size → ℕ → ℕ
+with_sign Byte value = sign_extended value 8
+with_sign Half value = sign_extended value 16
+with_sign size value = low_word value
+
+-- the end of a kind and a size, with the number that the access gave; a store leaves the registers
+abbrev pub finished_transfer : ℕ → Processor → TransferKind → Size → ℕ → ℕ → Processor
+finished_transfer windows p kinds.Load size rd value = loaded windows p size rd value
+finished_transfer windows p kinds.LoadSigned size rd value = with_result windows p rd (with_sign size value)
+finished_transfer windows p kinds.Store size rd value = advanced p
+finished_transfer windows p kinds.Swap size rd value = with_result windows p rd (low_word value)
+finished_transfer windows p kinds.Mark size rd value = with_result windows p rd (low_word value)
+
 unfoldable pub transferred_data : ℕ → Processor → MemoryOp → ℕ → ℕ → Processor
-transferred_data windows p memory.Ld rd value = with_result windows p rd (low_word value)
-transferred_data windows p memory.Ldub rd value = with_result windows p rd (low_word value)
-transferred_data windows p memory.Lduh rd value = with_result windows p rd (low_word value)
-transferred_data windows p memory.Ldsb rd value = with_result windows p rd (sign_extended value 8)
-transferred_data windows p memory.Ldsh rd value = with_result windows p rd (sign_extended value 16)
-transferred_data windows p memory.Ldd rd value = with_pair windows p rd value
-transferred_data windows p memory.Ldstub rd value = with_result windows p rd (low_word value)
-transferred_data windows p memory.Swap rd value = with_result windows p rd (low_word value)
-transferred_data windows p memory.St rd value = advanced p
-transferred_data windows p memory.Stb rd value = advanced p
-transferred_data windows p memory.Sth rd value = advanced p
-transferred_data windows p memory.Std rd value = advanced p
+transferred_data windows p op rd value = finished_transfer windows p (transfer_of op).kind (size_of op) rd value

@@ -53,13 +53,6 @@ pub fn raised_by<const NW: usize>(p: &Processor<NW>, instr: Instr) -> Option<Tra
     ensures { result ≡ taken (raised NW p.now instr) }
 {
     match instr {
-        Instr::Bicc { .. }
-        | Instr::Sethi { .. }
-        | Instr::Call { .. }
-        | Instr::Mulscc { .. }
-        | Instr::Shift { .. }
-        | Instr::Stbar
-        | Instr::Flush { .. } => None,
         Instr::Arith { op, operand, .. } => arithmetic_trap(p, op, operand),
         Instr::Tagged {
             op,
@@ -95,6 +88,7 @@ pub fn raised_by<const NW: usize>(p: &Processor<NW>, instr: Instr) -> Option<Tra
         Instr::Cp(word) => disabled_trap(p, word, Trap::CpDisabled),
         Instr::AltImm => immediate_trap(p),
         Instr::Unimp(_) | Instr::Illegal => Some(Trap::IllegalInstruction),
+        _ => None,
     }
 }
 
@@ -104,28 +98,7 @@ pub fn take_trap<const NW: usize>(p: &mut Processor<NW>, instr: Instr, trap: Tra
 {
     match instr {
         Instr::Rett { .. } => p.take_in_return(trap),
-        Instr::Unimp(_)
-        | Instr::Bicc { .. }
-        | Instr::Sethi { .. }
-        | Instr::Call { .. }
-        | Instr::Arith { .. }
-        | Instr::Tagged { .. }
-        | Instr::Mulscc { .. }
-        | Instr::Shift { .. }
-        | Instr::ReadState { .. }
-        | Instr::Stbar
-        | Instr::WriteState { .. }
-        | Instr::Jmpl { .. }
-        | Instr::Ticc { .. }
-        | Instr::Flush { .. }
-        | Instr::Save { .. }
-        | Instr::Restore { .. }
-        | Instr::Memory { .. }
-        | Instr::Alternate { .. }
-        | Instr::Fp(_)
-        | Instr::Cp(_)
-        | Instr::AltImm
-        | Instr::Illegal => p.take(trap),
+        _ => p.take(trap),
     }
 }
 
@@ -168,27 +141,7 @@ pub fn asked<const NW: usize>(p: &Processor<NW>, instr: Instr) -> AccessRequest
             rd,
             sum_of_sources(p, rs1, Operand::Register(rs2)),
         ),
-        Instr::Unimp(_)
-        | Instr::Bicc { .. }
-        | Instr::Sethi { .. }
-        | Instr::Call { .. }
-        | Instr::Arith { .. }
-        | Instr::Tagged { .. }
-        | Instr::Mulscc { .. }
-        | Instr::Shift { .. }
-        | Instr::ReadState { .. }
-        | Instr::Stbar
-        | Instr::WriteState { .. }
-        | Instr::Jmpl { .. }
-        | Instr::Rett { .. }
-        | Instr::Ticc { .. }
-        | Instr::Flush { .. }
-        | Instr::Save { .. }
-        | Instr::Restore { .. }
-        | Instr::Fp(_)
-        | Instr::Cp(_)
-        | Instr::AltImm
-        | Instr::Illegal => AccessRequest::Nothing,
+        _ => AccessRequest::Nothing,
     }
 }
 

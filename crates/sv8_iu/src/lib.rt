@@ -14,7 +14,7 @@ mod unaided;
 mod windows;
 
 pub use instruction::{asked, complete, data_space, raised_by, take_trap};
-pub use memory::{finish_access, low_word, memory_trap};
+pub use memory::{Transfer, TransferKind, finish_access, low_word, memory_trap};
 pub use operands::sum_of_sources;
 pub use request::{AccessRequest, Response, Space, space_of};
 pub use seen::show_trap;

@@ -4,7 +4,7 @@ ghost use Rattle.std.specs.Prelude.{◌≡◌, ◌<◌, ◌≤◌, ◌+◌, ◌*
 ghost use Rattle.sv8_model.specs.Words.{signed};
 ghost use Rattle.sv8_phys.specs.Memory.{bytes_in};
 ghost use Rattle.sv8_trap.specs.Table.{taken};
-ghost use Rattle.sv8_iu.specs.Memory.{size_of, odd_register, takes_pair, memory_traps, pair, access_of, low_word, sign_extended, with_pair, transferred_data};
+ghost use Rattle.sv8_iu.specs.Memory.{transfer_of, odd_register, takes_pair, memory_traps, pair, stored, access_of, low_word, with_pair, loaded, with_sign, transferred_data};
 ghost use Rattle.sv8_iu.specs.Instruction.{alternate_traps};
 
 use crate::operands::word_of;
@@ -13,24 +13,48 @@ use sv8_isa::MemoryOp;
 use sv8_phys::Size;
 use sv8_trap::{Processor, Trap};
 
-/// How much an instruction loads or stores.
-#[inline(always)]
-fn size_of(op: MemoryOp) -> Size
-    ensures { result ≡ size_of op }
-{
-    match op {
-        MemoryOp::Ldub | MemoryOp::Ldsb | MemoryOp::Stb | MemoryOp::Ldstub => Size::Byte,
-        MemoryOp::Lduh | MemoryOp::Ldsh | MemoryOp::Sth => Size::Half,
-        MemoryOp::Ld | MemoryOp::St | MemoryOp::Swap => Size::Word,
-        MemoryOp::Ldd | MemoryOp::Std => Size::Double,
-    }
+/// What a load or a store does.
+#[derive(Clone, Copy)]
+pub enum TransferKind {
+    /// It loads a number as it is.
+    Load,
+    /// It loads a number whose sign goes into the bits above.
+    LoadSigned,
+    /// It stores what is in registers.
+    Store,
+    /// It exchanges a register with memory.
+    Swap,
+    /// It loads a byte, and leaves ones there.
+    Mark,
 }
 
+/// A load or a store: what it does, and of how much.
+#[derive(Clone, Copy)]
+pub struct Transfer {
+    pub kind: TransferKind,
+    pub size: Size,
+}
+
+/// What an instruction does with memory.
 #[inline(always)]
-fn takes_pair(op: MemoryOp) -> bool
-    ensures { result ≡ takes_pair op }
+fn transfer_of(op: MemoryOp) -> Transfer
+    ensures { result ≡ transfer_of op }
 {
-    matches!(op, MemoryOp::Ldd | MemoryOp::Std)
+    let (kind, size) = match op {
+        MemoryOp::Ld => (TransferKind::Load, Size::Word),
+        MemoryOp::Ldub => (TransferKind::Load, Size::Byte),
+        MemoryOp::Lduh => (TransferKind::Load, Size::Half),
+        MemoryOp::Ldd => (TransferKind::Load, Size::Double),
+        MemoryOp::Ldsb => (TransferKind::LoadSigned, Size::Byte),
+        MemoryOp::Ldsh => (TransferKind::LoadSigned, Size::Half),
+        MemoryOp::St => (TransferKind::Store, Size::Word),
+        MemoryOp::Stb => (TransferKind::Store, Size::Byte),
+        MemoryOp::Sth => (TransferKind::Store, Size::Half),
+        MemoryOp::Std => (TransferKind::Store, Size::Double),
+        MemoryOp::Swap => (TransferKind::Swap, Size::Word),
+        MemoryOp::Ldstub => (TransferKind::Mark, Size::Byte),
+    };
+    Transfer { kind, size }
 }
 
 /// The odd register of the pair of a register.
@@ -58,10 +82,10 @@ fn is_multiple(address: u32, size: Size) -> bool
 
 /// Whether a doubleword is asked of an odd register.
 #[inline(always)]
-fn is_odd_pair(op: MemoryOp, rd: u8) -> bool
-    ensures { result ≡ takes_pair op && rd % 2 == 1 }
+fn is_odd_pair(size: Size, rd: u8) -> bool
+    ensures { result ≡ takes_pair size && rd % 2 == 1 }
 {
-    takes_pair(op) && rd % 2 == 1
+    matches!(size, Size::Double) && rd % 2 == 1
 }
 
 /// The trap of a load or a store.
@@ -70,9 +94,10 @@ fn is_odd_pair(op: MemoryOp, rd: u8) -> bool
 pub fn memory_trap(op: MemoryOp, rd: u8, address: u32) -> Option<Trap>
     ensures { result ≡ taken (memory_traps op rd address) }
 {
-    if is_odd_pair(op, rd) {
+    let size = transfer_of(op).size;
+    if is_odd_pair(size, rd) {
         Some(Trap::IllegalInstruction)
-    } else if !is_multiple(address, size_of(op)) {
+    } else if !is_multiple(address, size) {
         Some(Trap::MemAddressNotAligned)
     } else {
         None
@@ -89,11 +114,12 @@ pub fn alternate_trap<const NW: usize>(
 ) -> Option<Trap>
     ensures { result ≡ taken (alternate_traps p.now (memory_traps op rd address)) }
 {
+    let size = transfer_of(op).size;
     if !p.registers().psr().s {
         Some(Trap::PrivilegedInstruction)
-    } else if is_odd_pair(op, rd) {
+    } else if is_odd_pair(size, rd) {
         Some(Trap::IllegalInstruction)
-    } else if !is_multiple(address, size_of(op)) {
+    } else if !is_multiple(address, size) {
         Some(Trap::MemAddressNotAligned)
     } else {
         None
@@ -111,6 +137,18 @@ fn pair<const NW: usize>(p: &Processor<NW>, rd: u8) -> u64
     u64::from(high) * 0x1_0000_0000 + u64::from(low)
 }
 
+/// What a store takes of the registers.
+#[inline(always)]
+fn stored<const NW: usize>(p: &Processor<NW>, size: Size, rd: u8) -> u64
+    requires { rd < 32 }
+    ensures { result ≡ stored NW p.now size rd }
+{
+    match size {
+        Size::Double => pair(p, rd),
+        Size::Byte | Size::Half | Size::Word => u64::from(p.registers().get(u32::from(rd))),
+    }
+}
+
 /// The access that an instruction asks for in an address space.
 #[inline(always)]
 #[tactic(auto, unfolding(crate::specs::Memory::access_of))]
@@ -124,39 +162,27 @@ pub fn access_of<const NW: usize>(
     requires { rd < 32 }
     ensures { result ≡ access_of NW p.now op asi rd at }
 {
-    let size = size_of(op);
-    let word = u64::from(p.registers().get(u32::from(rd)));
-    match op {
-        MemoryOp::Ld
-        | MemoryOp::Ldub
-        | MemoryOp::Ldsb
-        | MemoryOp::Lduh
-        | MemoryOp::Ldsh
-        | MemoryOp::Ldd => AccessRequest::Load { size, asi, at },
-        MemoryOp::St | MemoryOp::Stb | MemoryOp::Sth => AccessRequest::Store {
+    let Transfer { kind, size } = transfer_of(op);
+    let value = match kind {
+        TransferKind::Load | TransferKind::LoadSigned => return AccessRequest::Load {
             size,
             asi,
             at,
-            value: word,
         },
-        MemoryOp::Std => AccessRequest::Store {
+        TransferKind::Store => return AccessRequest::Store {
             size,
             asi,
             at,
-            value: pair(p, rd),
+            value: stored(p, size, rd),
         },
-        MemoryOp::Ldstub => AccessRequest::Exchange {
-            size,
-            asi,
-            at,
-            value: 0xff,
-        },
-        MemoryOp::Swap => AccessRequest::Exchange {
-            size,
-            asi,
-            at,
-            value: word,
-        },
+        TransferKind::Swap => u64::from(p.registers().get(u32::from(rd))),
+        TransferKind::Mark => 0xff,
+    };
+    AccessRequest::Exchange {
+        size,
+        asi,
+        at,
+        value,
     }
 }
 
@@ -188,22 +214,17 @@ fn signed_half(value: u64) -> i32
     if half < 0x8000 { half } else { half - 0x1_0000 }
 }
 
-/// A byte with its sign in the bits above.
+/// A byte or a halfword with its sign in the bits above.
 #[inline(always)]
 #[tactic(auto, unfolding(crate::specs::Memory::sign_extended))]
-fn extended_byte(value: u64) -> u32
-    ensures { result ≡ sign_extended value 8 }
+fn with_sign(size: Size, value: u64) -> u32
+    ensures { result ≡ with_sign size value }
 {
-    word_of(signed_byte(value))
-}
-
-/// A halfword with its sign in the bits above.
-#[inline(always)]
-#[tactic(auto, unfolding(crate::specs::Memory::sign_extended))]
-fn extended_half(value: u64) -> u32
-    ensures { result ≡ sign_extended value 16 }
-{
-    word_of(signed_half(value))
+    match size {
+        Size::Byte => word_of(signed_byte(value)),
+        Size::Half => word_of(signed_half(value)),
+        Size::Word | Size::Double => low_word(value),
+    }
 }
 
 /// Writes a doubleword to a pair of registers, and goes on.
@@ -217,6 +238,18 @@ fn finish_with_pair<const NW: usize>(p: &mut Processor<NW>, rd: u8, value: u64)
     p.finish_with(odd_register(rd), low_word(value));
 }
 
+/// The end of a load of a number as it is.
+#[inline(always)]
+fn finish_load<const NW: usize>(p: &mut Processor<NW>, size: Size, rd: u8, value: u64)
+    requires { rd < 32 }
+    ensures { p.new ≡ loaded NW p.old size rd value }
+{
+    match size {
+        Size::Double => finish_with_pair(p, rd, value),
+        Size::Byte | Size::Half | Size::Word => p.finish_with(rd, low_word(value)),
+    }
+}
+
 /// The end of a load or a store, with the number that its access gave.
 #[inline(always)]
 #[tactic(auto, unfolding(crate::specs::Memory::transferred_data))]
@@ -224,12 +257,11 @@ pub fn finish_access<const NW: usize>(p: &mut Processor<NW>, op: MemoryOp, rd: u
     requires { rd < 32 }
     ensures { p.new ≡ transferred_data NW p.old op rd value }
 {
-    match op {
-        MemoryOp::Ld | MemoryOp::Ldub | MemoryOp::Lduh | MemoryOp::Ldstub | MemoryOp::Swap =>
-            p.finish_with(rd, low_word(value)),
-        MemoryOp::Ldsb => p.finish_with(rd, extended_byte(value)),
-        MemoryOp::Ldsh => p.finish_with(rd, extended_half(value)),
-        MemoryOp::Ldd => finish_with_pair(p, rd, value),
-        MemoryOp::St | MemoryOp::Stb | MemoryOp::Sth | MemoryOp::Std => p.advance(),
+    let Transfer { kind, size } = transfer_of(op);
+    match kind {
+        TransferKind::Load => finish_load(p, size, rd, value),
+        TransferKind::LoadSigned => p.finish_with(rd, with_sign(size, value)),
+        TransferKind::Store => p.advance(),
+        TransferKind::Swap | TransferKind::Mark => p.finish_with(rd, low_word(value)),
     }
 }

@@ -1,6 +1,6 @@
 //! What an observer sees of traps.
 
-ghost use Rattle.std.specs.Prelude.{◌≡◌, ◌∷◌, [], OnOk};
+ghost use Rattle.std.specs.Prelude.{◌≡◌, ◌∷◌, [], true, OnOk, OnErr};
 ghost use Rattle.sv8_model.specs.Does.{noting, keeping};
 ghost use Rattle.sv8_iu.specs.Seen.{trap_seen};
 
@@ -12,10 +12,11 @@ use sv8_trap::Trap;
 ///
 /// # Errors
 ///
-/// `AllocError` where memory for the note cannot be had.
+/// `AllocError` where memory for the note cannot be had; never where no notes of observations are kept.
 #[inline(always)]
 pub fn show_trap<T: Touches>(trap: Trap, notes: &mut T) -> Result<(), AllocError>
-    ensures { OnOk result (T.noted notes.new ≡ noting (keeping T.KEEPS T.OBSERVES) (T.noted notes.old) [] (trap_seen trap ∷ [])) }
+    ensures ok { OnOk result (T.noted notes.new ≡ noting (keeping T.KEEPS T.OBSERVES) (T.noted notes.old) [] (trap_seen trap ∷ [])) }
+    ensures err { OnErr result (T.OBSERVES ≡ true) }
 {
     notes.observe(Observation::Trap(trap.row().trap_type))?;
     Ok(())

@@ -1,17 +1,13 @@
 -- Questions change nothing that is kept.
-use Rattle.std.proofs.Common.{◌≡◌, ℕ, Bool, true, List, Option, Some, None, Result, refl}
-use Rattle.std.proofs.lemmas.Bool.{false≢true}
+use Rattle.std.proofs.Common.{◌≡◌, ℕ, Bool, List, Option, Some, None, Result, refl}
 use Rattle.sv8_bench.specs.declared.fault.BenchFault.{BenchFault}
 use Rattle.sv8_bench.specs.Kept.{Kept}
-use Rattle.sv8_commands.specs.declared.command.Command.{Command}
-use Rattle.sv8_commands.specs.declared.command.Command.TheVariants.{Listing, Regs, Mem, Out}
-use Rattle.sv8_shell.specs.Commands.{outcome_of}
+use Rattle.sv8_commands.specs.declared.command.Query.TheVariants.{Listing, Regs, Mem, Out}
 use Rattle.sv8_shell.specs.Outcome.{told, unless_refused, Answers, due, lacking}
 use Rattle.sv8_shell.specs.Put.{Replies}
 use Rattle.sv8_monitor.specs.declared.question.Query.{Query}
-use Rattle.sv8_monitor.specs.declared.question.Query.TheVariants.{Steps, Windows, Where, Lines, Names, Events}
+use Rattle.sv8_monitor.specs.declared.question.Query.TheVariants.{Workbench, Steps, Windows, Where, Lines, Names, Events}
 use Rattle.sv8_monitor.specs.Answers.{query_outcome}
-use Rattle.sv8_monitor.specs.Questions.{asks}
 
 -- an outcome that tells a text, or is refused
 told-keeps : (k next : Kept) (refusal : Option BenchFault) (lacks : Bool) (told_text text : List ℕ) → Answers k (unless_refused refusal (told lacks told_text)) text next → next ≡ k
@@ -21,6 +17,10 @@ told-keeps k next (Some fault) lacks t text due = refl
 told-keeps k next (Some fault) lacks t text (lacking h) = refl
 
 query-answer : (q : Query) (k next : Kept) (text : List ℕ) → Answers k (query_outcome q k) text next → next ≡ k
+query-answer (Workbench Listing) k next text h = told-keeps k next None _ _ text h
+query-answer (Workbench (Regs step)) k next text h = told-keeps k next _ _ _ text h
+query-answer (Workbench (Mem step address count)) k next text h = told-keeps k next _ _ _ text h
+query-answer (Workbench (Out step)) k next text h = told-keeps k next _ _ _ text h
 query-answer (Steps from to count conditions) k next text h = told-keeps k next _ _ _ text h
 query-answer (Windows step) k next text h = told-keeps k next _ _ _ text h
 query-answer (Where step address) k next text h = told-keeps k next _ _ _ text h
@@ -28,17 +28,6 @@ query-answer (Lines first last) k next text h = told-keeps k next _ _ _ text h
 query-answer Names k next text h = told-keeps k next None _ _ text h
 query-answer (Events first last) k next text h = told-keeps k next _ _ _ text h
 
-asked-answer : (c : Command) (k next : Kept) (text : List ℕ) → asks c ≡ true → Answers k (outcome_of c k) text next → next ≡ k
-asked-answer Listing k next text a h = told-keeps k next None _ _ text h
-asked-answer (Regs step) k next text a h = told-keeps k next _ _ _ text h
-asked-answer (Mem step address count) k next text a h = told-keeps k next _ _ _ text h
-asked-answer (Out step) k next text a h = told-keeps k next _ _ _ text h
-asked-answer c k next text a h = absurd (false≢true a)
-
 -- a question of one workbench
 pub query-keeps : {A E : Type 0} (r : Result A E) (a b : Option (List ℕ)) (q : Query) (k next : Kept) → Replies r a b k (query_outcome q k) next → next ≡ k
 query-keeps r a b q k next h = query-answer q k next h.text h.answers
-
--- a command of the workbench that asks
-pub asked-keeps : {A E : Type 0} (r : Result A E) (a b : Option (List ℕ)) (c : Command) (k next : Kept) → asks c ≡ true → Replies r a b k (outcome_of c k) next → next ≡ k
-asked-keeps r a b c k next asked h = asked-answer c k next h.text asked h.answers

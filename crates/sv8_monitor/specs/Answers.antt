@@ -11,9 +11,10 @@ use Rattle.sv8_bench.specs.Kept.{Kept}
 use Rattle.sv8_bench.specs.Shown.{machine_state}
 use Rattle.sv8_shell.specs.Outcome.{Outcome, told, unless_refused}
 use Rattle.sv8_commands.specs.Text.{numbered_text}
+use Rattle.sv8_shell.specs.Commands as shell
 use Rattle.sv8_shell.specs.Text.{listing_line}
 use Rattle.sv8_monitor.specs.declared.question.Query.{Query}
-use Rattle.sv8_monitor.specs.declared.question.Query.TheVariants.{Steps, Windows, Where, Lines, Names, Events}
+use Rattle.sv8_monitor.specs.declared.question.Query.TheVariants.{Workbench, Steps, Windows, Where, Lines, Names, Events}
 use Rattle.sv8_search.specs.Search.{found_at, steps_refusal, steps_told}
 use Rattle.sv8_search.specs.Comparing.{range_refusal, differences}
 use Rattle.sv8_monitor.specs.Events.{events_text}
@@ -34,6 +35,7 @@ abbrev pub lines_told : ℕ → ℕ → Kept → List ℕ
 lines_told first last k = numbered_text listing_line first (take (last + 1 - first) (drop (first - 1) (listing k.source)))
 
 abbrev pub query_outcome : Query → Kept → Outcome
+query_outcome (Workbench query) k = shell.query_outcome query k
 query_outcome (Steps from to count conditions) k =
     unless_refused (steps_refusal from to conditions k) (told true (steps_text (map (found_at k) (steps_told k from to count conditions))))
 query_outcome (Windows step) k = unless_refused (step_refusal step) (told true (windows_text k.windows (machine_state k step).processor.registers))

@@ -1,14 +1,13 @@
 -- How words read as questions of the monitor: each has its name, the form of its operands, and what is made of them.
-use Rattle.std.specs.Prelude.{ℕ, Bool, true, false, List, [], ◌∷◌, Option, Some, None, if◌then◌else◌, codes, bytes_eq, option_and_then, option_map}
-use Rattle.sv8_commands.specs.declared.command.Command.{Command}
-use Rattle.sv8_commands.specs.declared.command.Command.TheVariants.{Edit, Poke, ClearPoke, PokeByte, ClearPokeByte, Input, ClearInput, Request, ClearRequest, Listing, Regs, Mem, Out, Quit}
+use Rattle.std.specs.Prelude.{ℕ, Bool, true, false, List, [], ◌∷◌, Option, Some, None, if◌then◌else◌, codes, bytes_eq, option_map}
+use Rattle.std.specs.Option.{option_or}
 use Rattle.sv8_commands.specs.Words.{first_number}
 use Rattle.sv8_commands.specs.Operands.{◌>>=◌, alone, one_number, two_numbers, three_numbers, number_address}
-use Rattle.sv8_commands.specs.Commands.{command_of}
+use Rattle.sv8_commands.specs.Commands as commands
 use Rattle.sv8_monitor.specs.declared.question.Query.{Query}
-use Rattle.sv8_monitor.specs.declared.question.Query.TheVariants.{Steps, Windows, Where, Lines, Names, Events}
+use Rattle.sv8_monitor.specs.declared.question.Query.TheVariants.{Workbench, Steps, Windows, Where, Lines, Names, Events}
 use Rattle.sv8_monitor.specs.declared.question.Question.{Question}
-use Rattle.sv8_monitor.specs.declared.question.Question.TheVariants.{Now, Before, BeforeCommand, Keep, Part, Differ}
+use Rattle.sv8_monitor.specs.declared.question.Question.TheVariants.{Now, Before, Keep, Part, Differ}
 use Rattle.sv8_monitor.specs.Conditions.{conditions_of}
 
 -- ---- questions about one workbench
@@ -34,43 +33,10 @@ query_of name words =
 
 -- ---- questions about before, and about both
 
--- the commands of the workbench that ask and change nothing
-abbrev pub asks : Command → Bool
-asks (Edit first last count) = false
-asks (Poke step address value) = false
-asks (ClearPoke step address) = false
-asks (PokeByte step address value) = false
-asks (ClearPokeByte step address) = false
-asks (Input step bytes) = false
-asks (ClearInput step) = false
-asks (Request step level) = false
-asks (ClearRequest step level) = false
-asks Listing = true
-asks (Regs step) = true
-asks (Mem step address count) = true
-asks (Out step) = true
-asks Quit = false
-
--- a question that a line can ask: of the workbench's own commands those alone that ask
-abbrev pub is_answerable : Question → Bool
-is_answerable (Now query) = true
-is_answerable (Before query) = true
-is_answerable (BeforeCommand command) = asks command
-is_answerable Keep = true
-is_answerable (Part from to) = true
-is_answerable (Differ now before count) = true
-
-abbrev pub if_asks : Command → Option Question
-if_asks c = if asks c then Some (BeforeCommand c) else None
-
-abbrev pub or_command : Option Query → List (List ℕ) → Option Question
-or_command (Some q) words = Some (Before q)
-or_command None words = option_and_then if_asks (command_of words)
-
 -- the query behind `before`: one of the monitor's, or one of the workbench's
 unfoldable pub before_of : List (List ℕ) → Option Question
 before_of [] = None
-before_of (name ∷ words) = or_command (query_of name words) (name ∷ words)
+before_of (name ∷ words) = option_map Before (option_or (query_of name words) (option_map Workbench (commands.query_of name words)))
 
 unfoldable pub named_of : List ℕ → List (List ℕ) → Option Question
 named_of name words =

@@ -15,11 +15,10 @@ use Rattle.sv8_session.specs.Run as session_run
 use Rattle.sv8_session.specs.Script as script
 use Rattle.sv8_commands.specs.Words.{words_of}
 use Rattle.sv8_commands.specs.Order as shell_order
-use Rattle.sv8_shell.specs.Commands.{outcome_of}
 use Rattle.sv8_shell.specs.Outcome.{Outcome, Answers}
 use Rattle.sv8_shell.specs.Session as shell_session
 use Rattle.sv8_monitor.specs.declared.question.Question.{Question}
-use Rattle.sv8_monitor.specs.declared.question.Question.TheVariants.{Now, Before, BeforeCommand, Keep, Part, Differ}
+use Rattle.sv8_monitor.specs.declared.question.Question.TheVariants.{Now, Before, Keep, Part, Differ}
 use Rattle.sv8_monitor.specs.Questions.{question_of}
 use Rattle.sv8_monitor.specs.Answers.{query_outcome, differ_outcome}
 use Rattle.sv8_search.specs.Comparing.{range_refusal, IsParted}
@@ -89,7 +88,6 @@ pub record IsParting (kept : Both) (from to : ℕ) (text : List ℕ) (next : Bot
 abbrev pub AnswersQuestion : Both → Question → List ℕ → Both → Type 0
 AnswersQuestion kept (Now query) text next = OnNow kept (query_outcome query kept.now) text next
 AnswersQuestion kept (Before query) text next = OnBefore kept (query_outcome query kept.before) text next
-AnswersQuestion kept (BeforeCommand command) text next = OnBefore kept (outcome_of command kept.before) text next
 AnswersQuestion kept Keep text next = IsKept kept text next
 AnswersQuestion kept (Part from to) text next = IsParting kept from to text next
 AnswersQuestion kept (Differ now before count) text next = OnNow kept (differ_outcome now before count kept.before kept.now) text next

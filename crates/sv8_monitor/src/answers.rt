@@ -37,6 +37,7 @@ pub fn answer_query<const NW: usize, const PAGES: usize, const K: u32, W: Write>
     ensures { Replies result (W.contents writer.old) (W.contents writer.new) bench.old.kept (query_outcome query bench.old.kept) bench.new.kept }
 {
     match query {
+        Query::Workbench(query) => sv8_shell::answer_query(bench, writer, query),
         Query::Steps {
             from,
             to,

@@ -9,10 +9,9 @@ ghost use Rattle.sv8_shell.specs.Put as outcomes;
 ghost use Rattle.sv8_shell.specs.Session as workbench;
 ghost use Rattle.sv8_commands.specs.Text.{ok_line};
 ghost use Rattle.sv8_monitor.specs.Answers.{differ_outcome};
-ghost use Rattle.sv8_monitor.specs.Questions.{asks, is_answerable};
 ghost use Rattle.sv8_monitor.specs.Session.{Both, Order, ask, kept_of, language, new_pair, shell};
 ghost use Rattle.sv8_monitor.specs.Texts.{parted_text};
-ghost use Rattle.sv8_monitor.specs.declared.question.Question.TheVariants.{BeforeCommand, Keep, Part, Differ};
+ghost use Rattle.sv8_monitor.specs.declared.question.Question.TheVariants.{Keep, Part, Differ};
 
 use crate::answers::answer_query;
 use crate::lines::add_parted;
@@ -22,14 +21,13 @@ use std::alloc::{AllocError, Global};
 use std::io::Write;
 use std::marker::Model;
 use sv8_bench::{Bench, LAST_STEP};
-use sv8_commands::Command;
 use sv8_commands::put::{WriteFault, accept, done, refuse};
 use sv8_commands::text::Text;
 use sv8_model::Refused;
 use sv8_search::{differ, part};
 use sv8_session::{Begun, Commands};
 use sv8_shell::refusal::refusal_of;
-use sv8_shell::{Effect, Shell, answer, answer_line};
+use sv8_shell::{Effect, Shell, answer_line};
 
 /// A workbench that is edited, and the one that was kept of it.
 #[derive(Drop)]
@@ -194,35 +192,18 @@ fn answer_command<const NW: usize, const PAGES: usize, const K: u32, W: Write>(
 fn answer_question<const NW: usize, const PAGES: usize, const K: u32, W: Write>(
     monitor: &mut Monitor<NW, PAGES, K>,
     writer: &mut W,
-    question: Question<'_>,
+    question: Question,
 ) -> Result<(), WriteFault>
-    requires { is_answerable question ≡ true }
-    ensures { Replies language result (W.contents writer.old) (W.contents writer.new) (kept_of monitor.old) (ask question.entry) (kept_of monitor.new) }
+    ensures { Replies language result (W.contents writer.old) (W.contents writer.new) (kept_of monitor.old) (ask question) (kept_of monitor.new) }
 {
     match question {
         Question::Now(query) => answer_query(&mut monitor.current, writer, query),
         Question::Before(query) => answer_query(&mut monitor.before, writer, query),
-        Question::BeforeCommand(command) => answer_before(monitor, writer, command),
         Question::Keep => answer_keep(monitor, writer),
         Question::Part { from, to } => answer_part(monitor, writer, from, to),
         Question::Differ { now, before, count } => {
             answer_differ(monitor, writer, now, before, count)
         }
-    }
-}
-
-/// Answers a query of the workbench's on the one that was kept.
-fn answer_before<const NW: usize, const PAGES: usize, const K: u32, W: Write>(
-    monitor: &mut Monitor<NW, PAGES, K>,
-    writer: &mut W,
-    command: Command<'_>,
-) -> Result<(), WriteFault>
-    requires { asks command ≡ true }
-    ensures { Replies language result (W.contents writer.old) (W.contents writer.new) (kept_of monitor.old) (ask (BeforeCommand command.entry)) (kept_of monitor.new) }
-{
-    match answer(&mut monitor.before, writer, command) {
-        Ok(_) => Ok(()),
-        Err(fault) => Err(fault),
     }
 }
 

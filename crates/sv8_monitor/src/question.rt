@@ -1,19 +1,20 @@
 //! What the monitor is asked, and how a line reads as a question.
 
-ghost use Rattle.std.specs.Prelude.{◌≡◌, true, Some, None, IfOk, IfSome, MatchResult, option_and_then};
+ghost use Rattle.std.specs.Prelude.{◌≡◌, Some, None, MatchResult};
 ghost use Rattle.sv8_commands.specs.Words.{words_of};
-ghost use Rattle.sv8_commands.specs.Commands.{command_of};
-ghost use Rattle.sv8_monitor.specs.Questions.{steps_of, query_of, asks, if_asks, before_of, named_of, question_of, is_answerable};
+ghost use Rattle.sv8_monitor.specs.Questions.{steps_of, query_of, before_of, named_of, question_of};
 
 use crate::conditions::{Conditions, read_conditions};
 use sv8_commands::{
-    BadCommand, Command, next_word, parse_command, read_alone, read_number, read_number_address,
-    read_one_number, read_three_numbers, read_two_numbers,
+    BadCommand, next_word, read_alone, read_number, read_number_address, read_one_number,
+    read_three_numbers, read_two_numbers,
 };
 
 /// A question about one workbench. Steps and numbers of lines are as its commands have them.
 #[derive(Drop)]
 pub enum Query {
+    /// What the workbench itself answers.
+    Workbench(sv8_commands::Query),
     /// `steps FROM TO COUNT [CONDITION ..]`: the steps that meet a condition, at most so many.
     Steps {
         from: u32,
@@ -46,13 +47,11 @@ pub enum Query {
 
 /// A question of the monitor.
 #[derive(Drop)]
-pub enum Question<'a> {
+pub enum Question {
     /// About the workbench as it is now.
     Now(Query),
     /// `before QUERY`: about the one that was kept.
     Before(Query),
-    /// `before QUERY`, where the workbench itself answers the query.
-    BeforeCommand(Command<'a>),
     /// `keep`: the workbench as it is now becomes the one that is kept.
     Keep,
     /// `part FROM TO`: the first step at which the processors of both differ.
@@ -104,50 +103,27 @@ fn read_query(name: &[u8], rest: &[u8]) -> Result<Query, BadCommand>
     }
 }
 
-/// Whether a command of the workbench asks, and changes nothing.
-fn asks(command: &Command<'_>) -> bool
-    ensures { result ≡ asks command.now }
-{
-    matches!(
-        command,
-        Command::Listing | Command::Regs { .. } | Command::Mem { .. } | Command::Out { .. }
-    )
-}
-
-/// A query of the workbench's own.
-fn read_before_command(text: &[u8]) -> Result<Question<'_>, BadCommand>
-    ensures question { MatchResult result (λ c. option_and_then if_asks (command_of (words_of text.now)) ≡ Some c)
-        (λ _. option_and_then if_asks (command_of (words_of text.now)) ≡ None) }
-    ensures answerable { IfOk result (λ c. is_answerable c ≡ true) }
-{
-    let command = parse_command(text)?;
-    if asks(&command) {
-        Ok(Question::BeforeCommand(command))
-    } else {
-        Err(BadCommand)
-    }
-}
-
 #[tactic(auto, unfolding(crate::specs::Questions::before_of))]
-fn read_before(text: &[u8]) -> Result<Question<'_>, BadCommand>
-    ensures question { MatchResult result (λ c. before_of (words_of text.now) ≡ Some c)
+fn read_before(text: &[u8]) -> Result<Question, BadCommand>
+    ensures { MatchResult result (λ c. before_of (words_of text.now) ≡ Some c)
         (λ _. before_of (words_of text.now) ≡ None) }
-    ensures answerable { IfOk result (λ c. is_answerable c ≡ true) }
 {
     match next_word(text) {
         None => Err(BadCommand),
         Some((name, rest)) => match read_query(name, rest) {
             Ok(query) => Ok(Question::Before(query)),
-            Err(_) => read_before_command(text),
+            Err(_) => {
+                let query = sv8_commands::read_query(name, rest)?;
+                Ok(Question::Before(Query::Workbench(query)))
+            }
         },
     }
 }
 
 #[tactic(auto, unfolding(crate::specs::Questions::named_of))]
-fn read_named<'a>(name: &[u8], rest: &'a [u8]) -> Result<Question<'a>, BadCommand>
-    ensures question { MatchResult result (λ c. named_of name.now (words_of rest.now) ≡ Some c)
+fn read_named(name: &[u8], rest: &[u8]) -> Result<Question, BadCommand>
+    ensures { MatchResult result (λ c. named_of name.now (words_of rest.now) ≡ Some c)
         (λ _. named_of name.now (words_of rest.now) ≡ None) }
-    ensures answerable { IfOk result (λ c. is_answerable c ≡ true) }
 {
     if name == b"keep".as_slice() {
         read_alone(Question::Keep, rest)
@@ -166,9 +142,8 @@ fn read_named<'a>(name: &[u8], rest: &'a [u8]) -> Result<Question<'a>, BadComman
 }
 
 /// The question that a line asks, without its end. A line that asks none is for the workbench to read.
-pub fn parse_question(text: &[u8]) -> Option<Question<'_>>
-    ensures question { result ≡ question_of (words_of text.now) }
-    ensures answerable { IfSome result (λ c. is_answerable c ≡ true) }
+pub fn parse_question(text: &[u8]) -> Option<Question>
+    ensures { result ≡ question_of (words_of text.now) }
 {
     let (name, rest) = next_word(text)?;
     read_named(name, rest).ok()

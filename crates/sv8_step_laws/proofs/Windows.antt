@@ -33,11 +33,15 @@ use Rattle.sv8_iu.specs.Arithmetic.{finished, finished_product, finished_quotien
 use Rattle.sv8_iu.specs.Control.{is_always, distance, holds, branched, called, jumped}
 use Rattle.sv8_iu.specs.Windows.{moved}
 use Rattle.sv8_iu.specs.StateRegisters.{state_read, state_written}
-use Rattle.sv8_iu.specs.Memory.{odd_register, with_pair, transferred_data}
+use Rattle.sv8_iu.specs.declared.memory.TransferKind.{TransferKind}
+use Rattle.sv8_iu.specs.declared.memory.TransferKind.TheVariants as kinds
+use Rattle.sv8_iu.specs.Memory.{transfer_of, size_of, odd_register, with_pair, finished_transfer, transferred_data}
 use Rattle.sv8_iu.specs.Instruction.{trapped, complete}
 use Rattle.sv8_memory.specs.Units.{Units}
 use Rattle.sv8_phys.specs.Contents.{arrived, outside_of}
 use Rattle.sv8_phys.specs.Memory.{ram_size}
+use Rattle.sv8_phys.specs.declared.size.Size.{Size}
+use Rattle.sv8_phys.specs.declared.size.Size.TheVariants.{Byte, Half, Word, Double}
 use Rattle.sv8_cpu.specs.State.{inner_of}
 use Rattle.sv8_cpu.specs.Step.{Inner, observed_trap, executed, fetched, finished_access, instruction, continued, requested, interruptible, awake, action}
 use Rattle.sv8_cpu.specs.Run as run
@@ -131,18 +135,17 @@ module _ (windows : ℕ) (two : 2 ≤ windows) (p : Processor) (w_in : p.registe
 
   leaves_data : (op : MemoryOp) (rd value : ℕ) → rd < 32 → Leaves (transferred_data windows p op rd value)
   unfolding transferred_data advanced
-  leaves_data memory.Ld rd value target = leaves_result rd _ target
-  leaves_data memory.Ldub rd value target = leaves_result rd _ target
-  leaves_data memory.Lduh rd value target = leaves_result rd _ target
-  leaves_data memory.Ldsb rd value target = leaves_result rd _ target
-  leaves_data memory.Ldsh rd value target = leaves_result rd _ target
-  leaves_data memory.Ldd rd value target = leaves_pair rd value target
-  leaves_data memory.Ldstub rd value target = leaves_result rd _ target
-  leaves_data memory.Swap rd value target = leaves_result rd _ target
-  leaves_data memory.St rd value target = leaves_ring _ refl
-  leaves_data memory.Stb rd value target = leaves_ring _ refl
-  leaves_data memory.Sth rd value target = leaves_ring _ refl
-  leaves_data memory.Std rd value target = leaves_ring _ refl
+  leaves_data op rd value target = of_kind (transfer_of op).kind (size_of op)
+    where
+      of_kind : (kind : TransferKind) (size : Size) → Leaves (finished_transfer windows p kind size rd value)
+      of_kind kinds.Load Byte = leaves_result rd _ target
+      of_kind kinds.Load Half = leaves_result rd _ target
+      of_kind kinds.Load Word = leaves_result rd _ target
+      of_kind kinds.Load Double = leaves_pair rd value target
+      of_kind kinds.LoadSigned size = leaves_result rd _ target
+      of_kind kinds.Store size = leaves_ring _ refl
+      of_kind kinds.Swap size = leaves_result rd _ target
+      of_kind kinds.Mark size = leaves_result rd _ target
 
   leaves_complete : (i : Instr) (value : ℕ) → HasTarget i → Leaves (complete windows p i value)
   unfolding branched called jumped returned multiply_step shifted state_read transferred advanced

@@ -1,32 +1,33 @@
 //! Lines that are commands, and lines that are not.
 
 use std::test::Fail;
-use sv8_commands::{Command, next_word, parse_command};
+use sv8_commands::{Command, Query, next_word, parse_command};
 use sv8_program::Program;
 use sv8_shell::Sparc8;
+use sv8_time::TimelineEdit;
 
 #[test]
 fn lines_that_are_commands(rt: HostRuntime) -> Result<(), Fail> {
-    assert!(rt; matches!(parse_command(b"list"), Ok(Command::Listing)));
+    assert!(rt; matches!(parse_command(b"list"), Ok(Command::Ask(Query::Listing))));
     assert!(rt; matches!(parse_command(b"quit"), Ok(Command::Quit)));
-    assert!(rt; matches!(parse_command(b"\t list \t"), Ok(Command::Listing)));
-    assert!(rt; matches!(parse_command(b"regs 0"), Ok(Command::Regs { step: 0 })));
+    assert!(rt; matches!(parse_command(b"\t list \t"), Ok(Command::Ask(Query::Listing))));
+    assert!(rt; matches!(parse_command(b"regs 0"), Ok(Command::Ask(Query::Regs { step: 0 }))));
     assert!(rt;
         matches!(
             parse_command(b"regs 1000001"),
-            Ok(Command::Regs { step: 1_000_001 })
+            Ok(Command::Ask(Query::Regs { step: 1_000_001 }))
         )
     );
     assert!(rt;
         matches!(
             parse_command(b"regs 4294967295"),
-            Ok(Command::Regs { step: u32::MAX })
+            Ok(Command::Ask(Query::Regs { step: u32::MAX }))
         )
     );
     assert!(rt;
         matches!(
             parse_command(b"regs 0000000007"),
-            Ok(Command::Regs { step: 7 })
+            Ok(Command::Ask(Query::Regs { step: 7 }))
         )
     );
     assert!(rt;
@@ -52,12 +53,20 @@ fn lines_that_are_commands(rt: HostRuntime) -> Result<(), Fail> {
     Ok(())
 }
 
+/// The edit of the timeline that a line is.
+fn edit_in(line: &[u8]) -> Option<TimelineEdit<'_>> {
+    match parse_command(line) {
+        Ok(Command::Timeline(edit)) => Some(edit),
+        _ => None,
+    }
+}
+
 #[test]
-fn lines_that_edit_the_timeline(rt: HostRuntime) -> Result<(), Fail> {
+fn lines_that_poke(rt: HostRuntime) -> Result<(), Fail> {
     assert!(rt;
         matches!(
-            parse_command(b"\tpoke\t0000000005  0000fFfC AbCdEf01 "),
-            Ok(Command::Poke {
+            edit_in(b"\tpoke\t0000000005  0000fFfC AbCdEf01 "),
+            Some(TimelineEdit::SetPoke {
                 step: 5,
                 address: 0xfffc,
                 value: 0xabcd_ef01
@@ -66,8 +75,8 @@ fn lines_that_edit_the_timeline(rt: HostRuntime) -> Result<(), Fail> {
     );
     assert!(rt;
         matches!(
-            parse_command(b"unpoke 4294967295 FFFFFFFF"),
-            Ok(Command::ClearPoke {
+            edit_in(b"unpoke 4294967295 FFFFFFFF"),
+            Some(TimelineEdit::ClearPoke {
                 step: u32::MAX,
                 address: u32::MAX
             })
@@ -75,8 +84,8 @@ fn lines_that_edit_the_timeline(rt: HostRuntime) -> Result<(), Fail> {
     );
     assert!(rt;
         matches!(
-            parse_command(b"pokeb 5 101 aA"),
-            Ok(Command::PokeByte {
+            edit_in(b"pokeb 5 101 aA"),
+            Some(TimelineEdit::SetPokeByte {
                 step: 5,
                 address: 0x101,
                 value: 0xaa
@@ -85,23 +94,28 @@ fn lines_that_edit_the_timeline(rt: HostRuntime) -> Result<(), Fail> {
     );
     assert!(rt;
         matches!(
-            parse_command(b"unpokeb 10 10"),
-            Ok(Command::ClearPokeByte {
+            edit_in(b"unpokeb 10 10"),
+            Some(TimelineEdit::ClearPokeByte {
                 step: 10,
                 address: 16
             })
         )
     );
+    Ok(())
+}
+
+#[test]
+fn lines_that_edit_other_events(rt: HostRuntime) -> Result<(), Fail> {
     assert!(rt;
         matches!(
-            parse_command(b"uninput 10"),
-            Ok(Command::ClearInput { step: 10 })
+            edit_in(b"uninput 10"),
+            Some(TimelineEdit::ClearInput { step: 10 })
         )
     );
     assert!(rt;
         matches!(
-            parse_command(b"irq 10 10"),
-            Ok(Command::Request {
+            edit_in(b"irq 10 10"),
+            Some(TimelineEdit::SetRequest {
                 step: 10,
                 level: 10
             })
@@ -109,8 +123,8 @@ fn lines_that_edit_the_timeline(rt: HostRuntime) -> Result<(), Fail> {
     );
     assert!(rt;
         matches!(
-            parse_command(b"unirq 10 99"),
-            Ok(Command::ClearRequest {
+            edit_in(b"unirq 10 99"),
+            Some(TimelineEdit::ClearRequest {
                 step: 10,
                 level: 99
             })
@@ -203,22 +217,37 @@ fn lines_that_are_none(rt: HostRuntime) -> Result<(), Fail> {
     Ok(())
 }
 
+/// The name of an edit of the timeline.
+fn name_of_edit(edit: &TimelineEdit<'_>) -> &'static [u8] {
+    match edit {
+        TimelineEdit::SetPoke { .. } => b"poke",
+        TimelineEdit::ClearPoke { .. } => b"unpoke",
+        TimelineEdit::SetPokeByte { .. } => b"pokeb",
+        TimelineEdit::ClearPokeByte { .. } => b"unpokeb",
+        TimelineEdit::SetInput { .. } => b"input",
+        TimelineEdit::ClearInput { .. } => b"uninput",
+        TimelineEdit::SetRequest { .. } => b"irq",
+        TimelineEdit::ClearRequest { .. } => b"unirq",
+    }
+}
+
+/// The name of a query.
+fn name_of_query(query: Query) -> &'static [u8] {
+    match query {
+        Query::Listing => b"list",
+        Query::Regs { .. } => b"regs",
+        Query::Mem { .. } => b"mem",
+        Query::Out { .. } => b"out",
+    }
+}
+
 /// The name of a command.
 fn name_of(command: &Command<'_>) -> &'static [u8] {
     match command {
         Command::Edit { .. } => b"edit",
-        Command::Poke { .. } => b"poke",
-        Command::ClearPoke { .. } => b"unpoke",
-        Command::PokeByte { .. } => b"pokeb",
-        Command::ClearPokeByte { .. } => b"unpokeb",
         Command::Input { .. } => b"input",
-        Command::ClearInput { .. } => b"uninput",
-        Command::Request { .. } => b"irq",
-        Command::ClearRequest { .. } => b"unirq",
-        Command::Listing => b"list",
-        Command::Regs { .. } => b"regs",
-        Command::Mem { .. } => b"mem",
-        Command::Out { .. } => b"out",
+        Command::Timeline(edit) => name_of_edit(edit),
+        Command::Ask(query) => name_of_query(*query),
         Command::Quit => b"quit",
     }
 }

@@ -1,5 +1,0 @@
-use Rattle.sv8_history.proofs.Numbers as lemmas
-use Rattle.sv8_history.proofs.worked.byte_clear.Goals as goal
-
-pub returns : goal.returns
-returns c = lemmas.byte_clear_worked
