@@ -203,6 +203,7 @@ impl<const NW: usize, const PAGES: usize> Parts<NW, PAGES> {
 
     /// Carries out a word of op 3 where addresses are translated. It is a function of its own, so that its frame is not made where
     /// they are not.
+    #[cold]
     #[inline(never)]
     fn carry_out_translated<T: Touches>(
         &mut self,
@@ -229,8 +230,35 @@ impl<const NW: usize, const PAGES: usize> Parts<NW, PAGES> {
         self.complete_transfer::<true, T>(word, op, rd, at, feed, notes)
     }
 
-    /// Carries out a load or a store (Appendices B.1 to B.8), and every other word of op 3.
+    /// Carries out a word of op 3 where addresses are not translated.
     #[inline(never)]
+    fn carry_out_untranslated<T: Touches>(
+        &mut self,
+        word: u32,
+        feed: Feed<'_>,
+        notes: &mut T,
+    ) -> Result<(), AllocError>
+        requires group { group_of word ≡ Group.Memory }
+        requires untranslated { translates self.old.memory.mmu ≡ false }
+        requires fed { IsFed feed self.old.memory.phys }
+        ensures { OnOk result (Acts (keeping T.KEEPS T.OBSERVES) feed.entry (carried_out NW (ram_size PAGES) (inner_of_parts self.old) word)
+            self.old self.new (T.noted notes.old) (T.noted notes.new)) }
+    {
+        let Instr::Memory {
+            op,
+            rd,
+            rs1,
+            operand,
+        } = decode_memory(word)
+        else {
+            return self.carry_out_word(word, feed, notes);
+        };
+        self.transfer(word, op, rd, rs1, operand, feed, notes)
+    }
+
+    /// Carries out a load or a store (Appendices B.1 to B.8), and every other word of op 3. Whether addresses are translated is asked
+    /// here, before a call saves any register.
+    #[inline(always)]
     pub fn carry_out_transfer<T: Touches>(
         &mut self,
         word: u32,
@@ -245,15 +273,6 @@ impl<const NW: usize, const PAGES: usize> Parts<NW, PAGES> {
         if self.memory.translates() {
             return self.carry_out_translated(word, feed, notes);
         }
-        let Instr::Memory {
-            op,
-            rd,
-            rs1,
-            operand,
-        } = decode_memory(word)
-        else {
-            return self.carry_out_word(word, feed, notes);
-        };
-        self.transfer(word, op, rd, rs1, operand, feed, notes)
+        self.carry_out_untranslated(word, feed, notes)
     }
 }

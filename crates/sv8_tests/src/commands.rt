@@ -10,8 +10,18 @@ use sv8_time::TimelineEdit;
 fn lines_that_are_commands(rt: HostRuntime) -> Result<(), Fail> {
     assert!(rt; matches!(parse_command(b"list"), Ok(Command::Ask(Query::Listing))));
     assert!(rt; matches!(parse_command(b"quit"), Ok(Command::Quit)));
-    assert!(rt; matches!(parse_command(b"\t list \t"), Ok(Command::Ask(Query::Listing))));
-    assert!(rt; matches!(parse_command(b"regs 0"), Ok(Command::Ask(Query::Regs { step: 0 }))));
+    assert!(rt;
+        matches!(
+            parse_command(b"\t list \t"),
+            Ok(Command::Ask(Query::Listing))
+        )
+    );
+    assert!(rt;
+        matches!(
+            parse_command(b"regs 0"),
+            Ok(Command::Ask(Query::Regs { step: 0 }))
+        )
+    );
     assert!(rt;
         matches!(
             parse_command(b"regs 1000001"),
