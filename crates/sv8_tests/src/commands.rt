@@ -6,40 +6,36 @@ use sv8_program::Program;
 use sv8_shell::Sparc8;
 use sv8_time::TimelineEdit;
 
+/// The step of which a line asks the registers.
+fn step_of_regs(line: &[u8]) -> Option<u32> {
+    match parse_command(line) {
+        Ok(Command::Ask(Query::Regs { step })) => Some(step),
+        _ => None,
+    }
+}
+
+/// Whether a line asks for the listing.
+fn asks_for_the_listing(line: &[u8]) -> bool {
+    match parse_command(line) {
+        Ok(Command::Ask(Query::Listing)) => true,
+        _ => false,
+    }
+}
+
 #[test]
-fn lines_that_are_commands(rt: HostRuntime) -> Result<(), Fail> {
-    assert!(rt; matches!(parse_command(b"list"), Ok(Command::Ask(Query::Listing))));
+fn lines_that_ask(rt: HostRuntime) -> Result<(), Fail> {
+    assert!(rt; asks_for_the_listing(b"list"));
+    assert!(rt; asks_for_the_listing(b"\t list \t"));
+    assert!(rt; step_of_regs(b"regs 0") == Some(0));
+    assert!(rt; step_of_regs(b"regs 1000001") == Some(1_000_001));
+    assert!(rt; step_of_regs(b"regs 4294967295") == Some(u32::MAX));
+    assert!(rt; step_of_regs(b"regs 0000000007") == Some(7));
+    Ok(())
+}
+
+#[test]
+fn lines_that_edit_the_source_or_end(rt: HostRuntime) -> Result<(), Fail> {
     assert!(rt; matches!(parse_command(b"quit"), Ok(Command::Quit)));
-    assert!(rt;
-        matches!(
-            parse_command(b"\t list \t"),
-            Ok(Command::Ask(Query::Listing))
-        )
-    );
-    assert!(rt;
-        matches!(
-            parse_command(b"regs 0"),
-            Ok(Command::Ask(Query::Regs { step: 0 }))
-        )
-    );
-    assert!(rt;
-        matches!(
-            parse_command(b"regs 1000001"),
-            Ok(Command::Ask(Query::Regs { step: 1_000_001 }))
-        )
-    );
-    assert!(rt;
-        matches!(
-            parse_command(b"regs 4294967295"),
-            Ok(Command::Ask(Query::Regs { step: u32::MAX }))
-        )
-    );
-    assert!(rt;
-        matches!(
-            parse_command(b"regs 0000000007"),
-            Ok(Command::Ask(Query::Regs { step: 7 }))
-        )
-    );
     assert!(rt;
         matches!(
             parse_command(b"edit 1 0 4"),
