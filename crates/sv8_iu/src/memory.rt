@@ -22,9 +22,9 @@ pub enum TransferKind {
     LoadSigned,
     /// It stores what is in registers.
     Store,
-    /// It exchanges a register with memory.
+    /// It exchanges a register with memory (SWAP, Appendix B.8).
     Swap,
-    /// It loads a byte, and leaves ones there.
+    /// It loads a byte, and leaves ones there (LDSTUB, Appendix B.7).
     Mark,
 }
 
