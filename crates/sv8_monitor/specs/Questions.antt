@@ -1,5 +1,5 @@
 -- How words read as questions of the monitor: each has its name, the form of its operands, and what is made of them.
-use Rattle.std.specs.Prelude.{ℕ, Bool, true, false, List, [], ◌∷◌, Option, Some, None, if◌then◌else◌, codes, bytes_eq, option_map}
+use Rattle.std.specs.Prelude.{ℕ, List, [], ◌∷◌, Option, Some, None, if◌then◌else◌, codes, bytes_eq, option_map}
 use Rattle.std.specs.Option.{option_or}
 use Rattle.sv8_commands.specs.Words.{first_number}
 use Rattle.sv8_commands.specs.Operands.{◌>>=◌, alone, one_number, two_numbers, three_numbers, number_address}

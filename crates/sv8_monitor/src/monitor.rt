@@ -1,6 +1,6 @@
 //! The commands of the monitor, as the loop asks for them.
 
-ghost use Rattle.std.specs.Prelude.{◌≡◌, ◌≤◌, ℕ, ◌++◌, List, min, take, true, IfOk, OnOk, OnErr};
+ghost use Rattle.std.specs.Prelude.{◌≡◌, ◌≤◌, ℕ, ◌++◌, List, min, take, IfOk, OnOk, OnErr};
 ghost use Rattle.sv8_session.specs.Gathers.{texts};
 ghost use Rattle.sv8_session.specs.Put.{Puts, Replies};
 ghost use Rattle.sv8_trace.specs.Recording.{recorded};
