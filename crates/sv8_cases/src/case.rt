@@ -12,8 +12,39 @@ use thiserror::Error;
 /// The pages of RAM: one mebibyte, as the program has.
 const PAGES: usize = 256;
 
-/// The steps from one checkpoint to the next where a case's name does not say another number, as the program has.
+/// The steps from one checkpoint to the next, as the program has.
 const CHECKPOINT_STEPS: u32 = 256;
+
+/// How many steps a run makes from one checkpoint to the next.
+#[derive(Drop, Clone, Copy)]
+pub enum Spacing {
+    /// 256, as the program does.
+    Wide,
+    /// Four.
+    Four,
+    /// One.
+    One,
+}
+
+impl Spacing {
+    /// The number of steps.
+    pub fn steps(self) -> u32 {
+        match self {
+            Spacing::Wide => CHECKPOINT_STEPS,
+            Spacing::Four => 4,
+            Spacing::One => 1,
+        }
+    }
+
+    /// The ending of the file that has the counts of such a run.
+    pub fn ending(self) -> &'static str {
+        match self {
+            Spacing::Wide => "counts",
+            Spacing::Four => "k4.counts",
+            Spacing::One => "k1.counts",
+        }
+    }
+}
 
 /// Why a case has no answer to compare.
 #[derive(Debug, Drop, Clone, Copy, PartialEq, Eq, Error)]
@@ -22,8 +53,11 @@ pub enum CaseFault {
     #[error("no file .{0}")]
     NoFile(&'static str),
     /// The case's name does not say with how many register windows it runs.
-    #[error("the name does not end with -w2, -w4, -w8, -w16 or -w32, nor with -w8-k1 or -w8-k4")]
+    #[error("the name does not end with -w2, -w4, -w8, -w16 or -w32")]
     NoWindows,
+    /// A run with few steps from one checkpoint to the next is of 8 register windows.
+    #[error("only -w8 has counts of 1 or 4 steps from one checkpoint to the next")]
+    NoSpacing,
     /// The run ended before the script did.
     #[error("{0}")]
     Run(RunFault),
@@ -138,21 +172,26 @@ fn wanted_of<const NW: usize, const K: u32>(
     }
 }
 
-/// What a script makes of a workbench with as many windows, and steps from one checkpoint to the next, as the case's name says.
+/// What a script makes of a workbench with as many windows as the case's name says.
 pub fn run_case(
     alloc: Global,
     name: &str,
     script: &[u8],
+    spacing: Spacing,
     wanted: Wanted,
 ) -> Result<Vec<u8>, CaseFault> {
-    match name.rsplit_once("-w") {
-        Some((_, "2")) => wanted_of::<2, CHECKPOINT_STEPS>(alloc, script, wanted),
-        Some((_, "4")) => wanted_of::<4, CHECKPOINT_STEPS>(alloc, script, wanted),
-        Some((_, "8")) => wanted_of::<8, CHECKPOINT_STEPS>(alloc, script, wanted),
-        Some((_, "16")) => wanted_of::<16, CHECKPOINT_STEPS>(alloc, script, wanted),
-        Some((_, "32")) => wanted_of::<32, CHECKPOINT_STEPS>(alloc, script, wanted),
-        Some((_, "8-k1")) => wanted_of::<8, 1>(alloc, script, wanted),
-        Some((_, "8-k4")) => wanted_of::<8, 4>(alloc, script, wanted),
-        _ => Err(CaseFault::NoWindows),
+    let Some((_, windows)) = name.rsplit_once("-w") else {
+        return Err(CaseFault::NoWindows);
+    };
+    match (windows, spacing) {
+        ("8", Spacing::One) => wanted_of::<8, 1>(alloc, script, wanted),
+        ("8", Spacing::Four) => wanted_of::<8, 4>(alloc, script, wanted),
+        (_, Spacing::One | Spacing::Four) => Err(CaseFault::NoSpacing),
+        ("2", Spacing::Wide) => wanted_of::<2, CHECKPOINT_STEPS>(alloc, script, wanted),
+        ("4", Spacing::Wide) => wanted_of::<4, CHECKPOINT_STEPS>(alloc, script, wanted),
+        ("8", Spacing::Wide) => wanted_of::<8, CHECKPOINT_STEPS>(alloc, script, wanted),
+        ("16", Spacing::Wide) => wanted_of::<16, CHECKPOINT_STEPS>(alloc, script, wanted),
+        ("32", Spacing::Wide) => wanted_of::<32, CHECKPOINT_STEPS>(alloc, script, wanted),
+        (_, Spacing::Wide) => Err(CaseFault::NoWindows),
     }
 }

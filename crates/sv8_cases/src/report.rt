@@ -1,6 +1,6 @@
 //! The report: a line for each case that differs, and the counts.
 
-use crate::case::{CaseFault, Wanted, read_file, run_case};
+use crate::case::{CaseFault, Spacing, Wanted, read_file, run_case};
 use anyhow::{Context, Result};
 use std::io::{BufWriter, Write};
 use std::{env, fs};
@@ -16,12 +16,12 @@ fn words(rt: &HostRuntime) -> Result<(String, Option<String>)> {
     }
 }
 
-/// The names of the cases, in order: what stands before the last dot in the name of each file.
+/// The names of the cases, in order: what stands before the first dot in the name of each file.
 fn case_names(rt: &HostRuntime, folder: &str) -> Result<Vec<String>> {
     let mut names = Vec::new(rt.alloc());
     for entry in fs::read_dir(rt, folder)? {
         let entry = entry?;
-        if let Some((name, _)) = entry.file_name().rsplit_once('.') {
+        if let Some((name, _)) = entry.file_name().split_once('.') {
             let name = String::from_str(rt.alloc(), name)?;
             names.push(name)?;
         }
@@ -46,7 +46,7 @@ pub fn run_asked(rt: &HostRuntime) -> Result<u64> {
 /// Writes what the commands of a case answer, each with the counts after it.
 fn show(rt: &HostRuntime, folder: &str, name: &str) -> Result<()> {
     let script = read_file(rt, folder, name, "txt")?;
-    let shown = run_case(rt.alloc(), name, &script, Wanted::Both)?;
+    let shown = run_case(rt.alloc(), name, &script, Spacing::Wide, Wanted::Both)?;
     rt.stdout().write_all(&shown)?;
     Ok(())
 }
@@ -67,34 +67,33 @@ fn run_cases(rt: &HostRuntime, folder: &str) -> Result<u64> {
     Ok(differing)
 }
 
-/// Runs a case, and writes a line where its answer, or one of its counts, is not the one that is due. Tells whether all are.
+/// Makes the runs of a case: one as the program, and one for each other spacing of checkpoints that it has counts of. Tells whether all
+/// of them give what is due.
 fn tell<W: Write>(rt: &HostRuntime, folder: &str, name: &str, out: &mut W) -> Result<bool> {
-    let answered = tell_wanted(rt, folder, name, Wanted::Answer, out)?;
-    if read_file(rt, folder, name, ending_of(Wanted::Counts)).is_err() {
-        return Ok(answered);
+    let mut is_due = true;
+    for spacing in [Spacing::Wide, Spacing::Four, Spacing::One] {
+        let has_counts = read_file(rt, folder, name, spacing.ending()).is_ok();
+        if has_counts || matches!(spacing, Spacing::Wide) {
+            is_due &= tell_wanted(rt, folder, name, spacing, Wanted::Answer, out)?;
+        }
+        if has_counts {
+            is_due &= tell_wanted(rt, folder, name, spacing, Wanted::Counts, out)?;
+        }
     }
-    let counted = tell_wanted(rt, folder, name, Wanted::Counts, out)?;
-    Ok(answered && counted)
+    Ok(is_due)
 }
 
-/// The ending of the file that has what is due.
-fn ending_of(wanted: Wanted) -> &'static str {
-    match wanted {
-        Wanted::Answer => "answer",
-        Wanted::Counts | Wanted::Both => "counts",
-    }
-}
-
-/// Runs a case for one of these, and writes a line where it is not the one that is due. Tells whether it is.
+/// Makes a run of a case for one of these, and writes a line where it is not the one that is due. Tells whether it is.
 fn tell_wanted<W: Write>(
     rt: &HostRuntime,
     folder: &str,
     name: &str,
+    spacing: Spacing,
     wanted: Wanted,
     out: &mut W,
 ) -> Result<bool> {
-    match texts(rt, folder, name, wanted) {
-        Ok((due, came)) => compare(name, &due, &came, out),
+    match texts(rt, folder, name, spacing, wanted) {
+        Ok((due, came)) => compare(name, spacing, &due, &came, out),
         Err(fault) => {
             writeln!(out, "{name}: {fault}")?;
             Ok(false)
@@ -102,28 +101,43 @@ fn tell_wanted<W: Write>(
     }
 }
 
-/// The text that is due to a case, and the one that came.
+/// The text that is due to a run, and the one that came.
 fn texts(
     rt: &HostRuntime,
     folder: &str,
     name: &str,
+    spacing: Spacing,
     wanted: Wanted,
 ) -> Result<(Vec<u8>, Vec<u8>), CaseFault> {
+    let ending = match wanted {
+        Wanted::Answer => "answer",
+        Wanted::Counts | Wanted::Both => spacing.ending(),
+    };
     let script = read_file(rt, folder, name, "txt")?;
-    let due = read_file(rt, folder, name, ending_of(wanted))?;
-    let came = run_case(rt.alloc(), name, &script, wanted)?;
+    let due = read_file(rt, folder, name, ending)?;
+    let came = run_case(rt.alloc(), name, &script, spacing, wanted)?;
     Ok((due, came))
 }
 
-/// Writes where two answers differ, if they do. Tells whether they are the same.
-fn compare<W: Write>(name: &str, due: &[u8], came: &[u8], out: &mut W) -> Result<bool> {
+/// Writes where two texts of a run differ, if they do. Tells whether they are the same.
+fn compare<W: Write>(
+    name: &str,
+    spacing: Spacing,
+    due: &[u8],
+    came: &[u8],
+    out: &mut W,
+) -> Result<bool> {
     match first_difference(due, came) {
         None => Ok(true),
         Some(at) => {
+            let steps = spacing.steps();
             let line = at.line;
             let due = at.due.escape_ascii();
             let came = at.came.escape_ascii();
-            writeln!(out, "{name} line {line}: due \"{due}\", came \"{came}\"")?;
+            writeln!(
+                out,
+                "{name}, {steps} steps a checkpoint, line {line}: due \"{due}\", came \"{came}\""
+            )?;
             Ok(false)
         }
     }
