@@ -16,7 +16,7 @@ use sv8_trap::Trap;
 #[inline(always)]
 pub fn show_trap<T: Touches>(trap: Trap, notes: &mut T) -> Result<(), AllocError>
     ensures ok { OnOk result (T.noted notes.new ≡ noting (keeping T.KEEPS T.OBSERVES) (T.noted notes.old) [] (trap_seen trap ∷ [])) }
-    ensures err { OnErr result (T.OBSERVES ≡ true) }
+    ensures observed { OnErr result (T.OBSERVES ≡ true) }
 {
     notes.observe(Observation::Trap(trap.row().trap_type))?;
     Ok(())

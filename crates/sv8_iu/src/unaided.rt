@@ -3,7 +3,7 @@
 //! Each group is a function of its own, so that a word comes in and no decoded instruction goes from one function to another, and
 //! the frequent instructions have arms in it. What has no arm goes the way of every instruction, by `raised_by` and `complete`.
 
-ghost use Rattle.std.specs.Prelude.{◌≡◌, ◌≢◌, [], true, OnOk, OnErr};
+ghost use Rattle.std.specs.Prelude.{◌≡◌, ◌≢◌, [], None, true, OnOk, OnErr};
 ghost use Rattle.sv8_model.specs.Does.{noting, keeping};
 ghost use Rattle.sv8_isa.specs.Table.{group_of, meaning};
 ghost use Rattle.sv8_trap.specs.Table.{taken};
@@ -34,7 +34,8 @@ fn carry_out<const NW: usize, T: Touches>(
     requires { group_of word ≢ Group.Memory }
     ensures made { OnOk result (IsUnaided NW p.old (meaning word) p.new) }
     ensures noted { OnOk result (T.noted notes.new ≡ noting (keeping T.KEEPS T.OBSERVES) (T.noted notes.old) [] (taken_seen (taken (raised NW p.old (meaning word))))) }
-    ensures refused { OnErr result (T.OBSERVES ≡ true) }
+    ensures observed { OnErr result (T.OBSERVES ≡ true) }
+    ensures trapped { OnErr result (taken (raised NW p.old (meaning word)) ≢ None) }
 {
     let instr = decode(word);
     match raised_by(p, instr) {
@@ -57,7 +58,8 @@ fn carry_out_format_2<const NW: usize, T: Touches>(
     requires { group_of word ≡ Group.Format2 }
     ensures made { OnOk result (IsUnaided NW p.old (meaning word) p.new) }
     ensures noted { OnOk result (T.noted notes.new ≡ noting (keeping T.KEEPS T.OBSERVES) (T.noted notes.old) [] (taken_seen (taken (raised NW p.old (meaning word))))) }
-    ensures refused { OnErr result (T.OBSERVES ≡ true) }
+    ensures observed { OnErr result (T.OBSERVES ≡ true) }
+    ensures trapped { OnErr result (taken (raised NW p.old (meaning word)) ≢ None) }
 {
     match decode_format_2(word) {
         Instr::Bicc {
@@ -81,7 +83,8 @@ fn carry_out_call<const NW: usize, T: Touches>(
     requires { group_of word ≡ Group.Call }
     ensures made { OnOk result (IsUnaided NW p.old (meaning word) p.new) }
     ensures noted { OnOk result (T.noted notes.new ≡ noting (keeping T.KEEPS T.OBSERVES) (T.noted notes.old) [] (taken_seen (taken (raised NW p.old (meaning word))))) }
-    ensures refused { OnErr result (T.OBSERVES ≡ true) }
+    ensures observed { OnErr result (T.OBSERVES ≡ true) }
+    ensures trapped { OnErr result (taken (raised NW p.old (meaning word)) ≢ None) }
 {
     match decode_call(word) {
         Instr::Call { disp30 } => call(p, disp30),
@@ -101,7 +104,8 @@ fn carry_out_arithmetic<const NW: usize, T: Touches>(
     requires { group_of word ≡ Group.Arithmetic }
     ensures made { OnOk result (IsUnaided NW p.old (meaning word) p.new) }
     ensures noted { OnOk result (T.noted notes.new ≡ noting (keeping T.KEEPS T.OBSERVES) (T.noted notes.old) [] (taken_seen (taken (raised NW p.old (meaning word))))) }
-    ensures refused { OnErr result (T.OBSERVES ≡ true) }
+    ensures observed { OnErr result (T.OBSERVES ≡ true) }
+    ensures trapped { OnErr result (taken (raised NW p.old (meaning word)) ≢ None) }
 {
     match decode_arithmetic(word) {
         Instr::Arith {
@@ -139,7 +143,8 @@ fn carry_out_shift<const NW: usize, T: Touches>(
     requires { group_of word ≡ Group.Shift }
     ensures made { OnOk result (IsUnaided NW p.old (meaning word) p.new) }
     ensures noted { OnOk result (T.noted notes.new ≡ noting (keeping T.KEEPS T.OBSERVES) (T.noted notes.old) [] (taken_seen (taken (raised NW p.old (meaning word))))) }
-    ensures refused { OnErr result (T.OBSERVES ≡ true) }
+    ensures observed { OnErr result (T.OBSERVES ≡ true) }
+    ensures trapped { OnErr result (taken (raised NW p.old (meaning word)) ≢ None) }
 {
     match decode_shift(word) {
         Instr::Shift { op, rd, rs1, count } => shift_by_operation(p, op, rd, rs1, count),
@@ -158,7 +163,8 @@ fn carry_out_control<const NW: usize, T: Touches>(
     requires { group_of word ≡ Group.Control }
     ensures made { OnOk result (IsUnaided NW p.old (meaning word) p.new) }
     ensures noted { OnOk result (T.noted notes.new ≡ noting (keeping T.KEEPS T.OBSERVES) (T.noted notes.old) [] (taken_seen (taken (raised NW p.old (meaning word))))) }
-    ensures refused { OnErr result (T.OBSERVES ≡ true) }
+    ensures observed { OnErr result (T.OBSERVES ≡ true) }
+    ensures trapped { OnErr result (taken (raised NW p.old (meaning word)) ≢ None) }
 {
     match decode_control(word) {
         Instr::Jmpl { rd, rs1, operand } if jump_trap(p, rs1, operand).is_none() => jump(
@@ -178,8 +184,8 @@ fn carry_out_control<const NW: usize, T: Touches>(
 ///
 /// # Errors
 ///
-/// `AllocError` where an observer is told of a trap, and memory for that note cannot be had. Nothing is then said of the
-/// processor.
+/// `AllocError` where the instruction raises a trap of which an observer is told, and memory for that note cannot be had. Nothing is
+/// then said of the processor.
 #[inline(always)]
 pub fn carry_out_unaided<const NW: usize, T: Touches>(
     p: &mut Processor<NW>,
@@ -189,7 +195,8 @@ pub fn carry_out_unaided<const NW: usize, T: Touches>(
     requires { group_of word ≢ Group.Memory }
     ensures made { OnOk result (IsUnaided NW p.old (meaning word) p.new) }
     ensures noted { OnOk result (T.noted notes.new ≡ noting (keeping T.KEEPS T.OBSERVES) (T.noted notes.old) [] (taken_seen (taken (raised NW p.old (meaning word))))) }
-    ensures refused { OnErr result (T.OBSERVES ≡ true) }
+    ensures observed { OnErr result (T.OBSERVES ≡ true) }
+    ensures trapped { OnErr result (taken (raised NW p.old (meaning word)) ≢ None) }
 {
     match group(word) {
         Group::Format2 => carry_out_format_2(p, word, notes),

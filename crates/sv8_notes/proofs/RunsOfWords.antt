@@ -6,7 +6,7 @@ use Rattle.sv8_notes.specs.declared.notes.WordNote.{WordNote}
 use Rattle.sv8_notes.specs.declared.word_run.WordRun.{WordRun}
 use Rattle.sv8_notes.specs.Steps.{is_word_of, has_word, IsFirstBelow}
 use Rattle.sv8_notes.specs.Marks.{mark_of, AreMarkedFrom}
-use Rattle.sv8_notes.specs.WordRuns.{words_from, words_of_run, words_of}
+use Rattle.sv8_notes.specs.WordRuns.{words_from, words_of_run, words_of, AreMarkedBelow}
 use Rattle.sv8_notes.proofs.Gaining.{any_append, or_none}
 use Rattle.sv8_notes.proofs.Firsts.{first_like, or_false}
 
@@ -134,10 +134,6 @@ pub first_at : (a o n address k from end : ℕ) (found : Option ℕ) → k < n �
 first_at a o n address k from end found below is h = first_like (λ j. o + k == j) (has_word (words_from a o n) address) from end found (λ j. sym (word_from a o n k address j below is)) h
 
 -- ---- marks of runs
-
--- the words of the runs in front of run i have marks that are not below a number
-abbrev pub AreMarkedBelow : List (List ℕ) → ℕ → List WordRun → ℕ → Type 0
-AreMarkedBelow marks mark rs i = (j : ℕ) (d : WordRun) → j < i → AreMarkedFrom marks (get_or rs j d).address mark (get_or rs j d).count
 
 -- a word with a lesser mark is in none of the runs
 pub unmarked_runs : (rs : List WordRun) (marks : List (List ℕ)) (mark : ℕ) → AreMarkedBelow marks mark rs (length rs) → (a : ℕ) → mark_of marks a < mark → (j : ℕ) → has_word (words_of rs) a j ≡ false

@@ -1,7 +1,8 @@
 -- Runs of words that steps read one after the other.
-use Rattle.std.specs.Prelude.{◌≡◌, ℕ, zero, suc, ◌+◌, ◌-◌, ◌<◌, List, [], ◌∷◌, ◌++◌, slice_index_or}
+use Rattle.std.specs.Prelude.{ℕ, zero, suc, ◌+◌, ◌<◌, List, [], ◌∷◌, ◌++◌, slice_index_or}
 use Rattle.sv8_notes.specs.declared.notes.WordNote.{WordNote}
 use Rattle.sv8_notes.specs.declared.word_run.WordRun.{WordRun}
+use Rattle.sv8_notes.specs.Marks.{AreMarkedFrom}
 
 -- the notes of so many words and steps, one after the other
 abbrev pub words_from : ℕ → ℕ → ℕ → List WordNote
@@ -15,6 +16,6 @@ abbrev pub words_of : List WordRun → List WordNote
 words_of [] = []
 words_of (run ∷ runs) = words_of_run run ++ words_of runs
 
--- run number i has the words of another in front of it
-abbrev pub IsRepeated : List WordRun → ℕ → Type 0
-IsRepeated runs i = (0 < i) × ((d : WordRun) → ((slice_index_or runs i d).address ≡ (slice_index_or runs (i - 1) d).address) × ((slice_index_or runs i d).count ≡ (slice_index_or runs (i - 1) d).count))
+-- the words of the runs in front of run i have marks that are not below a number
+abbrev pub AreMarkedBelow : List (List ℕ) → ℕ → List WordRun → ℕ → Type 0
+AreMarkedBelow marks mark runs i = (j : ℕ) (d : WordRun) → j < i → AreMarkedFrom marks (slice_index_or runs j d).address mark (slice_index_or runs j d).count

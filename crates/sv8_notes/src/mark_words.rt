@@ -1,9 +1,9 @@
 //! Marks of the words that notes are of.
 
-ghost use Rattle.std.specs.Prelude.{◌≡◌, ℕ, ◌≤◌, ◌<◌, true, false, length, OnOk};
+ghost use Rattle.std.specs.Prelude.{◌≡◌, ℕ, ◌≤◌, ◌<◌, false, length, OnOk};
 ghost use Rattle.sv8_notes.specs.Marks.{mark_of, AreMarkedFrom};
 ghost use Rattle.sv8_notes.specs.Steps.{has_word};
-ghost use Rattle.sv8_notes.specs.WordRuns.{words_of, IsRepeated};
+ghost use Rattle.sv8_notes.specs.WordRuns.{words_of, AreMarkedBelow};
 
 use crate::marks::Marks;
 use crate::notes::WordNote;
@@ -26,24 +26,31 @@ pub(crate) fn mark_all(
     Ok(())
 }
 
-/// Marks the words of a run with a number, unless their marks are greater.
-fn mark_run(alloc: Global, marks: &mut Marks, run: &WordRun, mark: u32) -> Result<(), AllocError>
+/// How many runs are remembered as marked, each in a place that its address gives. A loop has few.
+const PLACES: usize = 16;
+
+/// Marks the words of a run with a number, unless their marks are greater. A run whose like is remembered has them.
+#[inline(always)]
+fn mark_run(
+    alloc: Global,
+    marks: &mut Marks,
+    remembered: &mut [WordRun],
+    run: &WordRun,
+    mark: u32,
+) -> Result<(), AllocError>
+    requires places { length remembered.old ≡ 16 }
+    requires remembered { AreMarkedBelow marks.old mark remembered.old 16 }
     ensures grows { (a : ℕ) → mark_of marks.old a ≤ mark_of marks.new a }
+    ensures places { length remembered.new ≡ 16 }
+    ensures remembered { OnOk result (AreMarkedBelow marks.new mark remembered.new 16) }
     ensures marked { OnOk result (AreMarkedFrom marks.new run.now.address mark run.now.count) }
 {
-    for place in 0..run.count() {
-        marks.raise(alloc, run.address(place), mark)?;
+    let place = (run.start() / 4) as usize % PLACES;
+    if !run.has_words_of(&remembered[place]) {
+        marks.raise_words(alloc, run.start(), run.count(), mark)?;
+        remembered[place] = *run;
     }
     Ok(())
-}
-
-/// Whether a run has the words of that in front of it, as in a loop.
-#[inline(always)]
-fn is_repeated(runs: &[WordRun], index: usize) -> bool
-    requires { index < length runs.now }
-    ensures { result ≡ true → IsRepeated runs.now index }
-{
-    index > 0 && runs[index].has_words_of(&runs[index - 1])
 }
 
 /// Marks the words of runs with a number, unless their marks are greater.
@@ -56,10 +63,9 @@ pub(crate) fn mark_runs(
     ensures grows { (a : ℕ) → mark_of marks.old a ≤ mark_of marks.new a }
     ensures marked { OnOk result ((a : ℕ) → mark_of marks.new a < mark → (j : ℕ) → has_word (words_of runs.now) a j ≡ false) }
 {
+    let mut remembered = [WordRun::empty(); PLACES];
     for index in 0..runs.len() {
-        if !is_repeated(runs, index) {
-            mark_run(alloc, marks, &runs[index], mark)?;
-        }
+        mark_run(alloc, marks, &mut remembered, &runs[index], mark)?;
     }
     Ok(())
 }

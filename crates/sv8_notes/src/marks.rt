@@ -1,7 +1,7 @@
 //! How far the notes of each word of RAM reach.
 
-ghost use Rattle.std.specs.Prelude.{◌≡◌, ℕ, ◌≤◌, ◌<◌, [], length, slice_index_or, IfOk, OnOk};
-ghost use Rattle.sv8_notes.specs.Marks.{mark_of};
+ghost use Rattle.std.specs.Prelude.{◌≡◌, ℕ, ◌+◌, ◌*◌, ◌^◌, ◌≤◌, ◌<◌, [], true, length, slice_index_or, IfOk, OnOk};
+ghost use Rattle.sv8_notes.specs.Marks.{mark_of, AreMarkedFrom};
 
 use std::alloc::{AllocError, Global};
 use std::marker::Model;
@@ -66,16 +66,34 @@ impl PageMarks {
         Ok(())
     }
 
-    /// Marks a word with a number, unless its mark is greater.
-    #[inline]
-    fn raise(&mut self, word: usize, mark: u32) -> Result<(), AllocError>
-        requires { word < 1024 }
-        ensures grows { (i : ℕ) → slice_index_or self.old i 0 ≤ slice_index_or self.new i 0 }
-        ensures raised { OnOk result (mark ≤ slice_index_or self.new word 0) }
+    /// Whether there is room for the marks of all words.
+    #[inline(always)]
+    fn is_full(&self) -> bool
+        ensures { result ≡ true → 1024 ≤ length self.now }
     {
-        self.fill()?;
-        self.words[word] = self.words[word].max(mark);
-        Ok(())
+        self.words.len() >= PAGE_WORDS
+    }
+
+    /// Marks the words from one on and below another with a number, unless their marks are greater.
+    #[inline(always)]
+    fn raise(&mut self, from: usize, end: usize, mark: u32)
+        requires { end ≤ length self.old }
+        ensures grows { (i : ℕ) → slice_index_or self.old i 0 ≤ slice_index_or self.new i 0 }
+        ensures raised { (i : ℕ) → from ≤ i → i < end → mark ≤ slice_index_or self.new i 0 }
+    {
+        raise_between(self.words.as_mut_slice(), from, end, mark);
+    }
+}
+
+/// Raises the numbers from one place on and below another that are less than a number to that.
+#[inline(always)]
+fn raise_between(numbers: &mut [u32], from: usize, end: usize, number: u32)
+    requires { end ≤ length numbers.old }
+    ensures grows { (i : ℕ) → slice_index_or numbers.old i 0 ≤ slice_index_or numbers.new i 0 }
+    ensures raised { (i : ℕ) → from ≤ i → i < end → number ≤ slice_index_or numbers.new i 0 }
+{
+    for place in from..end {
+        numbers[place] = numbers[place].max(number);
     }
 }
 
@@ -141,18 +159,87 @@ impl Marks {
         Ok(())
     }
 
+    /// Makes room for the marks of a page. Few steps need it, so what it needs stands apart from them.
+    #[inline(never)]
+    fn make_room(&mut self, alloc: Global, page: usize) -> Result<(), AllocError>
+        ensures same { (a : ℕ) → mark_of self.new a ≡ mark_of self.old a }
+        ensures place { OnOk result (page < length self.new) }
+        ensures room { OnOk result (1024 ≤ length (slice_index_or self.new page [])) }
+    {
+        self.make_place(alloc, page)?;
+        self.pages[page].fill()?;
+        Ok(())
+    }
+
+    /// Whether there is room for the marks of a page.
+    #[inline(always)]
+    fn has_room(&self, page: usize) -> bool
+        ensures place { result ≡ true → page < length self.now }
+        ensures room { result ≡ true → 1024 ≤ length (slice_index_or self.now page []) }
+    {
+        page < self.pages.len() && self.pages[page].is_full()
+    }
+
+    /// Marks the words of a page from one on and below another with a number, unless their marks are greater.
+    #[inline(always)]
+    fn raise_in_page(
+        &mut self,
+        alloc: Global,
+        page: usize,
+        from: usize,
+        end: usize,
+        mark: u32,
+    ) -> Result<(), AllocError>
+        requires { end ≤ 1024 }
+        ensures grows { (a : ℕ) → mark_of self.old a ≤ mark_of self.new a }
+        ensures raised { OnOk result ((i : ℕ) → from ≤ i → i < end → mark ≤ slice_index_or (slice_index_or self.new page []) i 0) }
+    {
+        if !self.has_room(page) {
+            self.make_room(alloc, page)?;
+        }
+        self.pages[page].raise(from, end, mark);
+        Ok(())
+    }
+
     /// Marks the word that a byte is in with a number, unless its mark is greater.
     ///
     /// # Errors
     ///
     /// `AllocError` where memory for the marks of its page cannot be had.
-    #[inline]
+    #[inline(always)]
     pub(crate) fn raise(&mut self, alloc: Global, address: u32, mark: u32) -> Result<(), AllocError>
         ensures grows { (a : ℕ) → mark_of self.old a ≤ mark_of self.new a }
         ensures raised { OnOk result (mark ≤ mark_of self.new address) }
     {
         let page = (address / PAGE_SIZE) as usize;
-        self.make_place(alloc, page)?;
-        self.pages[page].raise((address % PAGE_SIZE / 4) as usize, mark)
+        let word = (address % PAGE_SIZE / 4) as usize;
+        self.raise_in_page(alloc, page, word, word + 1, mark)
+    }
+
+    /// Marks so many words, from the one that a byte is in on, with a number, unless their marks are greater.
+    ///
+    /// # Errors
+    ///
+    /// `AllocError` where memory for the marks of a page cannot be had; some words are then marked.
+    pub(crate) fn raise_words(
+        &mut self,
+        alloc: Global,
+        address: u32,
+        count: u32,
+        mark: u32,
+    ) -> Result<(), AllocError>
+        requires { address + 4 * count < 2 ^ 32 + 4 }
+        ensures grows { (a : ℕ) → mark_of self.old a ≤ mark_of self.new a }
+        ensures raised { OnOk result (AreMarkedFrom self.new address mark count) }
+    {
+        let mut place = 0;
+        while place < count {
+            let number = (address / 4 + place) as usize;
+            let word = number % PAGE_WORDS;
+            let part = (PAGE_WORDS - word).min((count - place) as usize);
+            self.raise_in_page(alloc, number / PAGE_WORDS, word, word + part, mark)?;
+            place += part as u32;
+        }
+        Ok(())
     }
 }

@@ -23,6 +23,17 @@ impl WordRun {
     ghost use Rattle.sv8_notes.specs.Touching.{are_notes_in};
     ghost use Rattle.sv8_notes.specs.WordRuns.{words_of_run};
 
+    /// Of no word.
+    pub(crate) fn empty() -> WordRun
+        ensures { result.count ≡ 0 }
+    {
+        WordRun {
+            address: 0,
+            first: 0,
+            count: 0,
+        }
+    }
+
     /// Of one word.
     #[inline(always)]
     pub(crate) fn new(address: u32, offset: u32) -> WordRun
@@ -53,16 +64,24 @@ impl WordRun {
         true
     }
 
+    /// The address of the first word.
+    pub(crate) fn start(&self) -> u32
+        ensures { result ≡ self.now.address }
+    {
+        self.address
+    }
+
     /// How many words, and steps, it has.
     pub(crate) fn count(&self) -> u32
-        ensures { result ≡ self.now.count }
+        ensures value { result ≡ self.now.count }
+        ensures fits { self.now.address + 4 * result < 2 ^ 32 + 4 }
     {
         self.count
     }
 
     /// The address of one of the words.
     #[inline(always)]
-    pub(crate) fn address(&self, place: u32) -> u32
+    fn address(&self, place: u32) -> u32
         requires { place < self.now.count }
         ensures { result ≡ self.now.address + 4 * place }
     {

@@ -6,6 +6,7 @@ ghost use Rattle.sv8_program.specs.Ends.{Serves, is_run_end};
 use crate::end::{End, end_of};
 use std::alloc::Global;
 use std::io::{Read, Write};
+use std::mem;
 use sv8_session::{Commands, run};
 
 /// The pages of RAM of a program's machine: one mebibyte.
@@ -14,7 +15,8 @@ pub const PAGES: usize = 256;
 /// The steps from one checkpoint of a program to the next.
 pub const CHECKPOINT_STEPS: u32 = 256;
 
-/// Runs a script on a new state.
+/// Runs a script on a new state. The state is left to the system, which takes its memory back at once when the program ends: to give
+/// each page of a recorded run back takes half as long as its steps.
 pub fn serve<S: Commands, R: Read, W: Write>(alloc: Global, reader: &mut R, writer: &mut W) -> End
     requires { S.has_states }
     ensures run { IsTrue (is_run_end result) }
@@ -24,7 +26,9 @@ pub fn serve<S: Commands, R: Read, W: Write>(alloc: Global, reader: &mut R, writ
     let Ok(mut state) = S::new_state(alloc) else {
         return End::Memory;
     };
-    end_of(run::<S, R, W>(alloc, &mut state, reader, writer))
+    let end = end_of(run::<S, R, W>(alloc, &mut state, reader, writer));
+    mem::forget(state);
+    end
 }
 
 /// Calls `serve` over the number of register windows that was chosen. The commands are a type with three parameters: windows, pages, and steps from
