@@ -15,8 +15,8 @@ pub const PAGES: usize = 256;
 /// The steps from one checkpoint of a program to the next.
 pub const CHECKPOINT_STEPS: u32 = 256;
 
-/// Runs a script on a new state. The state is left to the system, which takes its memory back at once when the program ends: to give
-/// each page of a recorded run back takes half as long as its steps.
+/// Runs a script on a new state. The state is left to the system, which takes its memory back at once when the program ends: to give it
+/// back piece by piece takes a tenth to a third of the time of a recorded run.
 pub fn serve<S: Commands, R: Read, W: Write>(alloc: Global, reader: &mut R, writer: &mut W) -> End
     requires { S.has_states }
     ensures run { IsTrue (is_run_end result) }
