@@ -115,11 +115,7 @@ def show(text, name, rows):
     print("];")
 
 
-def main():
-    print(
-        "//! Results at the edges. `tools/alu_table.py` makes this file, and says how. An icc field is one number, its"
-    )
-    print("//! bits N, Z, V and C from left to right.")
+def show_sums():
     show(
         "r[rs1], operand, C; ADDX and its icc; SUBX and its icc.",
         "SUMS",
@@ -134,6 +130,9 @@ def main():
             for y in TAGGED
         ),
     )
+
+
+def show_products():
     show(
         "r[rs1], operand; Y, result and icc of UMUL; Y, result and icc of SMUL.",
         "PRODUCTS",
@@ -145,6 +144,9 @@ def main():
         ([y, x, d] + divided(y, x, d) for y in EDGES for x in EDGES for d in DIVISORS),
     )
     show("r[rs1], operand, Y, N, V; MULScc, its icc and the new Y.", "STEPS", steps())
+
+
+def show_bits():
     show(
         "r[rs1], operand; SLL, SRL, SRA.",
         "SHIFTS",
@@ -156,6 +158,16 @@ def main():
         "LOGIC",
         ([x, y] + logic(x, y) for x, y in pairs),
     )
+
+
+def main():
+    print(
+        "//! Results at the edges. `tools/alu_table.py` makes this file, and says how. An icc field is one number, its"
+    )
+    print("//! bits N, Z, V and C from left to right.")
+    show_sums()
+    show_products()
+    show_bits()
 
 
 if __name__ == "__main__":

@@ -35,7 +35,8 @@ ON_PURPOSE = {
 }
 
 
-def statements():
+def arithmetic():
+    """Instructions of three operands."""
     for name in THREE:
         yield from (
             f"{name} %g1, %o2, %l3",
@@ -45,6 +46,10 @@ def statements():
         )
     for name in "sll srl sra".split():
         yield from (f"{name} %g1, %o2, %l3", f"{name} %i4, 0, %o5", f"{name} %l1, 31, %g7")
+
+
+def accesses():
+    """Loads and stores, in the spaces of instructions and data and in others."""
     for name in LOADS:
         yield from (f"{name} [{address}], %o4" for address in ADDRESSES)
     for name in STORES:
@@ -53,6 +58,10 @@ def statements():
         yield from (f"{name}a [%g1]4, %o4", f"{name}a [%g1+%l2]255, %i2")
     for name in STORES:
         yield from (f"{name}a %o4, [%g1]0x20", f"{name}a %i2, [%g1+%l2]0")
+
+
+def state_registers():
+    """SETHI, and reads and writes of state registers."""
     yield from ("sethi 0x3fffff, %g1", "sethi %hi(0x12345678), %o3", "sethi %hi(0xfffffc00), %g0", "sethi 0, %l7")
     for special in SPECIAL:
         yield from (
@@ -63,6 +72,10 @@ def statements():
             f"mov %i3, {special}",
             f"mov 5, {special}",
         )
+
+
+def control():
+    """Branches, traps, calls and jumps, and instructions without operands."""
     for condition in CONDITIONS:
         yield from (f"b{condition} first", f"b{condition},a last")
         yield from (f"t{condition} %g1", f"t{condition} %g1+%o2", f"t{condition} %l1+5", f"t{condition} 127")
@@ -71,6 +84,10 @@ def statements():
     for name in "jmp rett flush".split():
         yield from (f"{name} {address}" for address in ("%g1", "%g1+%o2", "%i7+8", "%l2-4"))
     yield from ("stbar", "unimp 0", "unimp 0x3fffff", "nop", "ret", "retl", "save", "restore")
+
+
+def synthetic():
+    """Statements that stand for other instructions."""
     yield from ("cmp %g1, %o2", "cmp %l3, -1", "tst %l5", "not %g1", "not %g1, %l2", "neg %g1", "neg %g1, %l2")
     for name in "inc inccc dec deccc".split():
         yield from (f"{name} %g1", f"{name} 8, %o2")
@@ -86,6 +103,10 @@ def statements():
         "set 4096, %l3",
         "set -1, %i1",
     )
+
+
+def data():
+    """Directives that place bytes."""
     yield from (
         ".word 1, 0xffffffff, -1, -2147483648",
         ".half 1, -1, 0x8000, 65535",
@@ -97,6 +118,12 @@ def statements():
         ".align 16",
         ".word 8",
     )
+
+
+def statements():
+    """All statements, each of which both assemblers read alike."""
+    for part in (arithmetic, accesses, state_registers, control, synthetic, data):
+        yield from part()
 
 
 def lines():
