@@ -85,6 +85,11 @@ const isOutlined = style.outlineStyle !== "none" && parseFloat(style.outlineWidt
 const marked = document.querySelector(".line.marked") ?? it;
 return [name, isOutlined, it.id === "lines" && getComputedStyle(marked).boxShadow.includes("2px")];
 """
+# What a way by keys alone has to reach.
+REACHED = (
+    "examples open source save window-count theme keys first step fit all slider "
+    "lines edit put-in align keep add-input add-irq tab-memory address words"
+).split()
 
 
 class Access(InBrowser):
@@ -199,30 +204,7 @@ class Access(InBrowser):
             if not (it[1] or it[2]) and it[0] != "BODY":  # type: ignore[index]
                 unseen.append(it[0])  # type: ignore[index]
         self.assertEqual(unseen, [], "the focus is seen everywhere")
-        for due in (
-            "examples",
-            "open",
-            "source",
-            "save",
-            "window-count",
-            "theme",
-            "keys",
-            "first",
-            "step",
-            "fit",
-            "all",
-            "slider",
-            "lines",
-            "edit",
-            "put-in",
-            "align",
-            "keep",
-            "add-input",
-            "add-irq",
-            "tab-memory",
-            "address",
-            "words",
-        ):
+        for due in REACHED:
             self.assertIn(due, seen | ({"keep"} if page.find("[data-do=keep]").get_property("disabled") else set()))
         page.run("document.getElementById('tab-memory').focus()")
         page.keys("ArrowRight")

@@ -72,6 +72,17 @@ class Scripts(InBrowser):
                 self.assert_verdict("step ")
             self.page.keys("x")
 
+    def shown(self) -> list[object]:
+        """The what-ifs, the first step that differs, the outputs and the lines."""
+        page = self.page
+        return [
+            page.texts("#list li"),
+            page.what_ifs(),
+            page.text("#first"),
+            page.text("#outputs"),
+            page.text("#lines"),
+        ]
+
     def test_what_is_saved_opens_as_it_was(self) -> None:
         page = self.page
         page.example("console")
@@ -91,13 +102,7 @@ class Scripts(InBrowser):
         page.press("m")
         page.type("12345678")
         page.keys("Enter")
-        shown = [
-            page.texts("#list li"),
-            page.what_ifs(),
-            page.text("#first"),
-            page.text("#outputs"),
-            page.text("#lines"),
-        ]
+        shown = self.shown()
         script = self.saved()
         for it in (os.environ["SPARC8"], program()):
             self.assertEqual(is_refused([it, "--windows", "8"], script), [])
@@ -108,14 +113,7 @@ class Scripts(InBrowser):
         page.example("boot")
         self.assertIsNone(page.open_text(script, "again.txt"))
         page.go(30)
-        again = [
-            page.texts("#list li"),
-            page.what_ifs(),
-            page.text("#first"),
-            page.text("#outputs"),
-            page.text("#lines"),
-        ]
-        self.assertEqual(again, shown)
+        self.assertEqual(self.shown(), shown)
         self.assertEqual(self.saved(), script)
 
     def test_a_what_if_that_stands_on_another_one(self) -> None:
