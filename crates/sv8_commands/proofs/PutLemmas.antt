@@ -4,6 +4,7 @@ use Rattle.std.proofs.Math.Seq.{take-suc}
 use Rattle.std.proofs.lemmas.List.{take_rest}
 use Rattle.std.proofs.lemmas.Grind.{flat_map-append}
 use Rattle.std.specs.Io.KnownBytes.{Appends, Keeps}
+use Rattle.std.specs.Result.{IsErr}
 use Rattle.std.proofs.KnownBytes.{Appends-nil, Appends-trans, Appends-kept}
 use Rattle.sv8_session.specs.Put.{AppendsPart, Puts}
 use Rattle.sv8_commands.specs.Put.{Gained, Gains}
@@ -105,6 +106,15 @@ Gains-after (Err _) a b c w x y s t g h = subst (AppendsPart a c) (sym (joined w
 -- a failure after a first part, where more was due
 pub gains-cut : (a b : Option (List ℕ)) (w s t : List ℕ) → AppendsPart a b (w ++ s) → AppendsPart a b (w ++ (s ++ t))
 gains-cut a b w s t p = subst (AppendsPart a b) (append_assoc w s t) (part-more a b (w ++ s) t p)
+
+-- a failure after a part of what was to be put, or gained
+pub puts-failed : {A E : Type 0} (r : Result A E) (a b : Option (List ℕ)) (s : List ℕ) → IsErr r → AppendsPart a b s → Puts r a b s
+puts-failed (Ok v) a b s h p = absurd (cc)
+puts-failed (Err e) a b s h p = p
+
+pub gains-failed : {A E : Type 0} (r : Result A E) (a b : Option (List ℕ)) (w x s : List ℕ) → IsErr r → AppendsPart a b (w ++ s) → Gains r a b w x s
+gains-failed (Ok v) a b w x s h p = absurd (cc)
+gains-failed (Err e) a b w x s h p = p
 
 -- what waited was put, and then more
 pub Puts-gained : {A E : Type 0} (r : Result A E) (a b c : Option (List ℕ)) (w x s t : List ℕ) → Gained a b w x s → Puts r b c (x ++ t) → Puts r a c (w ++ (s ++ t))

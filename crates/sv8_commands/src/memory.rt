@@ -35,10 +35,7 @@ pub fn add_memory<W: Write>(
     ensures { Gains result (W.contents writer.old) (W.contents writer.new) text.old text.new (memory_text first words.now) }
 {
     for (place, word) in words.iter().enumerate() {
-        match add_word(writer, text, first, place, *word) {
-            Ok(()) => {}
-            Err(fault) => return Err(fault),
-        }
+        add_word(writer, text, first, place, *word)?;
     }
     Ok(())
 }
@@ -66,10 +63,7 @@ fn add_bytes<W: Write>(writer: &mut W, text: &mut Text, bytes: &[u8]) -> Result<
     ensures { Gains result (W.contents writer.old) (W.contents writer.new) text.old text.new (numbered_text output_byte 0 bytes.now) }
 {
     for (place, byte) in bytes.iter().enumerate() {
-        match add_byte(writer, text, place, *byte) {
-            Ok(()) => {}
-            Err(fault) => return Err(fault),
-        }
+        add_byte(writer, text, place, *byte)?;
     }
     Ok(())
 }
@@ -89,8 +83,6 @@ fn add_end<W: Write>(writer: &mut W, text: &mut Text, count: usize) -> Result<()
 pub fn add_output<W: Write>(writer: &mut W, text: &mut Text, bytes: &[u8]) -> Result<(), WriteFault>
     ensures { Gains result (W.contents writer.old) (W.contents writer.new) text.old text.new (output_text bytes.now) }
 {
-    match add_bytes(writer, text, bytes) {
-        Ok(()) => add_end(writer, text, bytes.len()),
-        Err(fault) => Err(fault),
-    }
+    add_bytes(writer, text, bytes)?;
+    add_end(writer, text, bytes.len())
 }

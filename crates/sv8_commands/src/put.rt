@@ -43,13 +43,9 @@ pub fn put_text<W: Write>(writer: &mut W, text: &mut Text) -> Result<(), WriteFa
     ensures gained { Puts result (W.contents writer.old) (W.contents writer.new) text.old }
     ensures empty { OnOk result (text.new ≡ []) }
 {
-    match put(writer, text.as_slice()) {
-        Ok(()) => {
-            text.clear();
-            Ok(())
-        }
-        Err(fault) => Err(fault),
-    }
+    put(writer, text.as_slice())?;
+    text.clear();
+    Ok(())
 }
 
 /// Puts the text where it has no room for so many bytes more.
@@ -68,10 +64,7 @@ pub fn make_room<W: Write>(writer: &mut W, text: &mut Text, wanted: usize) -> Re
 fn add_long<W: Write>(writer: &mut W, text: &mut Text, bytes: &[u8]) -> Result<(), WriteFault>
     ensures { Gains result (W.contents writer.old) (W.contents writer.new) text.old text.new bytes.now }
 {
-    match make_room(writer, text, bytes.len().min(CAPACITY)) {
-        Ok(()) => {}
-        Err(fault) => return Err(fault),
-    }
+    make_room(writer, text, bytes.len().min(CAPACITY))?;
     if bytes.len() <= text.room() {
         text.add(bytes);
         return Ok(());
@@ -89,10 +82,7 @@ pub fn add_all<W: Write>(
         (flat_map (λ piece. piece.now) pieces.now) }
 {
     for piece in pieces {
-        match add_long(writer, text, piece) {
-            Ok(()) => {}
-            Err(fault) => return Err(fault),
-        }
+        add_long(writer, text, piece)?;
     }
     Ok(())
 }
@@ -101,23 +91,17 @@ pub fn add_all<W: Write>(
 fn send<W: Write>(writer: &mut W, text: &mut Text) -> Result<(), WriteFault>
     ensures { Puts result (W.contents writer.old) (W.contents writer.new) text.old }
 {
-    match put_text(writer, text) {
-        Ok(()) => flush(writer),
-        Err(fault) => Err(fault),
-    }
+    put_text(writer, text)?;
+    flush(writer)
 }
 
 /// Ends the answer to an accepted command.
 pub fn accept<W: Write>(writer: &mut W, text: &mut Text) -> Result<(), WriteFault>
     ensures { Puts result (W.contents writer.old) (W.contents writer.new) (text.old ++ ok_line) }
 {
-    match make_room(writer, text, 3) {
-        Ok(()) => {
-            add_ok(text);
-            send(writer, text)
-        }
-        Err(fault) => Err(fault),
-    }
+    make_room(writer, text, 3)?;
+    add_ok(text);
+    send(writer, text)
 }
 
 /// The whole answer to a command that is done and tells nothing.

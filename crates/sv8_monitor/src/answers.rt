@@ -91,10 +91,8 @@ fn tell_windows<const NW: usize, W: Write>(
     ensures { Puts result (W.contents writer.old) (W.contents writer.new) (windows_text NW registers.now ++ ok_line) }
 {
     let mut text = Text::new();
-    match put_windows(writer, &mut text, registers) {
-        Ok(()) => accept(writer, &mut text),
-        Err(fault) => Err(fault),
-    }
+    put_windows(writer, &mut text, registers)?;
+    accept(writer, &mut text)
 }
 
 fn answer_where<const NW: usize, const PAGES: usize, const K: u32, W: Write>(
@@ -136,10 +134,8 @@ fn tell_names<W: Write>(writer: &mut W, names: &[DefinedName<'_>]) -> Result<(),
     ensures { Puts result (W.contents writer.old) (W.contents writer.new) (names_text (map named_of names.now) ++ ok_line) }
 {
     let mut text = Text::new();
-    match put_names(writer, &mut text, names) {
-        Ok(()) => accept(writer, &mut text),
-        Err(fault) => Err(fault),
-    }
+    put_names(writer, &mut text, names)?;
+    accept(writer, &mut text)
 }
 
 /// Whether these lines, counted from 1, may be listed: all of them are there, and a range of none may stand behind the last.
@@ -181,10 +177,8 @@ fn tell_lines<const NW: usize, const PAGES: usize, const K: u32, W: Write>(
 {
     let _count = bench.line_count();
     let mut text = Text::new();
-    match add_lines(bench, writer, &mut text, first as usize - 1, last as usize) {
-        Ok(()) => accept(writer, &mut text),
-        Err(fault) => Err(fault),
-    }
+    add_lines(bench, writer, &mut text, first as usize - 1, last as usize)?;
+    accept(writer, &mut text)
 }
 
 fn answer_events<const NW: usize, const PAGES: usize, const K: u32, W: Write>(
@@ -214,8 +208,6 @@ fn tell_events<W: Write>(
     ensures { Puts result (W.contents writer.old) (W.contents writer.new) (events_text timeline.now from to ++ ok_line) }
 {
     let mut text = Text::new();
-    match put_events(writer, &mut text, timeline, from, to) {
-        Ok(()) => accept(writer, &mut text),
-        Err(fault) => Err(fault),
-    }
+    put_events(writer, &mut text, timeline, from, to)?;
+    accept(writer, &mut text)
 }

@@ -136,10 +136,8 @@ fn put_input_bytes<W: Write>(
     ensures { Gains result (W.contents writer.old) (W.contents writer.new) text.old text.new
         (digits_text bytes.now ++ codes "\n") }
 {
-    match put_pieces(writer, text, bytes) {
-        Ok(()) => add_all(writer, text, &[b"\n"]),
-        Err(fault) => Err(fault),
-    }
+    put_pieces(writer, text, bytes)?;
+    add_all(writer, text, &[b"\n"])
 }
 
 /// The line of an input, if there is one.
@@ -155,10 +153,8 @@ fn put_input<W: Write>(
     if bytes.is_empty() {
         return add_all(writer, text, &[]);
     }
-    match put_input_place(writer, text, step) {
-        Ok(()) => put_input_bytes(writer, text, bytes),
-        Err(fault) => Err(fault),
-    }
+    put_input_place(writer, text, step)?;
+    put_input_bytes(writer, text, bytes)
 }
 
 /// The lines of the input and of the requests of a step.
@@ -171,10 +167,8 @@ fn put_later<W: Write>(
     ensures { Gains result (W.contents writer.old) (W.contents writer.new) text.old text.new
         (input_text step events.now.bytes.now ++ requests_text events.now.requests.now) }
 {
-    match put_input(writer, text, step, events.bytes) {
-        Ok(()) => put_pieces(writer, text, events.requests),
-        Err(fault) => Err(fault),
-    }
+    put_input(writer, text, step, events.bytes)?;
+    put_pieces(writer, text, events.requests)
 }
 
 /// The lines of what stands at a step.
@@ -188,10 +182,8 @@ fn put_step<W: Write>(
         (step_events timeline.now step) }
 {
     let events = timeline.events(step);
-    match put_pieces(writer, text, events.pokes) {
-        Ok(()) => put_later(writer, text, step, &events),
-        Err(fault) => Err(fault),
-    }
+    put_pieces(writer, text, events.pokes)?;
+    put_later(writer, text, step, &events)
 }
 
 /// The lines of what stands from one step on and below another.
@@ -207,10 +199,7 @@ pub fn put_events<W: Write>(
         (events_text timeline.now from to) }
 {
     for step in from..to {
-        match put_step(writer, text, timeline, step) {
-            Ok(()) => {}
-            Err(fault) => return Err(fault),
-        }
+        put_step(writer, text, timeline, step)?;
     }
     Ok(())
 }

@@ -75,10 +75,8 @@ fn put_name<W: Write>(
     ensures { Gains result (W.contents writer.old) (W.contents writer.new) text.old text.new
         (name_line (named_of name.now)) }
 {
-    match put_value(writer, text, name.value, name.kind) {
-        Ok(()) => add_all(writer, text, &[name.text, b"\n"]),
-        Err(fault) => Err(fault),
-    }
+    put_value(writer, text, name.value, name.kind)?;
+    add_all(writer, text, &[name.text, b"\n"])
 }
 
 /// The lines of names.
@@ -91,10 +89,7 @@ pub fn put_names<W: Write>(
         (names_text (map named_of names.now)) }
 {
     for name in names {
-        match put_name(writer, text, name) {
-            Ok(()) => {}
-            Err(fault) => return Err(fault),
-        }
+        put_name(writer, text, name)?;
     }
     Ok(())
 }

@@ -33,13 +33,9 @@ fn put_piece<W: Write, P: Piece>(
 ) -> Result<(), WriteFault>
     ensures { Gains result (W.contents writer.old) (W.contents writer.new) text.old text.new (P.piece_text piece.now) }
 {
-    match make_room(writer, text, LONGEST) {
-        Ok(()) => {
-            piece.add_to(text);
-            Ok(())
-        }
-        Err(fault) => Err(fault),
-    }
+    make_room(writer, text, LONGEST)?;
+    piece.add_to(text);
+    Ok(())
 }
 
 /// The texts of all pieces.
@@ -52,10 +48,7 @@ pub fn put_pieces<W: Write, P: Piece>(
         (numbered_text (λ i p. P.piece_text p) 0 pieces.now) }
 {
     for piece in pieces {
-        match put_piece(writer, text, piece) {
-            Ok(()) => {}
-            Err(fault) => return Err(fault),
-        }
+        put_piece(writer, text, piece)?;
     }
     Ok(())
 }
@@ -66,8 +59,6 @@ pub fn tell_pieces<W: Write, P: Piece>(writer: &mut W, pieces: &[P]) -> Result<(
         (numbered_text (λ i p. P.piece_text p) 0 pieces.now ++ ok_line) }
 {
     let mut text = Text::new();
-    match put_pieces(writer, &mut text, pieces) {
-        Ok(()) => accept(writer, &mut text),
-        Err(fault) => Err(fault),
-    }
+    put_pieces(writer, &mut text, pieces)?;
+    accept(writer, &mut text)
 }

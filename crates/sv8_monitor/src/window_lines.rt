@@ -54,13 +54,9 @@ fn put_window<const NW: usize, W: Write>(
     let mut shown = registers.copy();
     shown.set_cwp(window);
     let own = own_registers(&shown);
-    match make_room(writer, text, LONGEST) {
-        Ok(()) => {
-            add_window(text, window, &own);
-            Ok(())
-        }
-        Err(fault) => Err(fault),
-    }
+    make_room(writer, text, LONGEST)?;
+    add_window(text, window, &own);
+    Ok(())
 }
 
 /// The lines of all windows.
@@ -74,10 +70,7 @@ pub fn put_windows<const NW: usize, W: Write>(
         (windows_text NW registers.now) }
 {
     for window in 0..NW as u32 {
-        match put_window(writer, text, registers, window) {
-            Ok(()) => {}
-            Err(fault) => return Err(fault),
-        }
+        put_window(writer, text, registers, window)?;
     }
     Ok(())
 }

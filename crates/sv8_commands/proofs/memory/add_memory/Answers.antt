@@ -1,14 +1,14 @@
 use Rattle.std.proofs.Common.{arith}
 use Rattle.sv8_commands.specs.Text.{memory_line}
-use Rattle.sv8_commands.proofs.PutLemmas.{gained-none}
+use Rattle.sv8_commands.proofs.PutLemmas.{gains-failed, gained-none}
 use Rattle.sv8_commands.proofs.NumberedLemmas.{numbered-cut, numbered-next}
 use Rattle.sv8_commands.proofs.memory.add_memory.Goals as goal
 
 pub loop-place-init : goal.loop-place-init
 loop-place-init g c = gained-none _ _
 
-pub returns-in-Err : goal.returns-in-Err
-returns-in-Err g c = numbered-cut (memory_line c.args.first) 0 c.args.words.now c.loop-place.place c.loop-place.place 0 _ _ _ _ _ (omega arith) (omega arith) c.loop-place.invariant c.in-Err.ensures
+pub returns-in_err-add_word : goal.returns-in_err-add_word
+returns-in_err-add_word g c = gains-failed c.from_residual.result _ _ _ _ _ c.from_residual.ensures.0 (numbered-cut (memory_line c.args.first) 0 c.args.words.now c.loop-place.place c.loop-place.place 0 _ _ _ _ _ (omega arith) (omega arith) c.loop-place.invariant c.in_err-add_word.ensures)
 
 pub loop-place-preserved : goal.loop-place-preserved
-loop-place-preserved g c = numbered-next (memory_line c.args.first) 0 c.args.words.now c.loop-place.place c.loop-place.place 0 _ _ _ _ _ _ (omega arith) (omega arith) c.loop-place.invariant c.in-Ok.ensures
+loop-place-preserved g c = numbered-next (memory_line c.args.first) 0 c.args.words.now c.loop-place.place c.loop-place.place 0 _ _ _ _ _ _ (omega arith) (omega arith) c.loop-place.invariant c.in_ok-add_word.ensures

@@ -3,7 +3,7 @@ use Rattle.sv8_commands.proofs.PutLemmas.{gained-more, Gains-long}
 use Rattle.sv8_commands.proofs.put.add_long.Goals as goal
 
 pub returns-then-bytes-room : goal.returns-then-bytes-room
-returns-then-bytes-room g c = gained-more _ _ _ _ _ [] c.args.bytes.now c.in-Ok.ensures.gained c.add.ensures.text
+returns-then-bytes-room g c = gained-more _ _ _ _ _ [] c.args.bytes.now c.in_ok-make_room.ensures.gained c.add.ensures.text
 
 pub returns : goal.returns
-returns g c = Gains-long c.put.result _ _ _ _ _ _ c.in-Ok.ensures.gained (omega (arith, c.in-Ok.ensures.room)) c.put.ensures
+returns g c = Gains-long c.put.result _ _ _ _ _ _ c.in_ok-make_room.ensures.gained (omega (arith, c.in_ok-make_room.ensures.room)) c.put.ensures

@@ -3,5 +3,5 @@ use Rattle.sv8_commands.specs.Text.{ok_line}
 use Rattle.sv8_commands.proofs.PutLemmas.{Puts-gained}
 use Rattle.sv8_monitor.proofs.piece.tell_pieces.Goals as goal
 
-pub returns-in-Ok : goal.returns-in-Ok
-returns-in-Ok g c = Puts-gained c.accept.result _ _ _ [] _ _ ok_line (rw c.new-text.ensures at c.in-Ok.ensures) c.accept.ensures
+pub returns : goal.returns
+returns g c = Puts-gained c.accept.result _ _ _ [] _ _ ok_line (rw c.new-text.ensures at c.in_ok-put_pieces.ensures) c.accept.ensures

@@ -5,7 +5,7 @@ use Rattle.sv8_commands.specs.Text.{numbered_text}
 use Rattle.sv8_shell.specs.Text.{listing_line}
 use Rattle.sv8_commands.specs.Put.{Gained}
 use Rattle.sv8_shell.specs.Put.{no_line}
-use Rattle.sv8_commands.proofs.PutLemmas.{gained-none}
+use Rattle.sv8_commands.proofs.PutLemmas.{gains-failed, gained-none}
 use Rattle.sv8_commands.proofs.NumberedLemmas.{numbered-cut, numbered-next}
 use Rattle.sv8_shell.proofs.listing.add_lines.Goals as goal
 
@@ -28,15 +28,15 @@ module _ (lines : List ListedLine) (from to place : ℕ) (low : from ≤ place) 
 pub loop-place-init : goal.loop-place-init
 loop-place-init g c = let none : c.args.from - c.args.from ≡ 0 = omega arith in rw none (gained-none _ _)
 
-pub returns-in-Err : goal.returns-in-Err
+pub returns-in_err-add_line_at : goal.returns-in_err-add_line_at
 unfolding asked
-returns-in-Err g c =
+returns-in_err-add_line_at g c =
     let lines = listing c.args.bench.now.kept.source in
     let from = c.args.from in
     let place = c.loop-place.place in
     let is = line_is lines from c.args.to place (omega arith) (omega arith) (omega arith) in
-    numbered-cut listing_line (from + 1) (asked lines from c.args.to) (place - from) (place + 1) no_line _ _ _ _ _ (there lines from c.args.to place (omega arith) (omega arith) (omega arith)) (omega arith)
-    c.loop-place.invariant (rw is c.in-Err.ensures)
+    gains-failed c.from_residual.result _ _ _ _ _ c.from_residual.ensures.0 (numbered-cut listing_line (from + 1) (asked lines from c.args.to) (place - from) (place + 1) no_line _ _ _ _ _ (there lines from c.args.to place (omega arith) (omega arith) (omega arith)) (omega arith)
+    c.loop-place.invariant (rw is c.in_err-add_line_at.ensures))
 
 pub loop-place-preserved : goal.loop-place-preserved
 unfolding asked
@@ -48,7 +48,7 @@ loop-place-preserved g c =
     let is = line_is lines from c.args.to place (omega arith) (omega arith) (omega arith) in
     rw more
     (numbered-next listing_line (from + 1) (asked lines from c.args.to) (place - from) (place + 1) no_line _ _ _ _ _ _ (there lines from c.args.to place (omega arith) (omega arith) (omega arith)) (omega arith)
-    c.loop-place.invariant (rw is c.in-Ok.ensures))
+    c.loop-place.invariant (rw is c.in_ok-add_line_at.ensures))
 
 pub returns : goal.returns
 unfolding asked
