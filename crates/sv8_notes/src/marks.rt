@@ -1,6 +1,6 @@
 //! How far the notes of each word of RAM reach.
 
-ghost use Rattle.std.specs.Prelude.{◌≡◌, ℕ, ◌+◌, ◌*◌, ◌^◌, ◌≤◌, ◌<◌, [], true, length, slice_index_or, IfOk, OnOk};
+ghost use Rattle.std.specs.Prelude.{◌≡◌, ℕ, ◌+◌, ◌*◌, ◌^◌, ◌≤◌, ◌<◌, ◌&&◌, [], nat_lt, nat_le, length, slice_index_or, IfOk, OnOk};
 ghost use Rattle.sv8_notes.specs.Marks.{mark_of, AreMarkedFrom};
 
 use std::alloc::{AllocError, Global};
@@ -69,7 +69,7 @@ impl PageMarks {
     /// Whether there is room for the marks of all words.
     #[inline(always)]
     fn is_full(&self) -> bool
-        ensures { result ≡ true → 1024 ≤ length self.now }
+        ensures { result ≡ nat_le 1024 (length self.now) }
     {
         self.words.len() >= PAGE_WORDS
     }
@@ -174,8 +174,7 @@ impl Marks {
     /// Whether there is room for the marks of a page.
     #[inline(always)]
     fn has_room(&self, page: usize) -> bool
-        ensures place { result ≡ true → page < length self.now }
-        ensures room { result ≡ true → 1024 ≤ length (slice_index_or self.now page []) }
+        ensures { result ≡ (nat_lt page (length self.now) && nat_le 1024 (length (slice_index_or self.now page []))) }
     {
         page < self.pages.len() && self.pages[page].is_full()
     }
