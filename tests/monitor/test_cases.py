@@ -56,6 +56,15 @@ class Cases(unittest.TestCase):
     def test_examples(self) -> None:
         self.kind("example")
 
+    def test_each_file_of_the_workbench_is_read(self) -> None:
+        """A file with another ending, or with no script, would be passed over without a word."""
+        for file in WORKBENCH.iterdir():
+            with self.subTest(file=file.name):
+                name, _, ending = file.name.partition(".")
+                self.assertIn(ending, ("txt", "answer", "counts", "k1.counts", "k4.counts"))
+                self.assertTrue((WORKBENCH / f"{name}.txt").is_file())
+                self.assertTrue((WORKBENCH / f"{name}.answer").is_file())
+
     def test_scripts_of_the_workbench(self) -> None:
         scripts = sorted(it for it in WORKBENCH.glob("*.txt") if it.with_suffix(".answer").exists())
         self.assertTrue(scripts)
