@@ -4,4 +4,3 @@ pub mod Queried
 pub mod Alike
 pub mod Edited
 pub mod Walking
-pub mod Together

@@ -1,8 +1,6 @@
 -- Workbenches whose processors are the same at their first steps.
 use Rattle.std.specs.Prelude.{◌≡◌, ℕ, ◌≤◌}
-use Rattle.sv8_cpu.specs.State.{State}
 use Rattle.sv8_cpu.specs.Sameness.{IsSameProcessor}
-use Rattle.sv8_cpu.specs.Lockstep.{lent}
 use Rattle.sv8_trace.specs.Recording.{recorded}
 use Rattle.sv8_bench.specs.Kept.{Kept}
 use Rattle.sv8_bench.specs.Shown.{machine_state}
@@ -15,13 +13,3 @@ pub record AreAlikeUpTo (last : ℕ) (old new : Kept) : Type 0 where
 -- WHAT STAYS RECORDED HAS THE PROCESSORS THAT IT HAD, whatever was done to a workbench
 abbrev pub StaysAlike : ℕ → Workbench → Workbench → Type 0
 StaysAlike k old new = AreAlikeUpTo (recorded k new.recording) old.kept new.kept
-
--- at each step from one up to another, that one too, both have the same processor
-pub record AreAlikeBetween (first last : ℕ) (old new : Kept) : Type 0 where
-  pub processors : (n : ℕ) → first ≤ n → n ≤ last → IsSameProcessor (machine_state old n) (machine_state new n)
-
--- two machines have come to a step of the runs of both, the second but for its processor, which is that of the first
-pub record AreInLockstep (now before : Kept) (n : ℕ) (s t : State) : Type 0 where
-  pub state : s ≡ machine_state now n
-  pub others : lent s t ≡ machine_state before n
-  pub mmu : t.mmu ≡ s.mmu

@@ -7,6 +7,7 @@ ghost use Rattle.sv8_source.specs.Listing.{listing, numbered};
 ghost use Rattle.sv8_source.specs.Names.{names};
 ghost use Rattle.sv8_source.specs.View.{named_of, shown_of};
 ghost use Rattle.sv8_edits.specs.Changes.{source_change};
+ghost use Rattle.sv8_cpu.specs.Work.{counted};
 ghost use Rattle.sv8_trace.specs.Recording.{recorded};
 ghost use Rattle.sv8_bench.specs.Alike.{StaysAlike};
 ghost use Rattle.sv8_bench.specs.Faults.{edit_refusal};
@@ -16,7 +17,6 @@ ghost use Rattle.sv8_bench.specs.Workbench.{IsRun, IsNew, IsEdited, IsSized};
 mod affected;
 mod copies;
 mod edits;
-mod lockstep;
 mod patches;
 mod queries;
 mod walks;
@@ -198,6 +198,14 @@ impl<const NW: usize, const PAGES: usize, const K: u32> Bench<NW, PAGES, K> {
         ensures run { IsRun K self.now }
     {
         self.trace.recorded()
+    }
+
+    /// Counts a step more, which a crate above has made for a query.
+    #[inline(always)]
+    pub fn count_step(&mut self)
+        ensures { self.new ≡ record self.old { worked = counted self.old.worked } }
+    {
+        self.work.raise();
     }
 
     /// How many steps were made for all queries so far; 2^64 - 1 where it is that or more.

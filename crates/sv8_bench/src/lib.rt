@@ -12,4 +12,4 @@ pub use shown::Shown;
 pub use sv8_cpu::Mmu;
 pub use sv8_phys::Timer;
 pub use sv8_source::{DefinedName, Listed, NameKind};
-pub use walk::Walk;
+pub use walk::{Place, Walk};

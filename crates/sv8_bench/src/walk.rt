@@ -8,7 +8,7 @@ use sv8_trace::Draft;
 
 /// Where a walk stands.
 #[derive(Drop)]
-pub(crate) enum Place<const NW: usize, const PAGES: usize> {
+pub enum Place<const NW: usize, const PAGES: usize> {
     /// Not above the last checkpoint, or where no checkpoint can follow: its steps are not recorded.
     Restored(Machine<NW, PAGES>),
     /// Above the last checkpoint: its steps are recorded once they lead to the next one.
@@ -18,8 +18,8 @@ pub(crate) enum Place<const NW: usize, const PAGES: usize> {
 /// A walk that has come to a step. An edit of the workbench ends it.
 #[derive(Drop)]
 pub struct Walk<const NW: usize, const PAGES: usize> {
-    pub(crate) step: u32,
-    pub(crate) place: Place<NW, PAGES>,
+    pub step: u32,
+    pub place: Place<NW, PAGES>,
 }
 
 impl<const NW: usize, const PAGES: usize> Place<NW, PAGES> {

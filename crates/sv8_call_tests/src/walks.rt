@@ -5,6 +5,7 @@ ghost use Rattle.std.specs.Prelude.{◌<◌};
 use std::alloc::{AllocError, Global};
 use std::test::Fail;
 use sv8_bench::Bench;
+use sv8_lockstep::walk_in_lockstep;
 use sv8_phys::Watch;
 
 /// A machine with one page of RAM, and a checkpoint every 256 steps.
@@ -68,7 +69,7 @@ fn together(
     if !other_walk.machine().has_same_processor(walk.machine()) {
         return Ok(600);
     }
-    bench.walk_in_lockstep(other, &mut walk, &mut other_walk, 600)?;
+    walk_in_lockstep(bench, other, &mut walk, &mut other_walk, 600)?;
     if !other_walk.machine().has_same_processor(walk.machine()) {
         return Ok(600);
     }

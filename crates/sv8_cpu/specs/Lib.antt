@@ -1,7 +1,6 @@
 pub mod Step
 pub mod State
 pub mod Sameness
-pub mod Lockstep
 pub mod Run
 pub mod Recorded
 pub mod Touching

@@ -4,7 +4,9 @@ use Rattle.sv8_model.specs.Action.{Action}
 use Rattle.sv8_model.specs.Does.{Does, Keeps, Notes}
 use Rattle.sv8_phys.specs.Contents.{outside_of}
 use Rattle.sv8_memory.specs.declared.feed.Feed.{Feed}
+use Rattle.sv8_memory.specs.declared.physical.Physical.{Physical}
 use Rattle.sv8_memory.specs.Feeding.{bytes_fed, IsFed}
+use Rattle.sv8_trap.specs.Processor.{Processor}
 use Rattle.sv8_cpu.specs.declared.parts.Parts.{Parts}
 use Rattle.sv8_cpu.specs.Step.{Inner}
 use Rattle.sv8_cpu.specs.State.{State}
@@ -13,6 +15,10 @@ use Rattle.sv8_memory.specs.View.{units_of}
 -- what is not outside
 abbrev pub inner_of_parts : {windows pages : ℕ} → Parts windows pages → Inner
 inner_of_parts p = record { processor = p.processor; units = units_of p.memory }
+
+-- the state of a processor over a memory
+abbrev pub state_over : {pages : ℕ} → Processor → Physical pages → State
+state_over p m = record { processor = p; mmu = m.mmu; memory = m.phys }
 
 -- the whole state
 abbrev pub state_of : {windows pages : ℕ} → Parts windows pages → State

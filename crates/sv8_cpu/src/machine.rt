@@ -46,9 +46,10 @@ fn make_step<const NW: usize, const PAGES: usize, T: Touches>(
 
 /// A machine with `NW` register windows (2 to 32) and `PAGES` pages of 4,096 bytes of RAM (1 to 65,536).
 ///
-/// Its state is on the heap, so a machine moves at the cost of a pointer.
+/// Its state is on the heap, so a machine moves at the cost of a pointer. Its parts are open to crates that make its steps in
+/// another way.
 pub struct Machine<const NW: usize, const PAGES: usize> {
-    pub(crate) parts: Box<Parts<NW, PAGES>>,
+    pub parts: Box<Parts<NW, PAGES>>,
     /// The notes of the step under way.
     pub(crate) touches: StepTouches,
 }

@@ -43,7 +43,7 @@ impl Work {
 
     /// One step more.
     #[inline(always)]
-    pub(crate) fn raise(&mut self)
+    pub fn raise(&mut self)
         ensures { self.new ≡ counted self.old }
     {
         self.done = self.done.saturating_add(1);

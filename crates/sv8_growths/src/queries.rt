@@ -3,6 +3,7 @@
 
 use std::alloc::{AllocError, Global};
 use sv8_bench::{Bench, BenchFault};
+use sv8_lockstep::walk_in_lockstep;
 use sv8_model::Refused;
 use sv8_phys::Watch;
 
@@ -231,7 +232,7 @@ fn walked_together(
     if !other_walk.machine().has_same_processor(walk.machine()) {
         return Ok(false);
     }
-    bench.walk_in_lockstep(other, &mut walk, &mut other_walk, 5)?;
+    walk_in_lockstep(bench, other, &mut walk, &mut other_walk, 5)?;
     let stored = walk.machine().word(0x100);
     Ok(walk.step() == 5 && stored != 0 && other_walk.machine().word(0x100) == stored)
 }

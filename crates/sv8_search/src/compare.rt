@@ -15,6 +15,7 @@ use crate::difference::Difference;
 use std::alloc::{AllocError, Global};
 use sv8_bench::{Bench, BenchFault, LAST_STEP, STEP_TOO_LARGE, Walk};
 use sv8_cpu::Machine;
+use sv8_lockstep::walk_in_lockstep;
 use sv8_model::Refused;
 use sv8_phys::Watch;
 
@@ -129,7 +130,7 @@ fn go_on<const NW: usize, const PAGES: usize, const K: u32>(
 {
     now.sizes();
     before.sizes();
-    now.walk_in_lockstep(before, &mut both.walk, &mut both.other, to)?;
+    walk_in_lockstep(now, before, &mut both.walk, &mut both.other, to)?;
     if to <= both.walk.step() {
         return Ok(true);
     }

@@ -5,7 +5,7 @@ use Rattle.sv8_memory.specs.Events.{with_events}
 use Rattle.sv8_memory.specs.Feeding.{bytes_fed, IsFed}
 use Rattle.sv8_memory.specs.declared.feed.Feed.{Feed}
 use Rattle.sv8_memory.specs.declared.physical.Physical.{Physical}
-use Rattle.sv8_cpu.specs.Lockstep.{state_over}
+use Rattle.sv8_cpu.specs.Whole.{state_over}
 use Rattle.sv8_cpu.specs.Run.{acted_on, eventful, step, step_action}
 use Rattle.sv8_cpu.specs.State.{State}
 use Rattle.sv8_cpu.specs.Whole.{inner_of_parts}

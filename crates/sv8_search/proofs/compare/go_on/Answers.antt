@@ -1,5 +1,5 @@
 use Rattle.std.proofs.Common.{◌∙◌, ◌<◌, ◌≤◌, ◌+◌, refl, arith}
-use Rattle.sv8_bench.proofs.Together.{either}
+use Rattle.sv8_lockstep.proofs.Together.{either}
 use Rattle.sv8_search.specs.Comparing.{AreWalks}
 use Rattle.sv8_search.specs.Search.{IsWalked}
 use Rattle.sv8_search.proofs.Parting.{alike_at, same_outside, unlike_at, window_at}
@@ -14,8 +14,8 @@ returns-in_err-walk_past-clause-stopped g c =
     let walked = c.in_ok-walk_in_lockstep.ensures in
     let below : m < c.args.to = omega (arith, c.if-to-step.false, c.step.ensures) in
     let high : m ≤ c.args.to = omega (arith, below) in
-    let now : IsWalked g.row.K n m c.args.now.now c.walk_in_lockstep.new.self = walked_recorded walked.kept.0 walked.recorded.0 walked.within.0 walked.counted in
-    let before : IsWalked g.row.K n m c.args.before.now c.walk_in_lockstep.new.other = walked_recorded walked.kept.1 walked.recorded.1 walked.within.1 walked.others_counted in
+    let now : IsWalked g.row.K n m c.args.now.now c.walk_in_lockstep.new.now = walked_recorded walked.kept.0 walked.recorded.0 walked.within.0 walked.counted in
+    let before : IsWalked g.row.K n m c.args.before.now c.walk_in_lockstep.new.before = walked_recorded walked.kept.1 walked.recorded.1 walked.within.1 walked.others_counted in
     on_any_err c.from_residual-in_err-walk_past.result
     (walked_stopped pos walked.begun high now (unmade_stopped below c.in_err-walk_past.ensures.unmade), walked_abandoned pos walked.begun high before)
 
@@ -28,8 +28,8 @@ returns-in_err-walk_past-2-clause-stopped g c =
     let below : m < c.args.to = omega (arith, c.if-to-step.false, c.step.ensures) in
     let high : m ≤ c.args.to = omega (arith, below) in
     let low : n ≤ m + 1 = omega (arith, walked.begun) in
-    let now : IsWalked g.row.K n m c.args.now.now c.walk_in_lockstep.new.self = walked_recorded walked.kept.0 walked.recorded.0 walked.within.0 walked.counted in
-    let before : IsWalked g.row.K n m c.args.before.now c.walk_in_lockstep.new.other = walked_recorded walked.kept.1 walked.recorded.1 walked.within.1 walked.others_counted in
+    let now : IsWalked g.row.K n m c.args.now.now c.walk_in_lockstep.new.now = walked_recorded walked.kept.0 walked.recorded.0 walked.within.0 walked.counted in
+    let before : IsWalked g.row.K n m c.args.before.now c.walk_in_lockstep.new.before = walked_recorded walked.kept.1 walked.recorded.1 walked.within.1 walked.others_counted in
     on_any_err c.from_residual-in_err-walk_past-2.result (
       walked_abandoned pos low (omega (arith, below)) (walked_made pos walked.begun now refl refl c.in_ok-walk_past.ensures.made),
       walked_stopped pos walked.begun high before (unmade_stopped below c.in_err-walk_past-2.ensures.unmade),
@@ -49,7 +49,7 @@ returns-clause-alike g c =
     let same_before = other.made.kept ∙ walked.kept.1 in
     let walks : AreWalks k c.walk_past.new.self c.walk_past-2.new.self c.walk_past.new.walk.step (record { walk = c.walk_past.new.walk; other = c.walk_past-2.new.walk }) =
     record { now_walk = own.walk; before_walk = other.walk; now_step = refl; before_step = omega (arith, own.step, other.step, walked.together) } in
-    let cwp = window_at k w now before c.walk_in_lockstep.new.self c.walk_in_lockstep.new.other (record { walk = c.walk_in_lockstep.new.walk; other = c.walk_in_lockstep.new.other_walk })
+    let cwp = window_at k w now before c.walk_in_lockstep.new.now c.walk_in_lockstep.new.before (record { walk = c.walk_in_lockstep.new.walk; other = c.walk_in_lockstep.new.other_walk })
     (record { now_walk = walked.walk; before_walk = walked.others_walk; now_step = refl; before_step = walked.together }) walked.kept.0 walked.kept.1 c.window-window.ensures.value in
     let outside = same_outside k g.row.NW m w now before _ _ _ c.sizes.ensures.windows c.sizes-2.ensures.windows c.sizes.ensures.some_windows
     c.window-window.ensures.in_range walks same_now same_before own.step cwp (walked.alike.processors m walked.begun (omega arith)) in
@@ -63,6 +63,6 @@ returns-clause-walked g c =
     let m = c.walk_in_lockstep.new.walk.step in
     let walked = c.in_ok-walk_in_lockstep.ensures in
     let own = c.in_ok-walk_past.ensures in
-    let now : IsWalked g.row.K n m c.args.now.now c.walk_in_lockstep.new.self = walked_recorded walked.kept.0 walked.recorded.0 walked.within.0 walked.counted in
-    let before : IsWalked g.row.K n m c.args.before.now c.walk_in_lockstep.new.other = walked_recorded walked.kept.1 walked.recorded.1 walked.within.1 walked.others_counted in
+    let now : IsWalked g.row.K n m c.args.now.now c.walk_in_lockstep.new.now = walked_recorded walked.kept.0 walked.recorded.0 walked.within.0 walked.counted in
+    let before : IsWalked g.row.K n m c.args.before.now c.walk_in_lockstep.new.before = walked_recorded walked.kept.1 walked.recorded.1 walked.within.1 walked.others_counted in
     (walked_made pos walked.begun now refl own.step own.made, walked_made pos walked.begun before walked.together own.step c.in_ok-walk_past-2.ensures.made)

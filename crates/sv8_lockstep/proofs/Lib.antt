@@ -1,0 +1,2 @@
+pub mod Ordinary
+pub mod Together
