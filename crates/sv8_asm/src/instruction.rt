@@ -1,7 +1,7 @@
 //! The instructions that a statement stands for.
 
 ghost use Rattle.std.specs.Prelude.{◌≡◌, false};
-ghost use Rattle.sv8_asm.specs.Code.{on_ok, format_3, instruction_of, set_long, set_instructions};
+ghost use Rattle.sv8_asm.specs.Code.{below, on_ok, format_3, instruction_of, set_long, set_instructions};
 ghost use Rattle.sv8_asm.specs.Coded.{listed};
 ghost use Rattle.sv8_asm.specs.Size.{plain};
 ghost use Rattle.sv8_asm.specs.Value.{word_of};
@@ -11,7 +11,7 @@ use crate::operand::{below, second_source, upper_bits};
 use crate::size::{fits_simm13, has_no_low_bits, plain};
 use crate::symbols::Symbols;
 use crate::value::{call_displacement, displacement, word};
-use sv8_isa::{ArithOp, Instr, Operand};
+use sv8_isa::{ArithOp, Cond, Instr, MemoryOp, Operand};
 use sv8_syntax::{Expr, Instruction, LineFault, Operation, Register};
 
 /// One instruction, or two.
@@ -21,18 +21,65 @@ pub(crate) enum Coded {
     Two(Instr, Instr),
 }
 
+/// Arithmetic or logic, with condition codes or without.
+fn arith(op: ArithOp, cc: bool, rd: u8, rs1: u8, operand: Operand) -> Instr
+    ensures { result ≡ Instr.Arith op cc rd rs1 operand }
+{
+    Instr::Arith {
+        op,
+        cc,
+        rd,
+        rs1,
+        operand,
+    }
+}
+
+/// Bicc.
+fn branch(cond: Cond, annul: bool, disp22: i32) -> Instr
+    ensures { result ≡ Instr.Bicc cond annul disp22 }
+{
+    Instr::Bicc {
+        cond,
+        annul,
+        disp22,
+    }
+}
+
+/// SETHI.
+fn sethi(imm22: u32, rd: u8) -> Instr
+    ensures { result ≡ Instr.Sethi imm22 rd }
+{
+    Instr::Sethi { imm22, rd }
+}
+
+/// A load or a store in an address space that the instruction names.
+fn alternate(
+    op: MemoryOp,
+    rd: Register,
+    rs1: Register,
+    rs2: Register,
+    asi: u32,
+) -> Result<Instr, LineFault>
+    ensures { result ≡ on_ok (below 256 asi) (Instr.Alternate op (number_of_register rd) (number_of_register rs1) (number_of_register rs2)) }
+{
+    match below(256, asi) {
+        Ok(asi) => Ok(Instr::Alternate {
+            op,
+            rd: rd.number(),
+            rs1: rs1.number(),
+            rs2: rs2.number(),
+            asi: asi as u8,
+        }),
+        Err(fault) => Err(fault),
+    }
+}
+
 /// An instruction of format 3, by its registers and its second source.
 fn format_3(operation: Operation, rd: u8, rs1: u8, operand: Operand) -> Instr
     ensures { result ≡ format_3 operation rd rs1 operand }
 {
     match operation {
-        Operation::Arith { op, cc } => Instr::Arith {
-            op,
-            cc,
-            rd,
-            rs1,
-            operand,
-        },
+        Operation::Arith { op, cc } => arith(op, cc, rd, rs1, operand),
         Operation::Tagged(op) => Instr::Tagged {
             op,
             rd,
@@ -93,26 +140,13 @@ pub(crate) fn instruction_of(
             rs1,
             rs2,
             asi,
-        } => match below(256, *asi) {
-            Ok(asi) => Ok(Instr::Alternate {
-                op: *op,
-                rd: rd.number(),
-                rs1: rs1.number(),
-                rs2: rs2.number(),
-                asi: asi as u8,
-            }),
-            Err(fault) => Err(fault),
-        },
+        } => alternate(*op, *rd, *rs1, *rs2, *asi),
         Instruction::Branch {
             cond,
             annul,
             target,
         } => match displacement(at, target, line, names) {
-            Ok(disp22) => Ok(Instr::Bicc {
-                cond: *cond,
-                annul: *annul,
-                disp22,
-            }),
+            Ok(disp22) => Ok(branch(*cond, *annul, disp22)),
             Err(fault) => Err(fault),
         },
         Instruction::Call(target) => match call_displacement(at, target, line, names) {
@@ -120,10 +154,7 @@ pub(crate) fn instruction_of(
             Err(fault) => Err(fault),
         },
         Instruction::Sethi { value, rd } => match upper_bits(value, line, names) {
-            Ok(imm22) => Ok(Instr::Sethi {
-                imm22,
-                rd: rd.number(),
-            }),
+            Ok(imm22) => Ok(sethi(imm22, rd.number())),
             Err(fault) => Err(fault),
         },
         Instruction::Unimp(number) => match below(0x40_0000, *number) {
@@ -137,23 +168,14 @@ pub(crate) fn instruction_of(
 fn or(rd: u8, rs1: u8, number: i32) -> Instr
     ensures { result ≡ Instr.Arith ArithOp.Or false rd rs1 (Operand.Immediate number) }
 {
-    Instr::Arith {
-        op: ArithOp::Or,
-        cc: false,
-        rd,
-        rs1,
-        operand: Operand::Immediate(number),
-    }
+    arith(ArithOp::Or, false, rd, rs1, Operand::Immediate(number))
 }
 
 /// The instructions that set a register to a word: its upper bits, and its lower ones unless those are 0.
 fn set_long(alone: bool, rd: u8, word: u32) -> Coded
     ensures { listed result ≡ set_long alone rd word }
 {
-    let high = Instr::Sethi {
-        imm22: word / 1024,
-        rd,
-    };
+    let high = sethi(word / 1024, rd);
     if alone {
         Coded::One(high)
     } else {

@@ -15,7 +15,8 @@ pub enum Place<const NW: usize, const PAGES: usize> {
     Drafted(Draft<NW, PAGES>),
 }
 
-/// A walk that has come to a step. An edit of the workbench ends it.
+/// A walk that has come to a step. An edit of the workbench ends it. Its parts are open to crates that take it on in another way:
+/// what it has to be is a condition of each call (`IsWalk`).
 #[derive(Drop)]
 pub struct Walk<const NW: usize, const PAGES: usize> {
     pub step: u32,
