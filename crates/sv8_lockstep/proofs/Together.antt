@@ -49,15 +49,7 @@ same_processors now before n s t in_lockstep =
     subst (λ (x : State). IsSameProcessor (machine_state before n) x) in_lockstep.state
     (subst (λ (x : State). IsSameProcessor x s) in_lockstep.others (record { processor = refl; mmu = in_lockstep.mmu }))
 
--- machines with the same processor are in lockstep
-pub begin_in_lockstep : (now before : Kept) (n : ℕ) (s t : State) → s ≡ machine_state now n → t ≡ machine_state before n → IsSameProcessor t s → AreInLockstep now before n s t
-begin_in_lockstep now before n s t here there same = record {
-  state = here;
-  others = subst (λ p. record t { processor = p } ≡ t) same.processor refl ∙ there;
-  mmu = same.mmu;
-}
-
--- .. at one step
+-- .. at that step
 pub alike_first : (now before : Kept) (n : ℕ) (s t : State) → AreInLockstep now before n s t → AreAlikeBetween n n before now
 alike_first now before n s t in_lockstep = record {
   processors = λ m low high. let same : n ≡ m = omega (arith, low, high) in
