@@ -1,6 +1,6 @@
 //! An edit of a timeline, as a value.
 
-ghost use Rattle.std.specs.Prelude.{◌≡◌, None, OnOk, OnErr, IfErr};
+ghost use Rattle.std.specs.Prelude.{◌≡◌, None, Some, OnOk, OnErr, IfErr};
 ghost use Rattle.sv8_model.specs.Refused.{IsRefused};
 ghost use Rattle.sv8_time.specs.Edits.{timeline_fault, with_edit};
 
@@ -68,6 +68,37 @@ pub enum TimelineEdit<'a> {
 }
 
 impl Timeline {
+    /// Whether an edit would be made: its fault that wants no memory, if there is one.
+    ///
+    /// # Errors
+    ///
+    /// Those of `edit` but for `OutOfMemory`.
+    pub fn check(&self, edit: &TimelineEdit<'_>) -> Result<(), TimeFault>
+        ensures ok { OnOk result (timeline_fault edit.now self.now ≡ None) }
+        ensures err { IfErr result (λ e. timeline_fault edit.now self.now ≡ Some e) }
+    {
+        match edit {
+            TimelineEdit::SetPoke { step, address, .. } => self.check_set_poke(*step, *address),
+            TimelineEdit::ClearPoke { step, address } => self.check_clear_poke(*step, *address),
+            TimelineEdit::SetPokeByte { step, address, .. } => self.check_set_poke_byte(
+                *step, *address,
+            ),
+            TimelineEdit::ClearPokeByte { step, address } => self.check_clear_poke_byte(
+                *step, *address,
+            ),
+            TimelineEdit::SetInput { step, bytes } => self.check_set_input(*step, bytes.as_slice()),
+            TimelineEdit::ClearInput { step } => self.check_clear_input(*step),
+            TimelineEdit::SetRequest { step, level } => {
+                self.check_set_request(*step, *level)?;
+                Ok(())
+            }
+            TimelineEdit::ClearRequest { step, level } => {
+                self.check_clear_request(*step, *level)?;
+                Ok(())
+            }
+        }
+    }
+
     /// Makes an edit.
     ///
     /// # Errors

@@ -15,7 +15,7 @@ fn is_word(address: u32, limit: u32) -> bool
 
 impl Timeline {
     /// Whether a word can be poked at a step: the fault of `set_poke` that wants no memory, if there is one.
-    pub fn check_set_poke(&self, step: u32, address: u32) -> Result<(), TimeFault>
+    pub(crate) fn check_set_poke(&self, step: u32, address: u32) -> Result<(), TimeFault>
         ensures ok { OnOk result (set_poke_fault step address self.now ≡ None) }
         ensures err { IfErr result (λ e. set_poke_fault step address self.now ≡ Some e) }
     {
@@ -32,7 +32,7 @@ impl Timeline {
     }
 
     /// Whether a word's pokes at a step can be cleared: the fault of `clear_poke`, if there is one.
-    pub fn check_clear_poke(&self, step: u32, address: u32) -> Result<(), TimeFault>
+    pub(crate) fn check_clear_poke(&self, step: u32, address: u32) -> Result<(), TimeFault>
         ensures ok { OnOk result (clear_poke_fault step address self.now ≡ None) }
         ensures err { IfErr result (λ e. clear_poke_fault step address self.now ≡ Some e) }
     {
@@ -49,7 +49,7 @@ impl Timeline {
     }
 
     /// Whether a byte can be poked at a step: the fault of `set_poke_byte` that wants no memory, if there is one.
-    pub fn check_set_poke_byte(&self, step: u32, address: u32) -> Result<(), TimeFault>
+    pub(crate) fn check_set_poke_byte(&self, step: u32, address: u32) -> Result<(), TimeFault>
         ensures ok { OnOk result (set_poke_byte_fault step address self.now ≡ None) }
         ensures err { IfErr result (λ e. set_poke_byte_fault step address self.now ≡ Some e) }
     {
@@ -66,7 +66,7 @@ impl Timeline {
     }
 
     /// Whether a byte's poke at a step can be cleared: the fault of `clear_poke_byte`, if there is one.
-    pub fn check_clear_poke_byte(&self, step: u32, address: u32) -> Result<(), TimeFault>
+    pub(crate) fn check_clear_poke_byte(&self, step: u32, address: u32) -> Result<(), TimeFault>
         ensures ok { OnOk result (clear_poke_byte_fault step address self.now ≡ None) }
         ensures err { IfErr result (λ e. clear_poke_byte_fault step address self.now ≡ Some e) }
     {
@@ -83,7 +83,7 @@ impl Timeline {
     }
 
     /// Whether bytes can come in at a step: the fault of `set_input` that wants no memory, if there is one.
-    pub fn check_set_input(&self, step: u32, bytes: &[u8]) -> Result<(), TimeFault>
+    pub(crate) fn check_set_input(&self, step: u32, bytes: &[u8]) -> Result<(), TimeFault>
         ensures ok { OnOk result (set_input_fault step bytes.now self.now ≡ None) }
         ensures err { IfErr result (λ e. set_input_fault step bytes.now self.now ≡ Some e) }
     {
@@ -100,7 +100,7 @@ impl Timeline {
     }
 
     /// Whether the bytes that come in at a step can be cleared: the fault of `clear_input`, if there is one.
-    pub fn check_clear_input(&self, step: u32) -> Result<(), TimeFault>
+    pub(crate) fn check_clear_input(&self, step: u32) -> Result<(), TimeFault>
         ensures ok { OnOk result (clear_input_fault step self.now ≡ None) }
         ensures err { IfErr result (λ e. clear_input_fault step self.now ≡ Some e) }
     {
@@ -114,7 +114,7 @@ impl Timeline {
     }
 
     /// The level of a number that can be requested at a step, or else the fault of `set_request` that wants no memory.
-    pub fn check_set_request(&self, step: u32, level: u32) -> Result<Level, TimeFault>
+    pub(crate) fn check_set_request(&self, step: u32, level: u32) -> Result<Level, TimeFault>
         ensures ok { OnOk result (set_request_fault step level self.now ≡ None) }
         ensures level { IfOk result (λ l. l ≡ level) }
         ensures err { IfErr result (λ e. set_request_fault step level self.now ≡ Some e) }
@@ -132,7 +132,7 @@ impl Timeline {
     }
 
     /// The level of a number whose request at a step can be cleared, or else the fault of `clear_request`.
-    pub fn check_clear_request(&self, step: u32, level: u32) -> Result<Level, TimeFault>
+    pub(crate) fn check_clear_request(&self, step: u32, level: u32) -> Result<Level, TimeFault>
         ensures ok { OnOk result (clear_request_fault step level self.now ≡ None) }
         ensures level { IfOk result (λ l. l ≡ level) }
         ensures err { IfErr result (λ e. clear_request_fault step level self.now ≡ Some e) }

@@ -1,6 +1,6 @@
 //! What an edit affects of the recorded run, prepared and done.
 
-ghost use Rattle.std.specs.Prelude.{◌≡◌, ◌≤◌, None, Option, Some, IfErr, IfOk, OnOk};
+ghost use Rattle.std.specs.Prelude.{◌≡◌, ◌<◌, ◌≤◌, length, None, Option, Some, IfErr, IfOk, OnOk};
 ghost use Rattle.sv8_model.specs.Refused.{IsRefused};
 ghost use Rattle.sv8_phys.specs.Memory.{ram_size};
 ghost use Rattle.sv8_time.specs.Edits.{timeline_fault};
@@ -13,7 +13,7 @@ use crate::bench::patches::{
     request_patches,
 };
 use std::alloc::{AllocError, Global};
-use sv8_model::Refused;
+use sv8_model::{Level, Refused};
 use sv8_time::{InputBytes, TimeFault, Timeline, TimelineEdit};
 use sv8_trace::{Patch, Prepared, Trace};
 
@@ -28,7 +28,8 @@ pub(crate) enum Affected {
 
 /// The step from which on bytes that come in make the input another one: none where they come in there already.
 fn input_change(timeline: &Timeline, step: u32, bytes: &InputBytes<'_>) -> Option<u32>
-    ensures { result ≡ input_change step bytes.now timeline.now }
+    ensures value { result ≡ input_change step bytes.now timeline.now }
+    ensures some { 0 < length bytes.now }
 {
     let events = timeline.events(step);
     if events.bytes == bytes.as_slice() {
@@ -56,54 +57,38 @@ pub(crate) fn affected_by<const NW: usize, const PAGES: usize>(
     ensures of_machine { IfOk result (λ a. AreOfMachine PAGES a) }
     ensures bytes { OnOk result (HasBytes edit.now) }
 {
-    match edit {
+    timeline.check(edit)?;
+    let patches = match edit {
         TimelineEdit::SetPoke {
             step,
             address,
             value,
-        } => {
-            timeline.check_set_poke(*step, *address)?;
-            let patches = poke_patches::<NW, PAGES>(alloc, timeline, *step, *address, *value)?;
-            Ok(Affected::Cells(patches))
-        }
+        } => poke_patches::<NW, PAGES>(alloc, timeline, *step, *address, *value)?,
         TimelineEdit::ClearPoke { step, address } => {
-            timeline.check_clear_poke(*step, *address)?;
-            let patches = clear_patches::<NW, PAGES>(alloc, timeline, *step, *address)?;
-            Ok(Affected::Cells(patches))
+            clear_patches::<NW, PAGES>(alloc, timeline, *step, *address)?
         }
         TimelineEdit::SetPokeByte {
             step,
             address,
             value,
-        } => {
-            timeline.check_set_poke_byte(*step, *address)?;
-            let patches = poke_byte_patches::<NW, PAGES>(alloc, timeline, *step, *address, *value)?;
-            Ok(Affected::Cells(patches))
-        }
+        } => poke_byte_patches::<NW, PAGES>(alloc, timeline, *step, *address, *value)?,
         TimelineEdit::ClearPokeByte { step, address } => {
-            timeline.check_clear_poke_byte(*step, *address)?;
-            let patches = clear_byte_patches::<NW, PAGES>(alloc, timeline, *step, *address)?;
-            Ok(Affected::Cells(patches))
+            clear_byte_patches::<NW, PAGES>(alloc, timeline, *step, *address)?
         }
         TimelineEdit::SetInput { step, bytes } => {
-            timeline.check_set_input(*step, bytes.as_slice())?;
-            Ok(Affected::Input(input_change(timeline, *step, bytes)))
+            return Ok(Affected::Input(input_change(timeline, *step, bytes)));
         }
-        TimelineEdit::ClearInput { step } => {
-            timeline.check_clear_input(*step)?;
-            Ok(Affected::Input(Some(*step)))
-        }
+        TimelineEdit::ClearInput { step } => return Ok(Affected::Input(Some(*step))),
         TimelineEdit::SetRequest { step, level } => {
-            let checked = timeline.check_set_request(*step, *level)?;
-            let patches = request_patches::<NW, PAGES>(alloc, timeline, *step, checked)?;
-            Ok(Affected::Cells(patches))
+            let level = Level::new(*level).ok_or(TimeFault::BadLevel)?;
+            request_patches::<NW, PAGES>(alloc, timeline, *step, level)?
         }
         TimelineEdit::ClearRequest { step, level } => {
-            let checked = timeline.check_clear_request(*step, *level)?;
-            let patches = clear_request_patches::<NW, PAGES>(alloc, timeline, *step, checked)?;
-            Ok(Affected::Cells(patches))
+            let level = Level::new(*level).ok_or(TimeFault::BadLevel)?;
+            clear_request_patches::<NW, PAGES>(alloc, timeline, *step, level)?
         }
-    }
+    };
+    Ok(Affected::Cells(patches))
 }
 
 /// Builds what a change makes of the recorded run. Input that stands already makes nothing of it.
