@@ -9,10 +9,14 @@ import subprocess
 from collections.abc import Callable, Iterator, Sequence
 from pathlib import Path
 from types import FrameType
+from typing import Any
 
 from .problem import Interrupted
 
 PATIENCE_SECONDS = 10
+
+# The signals that came while they were held back, where they are.
+_held_back: list[int] | None = None
 
 
 @contextlib.contextmanager
@@ -23,7 +27,9 @@ def interruptible() -> Iterator[None]:
         # The end goes its way undisturbed.
         for it in before:
             signal.signal(it, signal.SIG_IGN)
-        raise Interrupted(number)
+        if _held_back is None:
+            raise Interrupted(number)
+        _held_back.append(number)
 
     numbers = (signal.SIGINT, signal.SIGTERM, signal.SIGHUP)
     before = {it: signal.getsignal(it) for it in numbers if signal.getsignal(it) is not signal.SIG_IGN}
@@ -36,6 +42,33 @@ def interruptible() -> Iterator[None]:
             signal.signal(it, handler)
 
 
+@contextlib.contextmanager
+def undisturbed() -> Iterator[None]:
+    """Has `Interrupted` wait until a process that is begun here is known, so that it can be ended."""
+    global _held_back
+    _held_back = []
+    try:
+        yield
+    finally:
+        numbers, _held_back = _held_back, None
+        if numbers:
+            raise Interrupted(numbers[0])
+
+
+@contextlib.contextmanager
+def begun(words: Sequence[str], **how: Any) -> Iterator[subprocess.Popen[bytes]]:
+    """A process with a session of its own, which is ended where something is raised meanwhile."""
+    process = None
+    try:
+        with undisturbed():
+            process = subprocess.Popen(words, start_new_session=True, **how)
+        yield process
+    except BaseException:
+        if process:
+            end(process)
+        raise
+
+
 def run(
     words: Sequence[str],
     folder: Path,
@@ -44,22 +77,13 @@ def run(
     tick: Callable[[], None],
 ) -> int:
     """Runs a command with no input, hands each line of it to `tell`, and calls `tick` each second. Gives its status."""
-    with subprocess.Popen(
-        words,
-        cwd=folder,
-        env=environment,
-        stdin=subprocess.DEVNULL,
-        stdout=subprocess.PIPE,
-        stderr=subprocess.STDOUT,
-        start_new_session=True,
-    ) as process:
-        try:
+    said = {"stdout": subprocess.PIPE, "stderr": subprocess.STDOUT}
+    with begun(words, cwd=folder, env=environment, stdin=subprocess.DEVNULL, **said) as process:
+        assert process.stdout is not None
+        with process.stdout:
             for line in _lines(process, tick):
                 tell(line)
-            return process.wait()
-        except BaseException:
-            end(process)
-            raise
+        return process.wait()
 
 
 def _lines(process: subprocess.Popen[bytes], tick: Callable[[], None]) -> Iterator[str]:

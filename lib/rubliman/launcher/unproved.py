@@ -7,7 +7,6 @@ from __future__ import annotations
 
 import os
 import re
-import subprocess
 import sys
 import tempfile
 import time
@@ -66,19 +65,14 @@ def _ran(rt: str, settings: Settings, room: Path) -> int:
         script = None if settings.script is None else os.open(settings.script, os.O_RDONLY)
         with (room / "said").open("w+b") as said:
             sys.stdout.flush()
-            process = subprocess.Popen(
+            with running.begun(
                 words,
                 cwd=copy / "crates" / "sparc8",
                 env={**toolchain.environment(), "TMPDIR": str(room)},
                 stdin=script,
                 stderr=said,
-                start_new_session=True,
-            )
-            try:
+            ) as process:
                 status = process.wait()
-            except BaseException:
-                running.end(process)
-                raise
             said.seek(0)
             return _told(status, said.read())
     finally:
