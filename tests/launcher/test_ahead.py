@@ -27,10 +27,10 @@ WAITS = "rt: low: another run on this machine is proving the same; waiting for i
 class Ahead(InRepository):
     """`low` takes 4 minutes and its tests 1, `side` 2, `high` 6 on `low`; the program stands on `high` and `side`."""
 
-    def prove(self, says: str, lanes: int = 2, taken: Sequence[str] = ()) -> str:
+    def prove(self, says: str, lanes: int = 2, taken: Sequence[str] = (), text: str = TEXT) -> str:
         """Proves the crates below the program, by a toolchain that does this for each. Gives what is shown."""
         self.fake("exit 9", ahead=says)
-        crates = crates_of(TEXT, [WORKBENCH])
+        crates = crates_of(text, [WORKBENCH])
         tasks = tasks_of(Sources(crates, {f"crates/{it.name}/src/lib.rt": b"\n" * 100 for it in crates}), PAGE)
         progress = Progress(tasks, 4, lanes)
         progress.proved += taken
@@ -63,6 +63,14 @@ class Ahead(InRepository):
         self.prove(waits)
         self.assertEqual(sorted(self.all_calls()), ["ci high", "ci low", "ci side"])
         self.assertEqual(self.all_calls()[2], "ci high")
+
+    def test_a_crate_does_not_wait_for_one_with_a_shorter_way(self) -> None:
+        # `side` waits for `tall`, and so does `high`, which is as long as `tall` and begun before it.
+        text = f"low:\nside:\nhigh: low\ntall: low\n{WORKBENCH}: high side tall\n"
+        waits = f'case $2 in side | high) until grep -q "ci tall" {self.log}; do sleep 0.1; done ;; esac; {SAYS}'
+        with mock.patch.object(ahead, "_AMPLE_BYTES", 0):
+            self.prove(waits, text=text)
+        self.assertEqual(sorted(self.all_calls()), ["ci high", "ci low", "ci side", "ci tall"])
 
     def test_tests_hold_no_other_crate_back(self) -> None:
         # `low` is proved, and its tests wait for `high`, which can only come once `low` counts as proved.

@@ -3,7 +3,8 @@
 One `rt ci` of all crates gives most proofs one processor, also while others have nothing to do: it counts with the
 tests that each crate might have. So crates are asked for one by one, those with the longest way above them first, two
 at a time on four processors: with three the longest way went slower. Each may use all processors, where the toolchain
-lets the launcher say so, and the one on the longest way has them first: the other goes on with what it leaves.
+lets the launcher say so, and the one on the longest way has them first: the other goes on with what it leaves. Where a
+crate at work has a shorter way than one that becomes ready, the second does not wait for it.
 
 A command takes some seconds before it proves anything, the more the more crates lie below. So the next crate is begun
 while the last of its libraries is under way: where commands share what they prove, its own then waits for that.
@@ -34,8 +35,8 @@ _MOST_SAID = 1 << 20
 _WAITED = re.compile(r"rt: .*\bwaiting for it")
 # More jobs than this make no crate quicker.
 _MOST_JOBS = 4
-# How nice a crate is to one with a longer way above it.
-_NICENESS = 10
+# How nice a crate is to each one with a longer way above it, and to all together at most.
+_NICENESS, _NICEST = 10, 19
 # Behind so many seconds a command has begun its proof, so that another one waits for it and does not begin the same.
 _BEGUN_SECONDS = 20
 # A command counts the memory that is free when it begins, and with less it may give its crate one job.
@@ -113,12 +114,17 @@ class Ahead:
     def _begin(self, number: int) -> bool:
         """Begins crates whose libraries are proved, and the one that comes next. Gives whether one is under way."""
         for crate in [it for it in self._left if self._is_ready(it)]:
-            if len(self._at_work()) < number:
-                self._under_way.append(self._of(crate))
+            if len(self._at_work()) < number or self._overtakes(crate, number):
+                self._begin_one(crate)
         following = self._following()
         if following:
-            self._under_way.append(self._of(following))
+            self._begin_one(following)
         return bool(self._under_way)
+
+    def _begin_one(self, crate: str) -> None:
+        """Begins a crate, so that it is under way whatever interrupts."""
+        with running.undisturbed():
+            self._under_way.append(self._of(crate))
 
     def _is_ready(self, crate: str) -> bool:
         """Whether the libraries of a crate are proved."""
@@ -127,6 +133,12 @@ class Ahead:
     def _at_work(self) -> list[str]:
         """The crates under way that wait for no other one."""
         return [it.crate for it in self._under_way if self._is_ready(it.crate)]
+
+    def _overtakes(self, crate: str, number: int) -> bool:
+        """Whether a crate need not wait for a place: its way is longer than that of a crate at work."""
+        at_work = self._at_work()
+        is_longer = any(self._order.index(it) > self._order.index(crate) for it in at_work)
+        return is_longer and len(at_work) == number and free_memory() >= _AMPLE_BYTES
 
     def _following(self) -> str | None:
         """The crate that comes next, where it lacks libraries that are being proved, and no other crate waits so."""
@@ -143,8 +155,9 @@ class Ahead:
         self._left.remove(crate)
         words, folder = self._way.begin(crate, self._jobs)
         others = (it.crate for it in self._under_way if it.crate not in self._below[crate])
-        if any(self._order.index(it) < self._order.index(crate) for it in others):
-            words = ["nice", "-n", str(_NICENESS), *words]
+        longer = sum(self._order.index(it) < self._order.index(crate) for it in others)
+        if longer:
+            words = ["nice", "-n", str(min(longer * _NICENESS, _NICEST)), *words]
         said = tempfile.TemporaryFile()
         process = subprocess.Popen(
             words,
