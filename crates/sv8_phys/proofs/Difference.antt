@@ -42,74 +42,74 @@ module _ (ram other : List ℕ) where
 
 -- what the words of a block say of those of RAM, of which so many more follow
 abbrev Continues : List ℕ → List ℕ → ℕ → ℕ → ℕ → ℕ → Option ℕ → Type 0
-Continues ram other p rest count l None = differing_word ram other (count + rest) (64 * p + l) ≡ differing_word ram other rest (64 * p + 64)
-Continues ram other p rest count l (Some w) = differing_word ram other (count + rest) (64 * p + l) ≡ Some (64 * p + w)
+Continues ram other p rest count l None = differing_word ram other (count + rest) (32 * p + l) ≡ differing_word ram other rest (32 * p + 32)
+Continues ram other p rest count l (Some w) = differing_word ram other (count + rest) (32 * p + l) ≡ Some (32 * p + w)
 
 module _ (ram other : List ℕ) (p rest count l : ℕ) where
   -- a word more that is the same
-  one_more : (r : Option ℕ) → word_of ram (64 * p + l) ≡ word_of other (64 * p + l) → Continues ram other p rest count (l + 1) r → Continues ram other p rest (suc count) l r
+  one_more : (r : Option ℕ) → word_of ram (32 * p + l) ≡ word_of other (32 * p + l) → Continues ram other p rest count (l + 1) r → Continues ram other p rest (suc count) l r
   one_more None e h =
       let n : suc count + rest ≡ suc (count + rest) = omega arith in
-      let k : 64 * p + l + 1 ≡ 64 * p + (l + 1) = omega arith in
-      ap (λ n. differing_word ram other n (64 * p + l)) n ∙ passed ram other (count + rest) (64 * p + l) e ∙ ap (differing_word ram other (count + rest)) k ∙ h
+      let k : 32 * p + l + 1 ≡ 32 * p + (l + 1) = omega arith in
+      ap (λ n. differing_word ram other n (32 * p + l)) n ∙ passed ram other (count + rest) (32 * p + l) e ∙ ap (differing_word ram other (count + rest)) k ∙ h
   one_more (Some w) e h =
       let n : suc count + rest ≡ suc (count + rest) = omega arith in
-      let k : 64 * p + l + 1 ≡ 64 * p + (l + 1) = omega arith in
-      ap (λ n. differing_word ram other n (64 * p + l)) n ∙ passed ram other (count + rest) (64 * p + l) e ∙ ap (differing_word ram other (count + rest)) k ∙ h
+      let k : 32 * p + l + 1 ≡ 32 * p + (l + 1) = omega arith in
+      ap (λ n. differing_word ram other n (32 * p + l)) n ∙ passed ram other (count + rest) (32 * p + l) e ∙ ap (differing_word ram other (count + rest)) k ∙ h
 
-  found_there : word_of ram (64 * p + l) ≢ word_of other (64 * p + l) → differing_word ram other (suc count + rest) (64 * p + l) ≡ Some (64 * p + l)
+  found_there : word_of ram (32 * p + l) ≢ word_of other (32 * p + l) → differing_word ram other (suc count + rest) (32 * p + l) ≡ Some (32 * p + l)
   found_there e =
       let n : suc count + rest ≡ suc (count + rest) = omega arith in
-      ap (λ n. differing_word ram other n (64 * p + l)) n ∙ stopped ram other (count + rest) (64 * p + l) e
+      ap (λ n. differing_word ram other n (32 * p + l)) n ∙ stopped ram other (count + rest) (32 * p + l) e
 
-continues : (ram other : List ℕ) (p rest count l : ℕ) → l + count ≡ 64 → Continues ram other p rest count l (differing_word (part_of 256 ram p) (part_of 256 other p) count l)
+continues : (ram other : List ℕ) (p rest count l : ℕ) → l + count ≡ 32 → Continues ram other p rest count l (differing_word (part_of 128 ram p) (part_of 128 other p) count l)
 continues ram other p rest zero l e =
-    let whole : 64 * p + l ≡ 64 * p + 64 = omega arith in
+    let whole : 32 * p + l ≡ 32 * p + 32 = omega arith in
     let n : 0 + rest ≡ rest = omega arith in
-    subst (Continues ram other p rest 0 l) (sym (none_left (part_of 256 ram p) (part_of 256 other p) l)) (ap₂ (differing_word ram other) n whole)
+    subst (Continues ram other p rest 0 l) (sym (none_left (part_of 128 ram p) (part_of 128 other p) l)) (ap₂ (differing_word ram other) n whole)
 continues ram other p rest (suc count) l e =
-    let own = word_read 256 ram p (64 * p + l) l (omega arith) (omega arith) in
-    let others = word_read 256 other p (64 * p + l) l (omega arith) (omega arith) in
-    elim (cases_eq (word_of (part_of 256 ram p) l) (word_of (part_of 256 other p) l)) [
+    let own = word_read 128 ram p (32 * p + l) l (omega arith) (omega arith) in
+    let others = word_read 128 other p (32 * p + l) l (omega arith) (omega arith) in
+    elim (cases_eq (word_of (part_of 128 ram p) l) (word_of (part_of 128 other p) l)) [
       | inl same ↦
-          subst (Continues ram other p rest (suc count) l) (sym (passed (part_of 256 ram p) (part_of 256 other p) count l same))
+          subst (Continues ram other p rest (suc count) l) (sym (passed (part_of 128 ram p) (part_of 128 other p) count l same))
           (one_more ram other p rest count l _ (sym own ∙ same ∙ others) (continues ram other p rest count (l + 1) (omega arith)))
       | inr differs ↦
-          subst (Continues ram other p rest (suc count) l) (sym (stopped (part_of 256 ram p) (part_of 256 other p) count l differs))
+          subst (Continues ram other p rest (suc count) l) (sym (stopped (part_of 128 ram p) (part_of 128 other p) count l differs))
           (found_there ram other p rest count l (λ h. differs (own ∙ h ∙ sym others)))
     ]
 
 -- with the addresses of the words
 joined : (ram other : List ℕ) (p rest count l from limit : ℕ) (r : Option ℕ)
-    → differing_word ram other (limit / 4 - from / 4) (from / 4) ≡ differing_word ram other (count + rest) (64 * p + l)
+    → differing_word ram other (limit / 4 - from / 4) (from / 4) ≡ differing_word ram other (count + rest) (32 * p + l)
     → Continues ram other p rest count l r
-    → p ≡ from / 256 → rest ≡ limit / 4 - (from / 256 * 256 + 256) / 4
-    → MatchOption (option_map (λ k. 4 * k) r) (next_difference limit ram other from ≡ next_difference limit ram other (from / 256 * 256 + 256))
-    (λ at. next_difference limit ram other from ≡ Some (from / 256 * 256 + at))
+    → p ≡ from / 128 → rest ≡ limit / 4 - (from / 128 * 128 + 128) / 4
+    → MatchOption (option_map (λ k. 4 * k) r) (next_difference limit ram other from ≡ next_difference limit ram other (from / 128 * 128 + 128))
+    (λ at. next_difference limit ram other from ≡ Some (from / 128 * 128 + at))
 joined ram other p rest count l from limit None all h block left =
-    let next : 64 * p + 64 ≡ (from / 256 * 256 + 256) / 4 = omega arith in
+    let next : 32 * p + 32 ≡ (from / 128 * 128 + 128) / 4 = omega arith in
     ap (option_map (λ k. 4 * k)) (all ∙ h ∙ ap₂ (differing_word ram other) left next)
 joined ram other p rest count l from limit (Some w) all h block left =
-    let address : 4 * (64 * p + w) ≡ from / 256 * 256 + 4 * w = omega arith in
+    let address : 4 * (32 * p + w) ≡ from / 128 * 128 + 4 * w = omega arith in
     ap (option_map (λ k. 4 * k)) (all ∙ h) ∙ ap Some address
 
 -- what is found in the block of an address, and what follows where nothing is found
-pub in_block : (ram other : List ℕ) (limit from : ℕ) (r : Option ℕ) → limit % 256 ≡ 0 → from < limit → from % 4 ≡ 0
-    → r ≡ next_difference 256 (part_of 256 ram (from / 256)) (part_of 256 other (from / 256)) (from % 256)
-    → MatchOption r (next_difference limit ram other from ≡ next_difference limit ram other (from / 256 * 256 + 256))
-    (λ at. next_difference limit ram other from ≡ Some (from / 256 * 256 + at))
+pub in_block : (ram other : List ℕ) (limit from : ℕ) (r : Option ℕ) → limit % 128 ≡ 0 → from < limit → from % 4 ≡ 0
+    → r ≡ next_difference 128 (part_of 128 ram (from / 128)) (part_of 128 other (from / 128)) (from % 128)
+    → MatchOption r (next_difference limit ram other from ≡ next_difference limit ram other (from / 128 * 128 + 128))
+    (λ at. next_difference limit ram other from ≡ Some (from / 128 * 128 + at))
 in_block ram other limit from r whole below aligned e =
-    let p = from / 256 in
-    let l = from % 256 / 4 in
-    let count = 256 / 4 - from % 256 / 4 in
-    let rest = limit / 4 - (from / 256 * 256 + 256) / 4 in
+    let p = from / 128 in
+    let l = from % 128 / 4 in
+    let count = 128 / 4 - from % 128 / 4 in
+    let rest = limit / 4 - (from / 128 * 128 + 128) / 4 in
     let h = continues ram other p rest count l (omega arith) in
     let n : limit / 4 - from / 4 ≡ count + rest = omega arith in
-    let k : from / 4 ≡ 64 * p + l = omega arith in
-    let all : differing_word ram other (limit / 4 - from / 4) (from / 4) ≡ differing_word ram other (count + rest) (64 * p + l) = ap₂ (differing_word ram other) n k in
-    subst (λ r. MatchOption r (next_difference limit ram other from ≡ next_difference limit ram other (from / 256 * 256 + 256))
-    (λ at. next_difference limit ram other from ≡ Some (from / 256 * 256 + at))) (sym e)
-    (joined ram other p rest count l from limit (differing_word (part_of 256 ram p) (part_of 256 other p) count l) all h refl refl)
+    let k : from / 4 ≡ 32 * p + l = omega arith in
+    let all : differing_word ram other (limit / 4 - from / 4) (from / 4) ≡ differing_word ram other (count + rest) (32 * p + l) = ap₂ (differing_word ram other) n k in
+    subst (λ r. MatchOption r (next_difference limit ram other from ≡ next_difference limit ram other (from / 128 * 128 + 128))
+    (λ at. next_difference limit ram other from ≡ Some (from / 128 * 128 + at))) (sym e)
+    (joined ram other p rest count l from limit (differing_word (part_of 128 ram p) (part_of 128 other p) count l) all h refl refl)
 
 -- ---- what is found is the least
 

@@ -1,9 +1,9 @@
 pub mod Numbers
 pub mod ByteLemmas
-pub mod Handles
 pub mod Sizes
 pub mod OnePart
 pub mod AllBytes
+pub mod Handles
 pub mod BlockLemmas
 pub mod PageLemmas
 pub mod Difference

@@ -13,7 +13,7 @@ pub record IsSize (size : ℕ) : Type 0 where
   pub below : (n a : ℕ) → a < size * n → a / size < n
 
 -- that of a block
-pub of_block : IsSize 256
+pub of_block : IsSize 128
 of_block = record {
   eighth = omega arith;
   start = λ p. omega arith;
@@ -25,9 +25,9 @@ of_block = record {
   below = λ n a below. omega arith;
 }
 
--- that of a page
-pub of_page : IsSize 4096
-of_page = record {
+-- that of a half of a page
+pub of_half : IsSize 2048
+of_half = record {
   eighth = omega arith;
   start = λ p. omega arith;
   next = λ p n below. omega arith;

@@ -1,10 +1,11 @@
--- RAM in pages and pages in blocks: lists of bytes in parts of equal size, behind their handles.
+-- RAM in pages, pages in halves, and halves in blocks: lists of bytes in parts of equal size, behind their handles.
 use Rattle.std.specs.Prelude.{◌≡◌, ℕ, ◌+◌, ◌*◌, ◌/◌, ◌%◌, ◌<◌, List, [], ◌++◌, map, take, drop, slice_index, slice_index_or}
 use Rattle.std.specs.List.{range_with_len}
 use Rattle.std.specs.declared.rc.Rc.{Rc}
 use Rattle.std.specs.declared.alloc.Global.{Global}
 use Rattle.sv8_phys.specs.declared.block.Block.{Block}
-use Rattle.sv8_phys.specs.declared.blocks.Blocks.{Blocks}
+use Rattle.sv8_phys.specs.declared.half_page.HalfPage.{HalfPage}
+use Rattle.sv8_phys.specs.declared.halves.Halves.{Halves}
 use Rattle.sv8_phys.specs.declared.size.Size.{Size}
 use Rattle.sv8_phys.specs.Memory.{ram_size, with_value, with_page}
 
@@ -28,28 +29,32 @@ with_part size bytes p part = take (size * p) bytes ++ part ++ drop (size * p + 
 abbrev pub blocks_of : List (Rc Block Global) → List (List ℕ)
 blocks_of handles = map (λ h. h.value.bytes) handles
 
+-- the bytes of a half of a page
+abbrev pub half_bytes : HalfPage → List ℕ
+half_bytes half = all_bytes 128 16 (blocks_of half.blocks)
+
+-- the bytes of each half
+abbrev pub halves_of : List (Rc HalfPage Global) → List (List ℕ)
+halves_of handles = map (λ h. half_bytes h.value) handles
+
 -- the bytes of a page
-abbrev pub page_bytes : Blocks → List ℕ
-page_bytes page = all_bytes 256 16 (blocks_of page.blocks)
+abbrev pub page_bytes : Halves → List ℕ
+page_bytes page = all_bytes 2048 2 (halves_of page.halves)
 
--- the bytes of each page
-abbrev pub pages_of : List (Rc Blocks Global) → List (List ℕ)
-pages_of handles = map (λ h. page_bytes h.value) handles
+-- the bytes of so many pages of RAM, of which those behind the last handle of a half are of zeros
+abbrev pub ram_bytes : ℕ → List (Rc HalfPage Global) → List ℕ
+ram_bytes pages handles = all_bytes 2048 (2 * pages) (halves_of handles)
 
--- the bytes of so many pages of RAM, of which those behind the last handle are of zeros
-abbrev pub ram_bytes : ℕ → List (Rc Blocks Global) → List ℕ
-ram_bytes pages handles = all_bytes 4096 pages (pages_of handles)
-
--- ---- what becomes of the handles of pages, for however many pages there are
+-- ---- what becomes of the handles of halves, for however many pages there are
 
 -- RAM has the bytes that it had
-abbrev pub IsSame : List (Rc Blocks Global) → List (Rc Blocks Global) → Type 0
+abbrev pub IsSame : List (Rc HalfPage Global) → List (Rc HalfPage Global) → Type 0
 IsSame old new = (pages : ℕ) → ram_bytes pages new ≡ ram_bytes pages old
 
 -- the low bytes of a number are written at an address
-abbrev pub IsWritten : Size → ℕ → ℕ → List (Rc Blocks Global) → List (Rc Blocks Global) → Type 0
+abbrev pub IsWritten : Size → ℕ → ℕ → List (Rc HalfPage Global) → List (Rc HalfPage Global) → Type 0
 IsWritten size at value old new = (pages : ℕ) → at < ram_size pages → ram_bytes pages new ≡ with_value size at value (ram_bytes pages old)
 
 -- a page is put in the place of another one
-abbrev pub IsPut : ℕ → Blocks → List (Rc Blocks Global) → List (Rc Blocks Global) → Type 0
-IsPut page blocks old new = (pages : ℕ) → page < pages → ram_bytes pages new ≡ with_page (ram_bytes pages old) page (page_bytes blocks)
+abbrev pub IsPut : ℕ → Halves → List (Rc HalfPage Global) → List (Rc HalfPage Global) → Type 0
+IsPut page halves old new = (pages : ℕ) → page < pages → ram_bytes pages new ≡ with_page (ram_bytes pages old) page (page_bytes halves)

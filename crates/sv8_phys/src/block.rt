@@ -12,20 +12,20 @@ use std::alloc::AllocError;
 use std::rc::Rc;
 
 /// How many bytes a block has.
-pub(crate) const BLOCK_SIZE: usize = 256;
+pub(crate) const BLOCK_SIZE: usize = 128;
 
 /// The bytes of a block.
 #[derive(Clone, Copy)]
 pub(crate) struct Block {
     pub(crate) bytes: [u8; BLOCK_SIZE],
-    ghost full: { length bytes ≡ 256 },
+    ghost full: { length bytes ≡ 128 },
     ghost fit: { are_bytes bytes ≡ true },
 }
 
 impl Block {
     /// A block of zeros.
     pub(crate) fn zero() -> Block
-        ensures { result.bytes ≡ replicate 256 0 }
+        ensures { result.bytes ≡ replicate 128 0 }
     {
         Block {
             bytes: [0; BLOCK_SIZE],
@@ -35,7 +35,7 @@ impl Block {
     /// The word at a place in the block.
     #[inline(always)]
     pub(crate) fn word(&self, at: usize) -> u32
-        requires within { at < 256 }
+        requires within { at < 128 }
         requires aligned { at % 4 ≡ 0 }
         ensures { result ≡ word_of self.now.bytes (at / 4) }
     {
@@ -45,7 +45,7 @@ impl Block {
     /// Writes the word at a place in the block.
     #[inline(always)]
     fn set_word(&mut self, at: usize, value: u32)
-        requires within { at < 256 }
+        requires within { at < 128 }
         requires aligned { at % 4 ≡ 0 }
         ensures { self.new.bytes ≡ with_word self.old.bytes (at / 4) value }
     {
@@ -61,10 +61,10 @@ impl Block {
 
     /// The place of the first word, from a place on, that is another one in a second block.
     pub(crate) fn next_difference(&self, other: &Block, from: usize) -> Option<usize>
-        requires within { from < 256 }
+        requires within { from < 128 }
         requires aligned { from % 4 ≡ 0 }
-        ensures value { result ≡ next_difference 256 self.now.bytes other.now.bytes from }
-        ensures inside { IfSome result (λ at. at < 256) }
+        ensures value { result ≡ next_difference 128 self.now.bytes other.now.bytes from }
+        ensures inside { IfSome result (λ at. at < 128) }
     {
         let mut at = from;
         while at < BLOCK_SIZE {
@@ -79,7 +79,7 @@ impl Block {
     /// The number at a place in the block.
     #[inline(always)]
     pub(crate) fn read(&self, at: usize, size: Size) -> u64
-        requires within { at < 256 }
+        requires within { at < 128 }
         requires aligned { at % bytes_in size ≡ 0 }
         ensures value { result ≡ value_at size at self.now.bytes }
         ensures fits { result < 256 ^ bytes_in size }
@@ -95,7 +95,7 @@ impl Block {
     /// Writes the low bytes of a number at a place in the block.
     #[inline(always)]
     pub(crate) fn write(&mut self, at: usize, size: Size, value: u64)
-        requires within { at < 256 }
+        requires within { at < 128 }
         requires aligned { at % bytes_in size ≡ 0 }
         ensures { self.new.bytes ≡ with_value size at value self.old.bytes }
     {
@@ -111,7 +111,7 @@ impl Block {
 /// Writes the low bytes of a number at a place in a block, unless the block is shared.
 #[inline(always)]
 pub(crate) fn write_unshared(block: &mut Rc<Block>, at: usize, size: Size, value: u64) -> bool
-    requires within { at < 256 }
+    requires within { at < 128 }
     requires aligned { at % bytes_in size ≡ 0 }
     ensures { MatchBool result (block.new.value.bytes ≡ with_value size at value block.old.value.bytes) (block.new.value ≡ block.old.value) }
 {
@@ -131,7 +131,7 @@ pub(crate) fn write_copying(
     size: Size,
     value: u64,
 ) -> Result<(), AllocError>
-    requires within { at < 256 }
+    requires within { at < 128 }
     requires aligned { at % bytes_in size ≡ 0 }
     ensures ok { OnOk result (block.new.value.bytes ≡ with_value size at value block.old.value.bytes) }
     ensures err { OnErr result (block.new.value ≡ block.old.value) }

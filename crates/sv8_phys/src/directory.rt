@@ -1,34 +1,34 @@
-//! The directory of RAM: the handles of its pages, which a snapshot shares as one.
+//! The directory of RAM: the handles of the halves of its pages, which a snapshot shares as one.
 
-ghost use Rattle.std.specs.Prelude.{◌≡◌, ◌%◌, OnOk, OnErr, MatchBool};
+ghost use Rattle.std.specs.Prelude.{◌≡◌, ◌<◌, ◌%◌, OnOk, OnErr, MatchBool};
 ghost use Rattle.sv8_phys.specs.Memory.{bytes_in};
 ghost use Rattle.sv8_phys.specs.Parts.{IsPut, IsSame, IsWritten};
 
-use crate::blocks::Blocks;
-use crate::page::{self, PAGE_SIZE};
+use crate::half_page::{HALF_SIZE, HalfPage};
+use crate::halves::Halves;
 use crate::size::Size;
 use crate::zeros::Zeros;
 use std::alloc::{AllocError, Global};
 use std::rc::Rc;
 
-/// The pages of RAM from address 0 on, up to the last one that was written. Each may be shared with other directories until
-/// it is written. All pages behind them are of zeros.
+/// The halves of the pages of RAM from address 0 on, up to the last one that was written. Each may be shared with other
+/// directories until it is written. All halves behind them are of zeros.
 ///
 /// So a copy of the directory costs no more than the part of RAM that a program needs.
 #[derive(Drop)]
 pub(crate) struct Directory {
-    pub(crate) pages: Vec<Rc<Blocks>>,
+    pub(crate) halves: Vec<Rc<HalfPage>>,
 }
 
 impl Clone for Directory {
     ghost use Rattle.std.specs.Prelude.{◌≡◌};
-    ghost use Rattle.sv8_phys.specs.Parts.{pages_of};
+    ghost use Rattle.sv8_phys.specs.Parts.{halves_of};
 
-    ghost is_clone = { λ directory copy. pages_of copy.pages.items ≡ pages_of directory.pages.items };
+    ghost is_clone = { λ directory copy. halves_of copy.halves.items ≡ halves_of directory.halves.items };
 
     fn clone(&self) -> Result<Directory, AllocError> {
-        let pages = self.pages.clone()?;
-        Ok(Directory { pages })
+        let halves = self.halves.clone()?;
+        Ok(Directory { halves })
     }
 }
 
@@ -39,40 +39,40 @@ impl Directory {
 
     /// Of RAM that is all zeros. It takes no memory.
     pub(crate) fn new(alloc: Global) -> Directory
-        ensures { result.pages.items ≡ [] }
+        ensures { result.halves.items ≡ [] }
     {
         Directory {
-            pages: Vec::new(alloc),
+            halves: Vec::new(alloc),
         }
     }
 
-    /// Makes places for the pages up to one.
-    fn reach(&mut self, zeros: &Zeros, page: usize) -> Result<(), AllocError>
-        ensures same { IsSame self.old.pages.items self.new.pages.items }
-        ensures reached { OnOk result (page < length self.new.pages.items) }
+    /// Makes places for the halves up to one.
+    fn reach(&mut self, zeros: &Zeros, half: usize) -> Result<(), AllocError>
+        ensures same { IsSame self.old.halves.items self.new.halves.items }
+        ensures reached { OnOk result (half < length self.new.halves.items) }
     {
-        while self.pages.len() <= page {
-            let zero = zeros.page(self.pages.len()).clone()?;
-            self.pages.push(zero)?;
+        while self.halves.len() <= half {
+            let zero = zeros.half(self.halves.len()).clone()?;
+            self.halves.push(zero)?;
         }
         Ok(())
     }
 
-    /// Writes the low bytes of a number at an address, unless its page is one of those behind, or it or its block is shared.
+    /// Writes the low bytes of a number at an address, unless its half is one of those behind, or it or its block is shared.
     #[inline(always)]
     fn write_unshared(&mut self, at: usize, size: Size, value: u64) -> bool
         requires { at % bytes_in size ≡ 0 }
-        ensures { MatchBool result (IsWritten size at value self.old.pages.items self.new.pages.items) (IsSame self.old.pages.items self.new.pages.items) }
+        ensures { MatchBool result (IsWritten size at value self.old.halves.items self.new.halves.items) (IsSame self.old.halves.items self.new.halves.items) }
     {
-        let page = at / PAGE_SIZE;
-        if page >= self.pages.len() {
+        let half = at / HALF_SIZE;
+        if half >= self.halves.len() {
             return false;
         }
-        let handle = &mut self.pages[page];
-        page::write_unshared(handle, at % PAGE_SIZE, size, value)
+        let handle = &mut self.halves[half];
+        HalfPage::write_unshared(handle, at % HALF_SIZE, size, value)
     }
 
-    /// Writes the low bytes of a number at an address; what is shared of its page and its block is copied first.
+    /// Writes the low bytes of a number at an address; what is shared of its half and its block is copied first.
     fn write_copying(
         &mut self,
         zeros: &Zeros,
@@ -81,34 +81,38 @@ impl Directory {
         value: u64,
     ) -> Result<(), AllocError>
         requires { at % bytes_in size ≡ 0 }
-        ensures ok { OnOk result (IsWritten size at value self.old.pages.items self.new.pages.items) }
-        ensures err { OnErr result (IsSame self.old.pages.items self.new.pages.items) }
+        ensures ok { OnOk result (IsWritten size at value self.old.halves.items self.new.halves.items) }
+        ensures err { OnErr result (IsSame self.old.halves.items self.new.halves.items) }
     {
-        let page = at / PAGE_SIZE;
-        self.reach(zeros, page)?;
-        let handle = &mut self.pages[page];
-        page::write_copying(handle, at % PAGE_SIZE, size, value)?;
+        let half = at / HALF_SIZE;
+        self.reach(zeros, half)?;
+        let handle = &mut self.halves[half];
+        HalfPage::write_copying(handle, at % HALF_SIZE, size, value)?;
         Ok(())
     }
 
     /// Puts a page in the place of another one.
-    fn put(&mut self, zeros: &Zeros, page: usize, blocks: Rc<Blocks>) -> Result<(), AllocError>
-        ensures ok { OnOk result (IsPut page blocks.value self.old.pages.items self.new.pages.items) }
-        ensures err { OnErr result (IsSame self.old.pages.items self.new.pages.items) }
+    fn put(&mut self, zeros: &Zeros, page: usize, halves: &Halves) -> Result<(), AllocError>
+        requires { page < 65536 }
+        ensures ok { OnOk result (IsPut page halves.now self.old.halves.items self.new.halves.items) }
+        ensures err { OnErr result (IsSame self.old.halves.items self.new.halves.items) }
     {
-        self.reach(zeros, page)?;
-        self.pages[page] = blocks;
+        let low = halves.half(0).clone()?;
+        let high = halves.half(1).clone()?;
+        self.reach(zeros, 2 * page + 1)?;
+        self.halves[2 * page] = low;
+        self.halves[2 * page + 1] = high;
         Ok(())
     }
 }
 
-/// Writes the low bytes of a number at an address, unless its page is one of those behind, or the directory, the page or its
+/// Writes the low bytes of a number at an address, unless its half is one of those behind, or the directory, the half or its
 /// block is shared.
 #[inline(always)]
 fn write_unshared(directory: &mut Rc<Directory>, at: usize, size: Size, value: u64) -> bool
     requires { at % bytes_in size ≡ 0 }
-    ensures { MatchBool result (IsWritten size at value directory.old.value.pages.items directory.new.value.pages.items)
-        (IsSame directory.old.value.pages.items directory.new.value.pages.items) }
+    ensures { MatchBool result (IsWritten size at value directory.old.value.halves.items directory.new.value.halves.items)
+        (IsSame directory.old.value.halves.items directory.new.value.halves.items) }
 {
     match Rc::get_mut(directory) {
         Some(owned) => owned.write_unshared(at, size, value),
@@ -116,7 +120,7 @@ fn write_unshared(directory: &mut Rc<Directory>, at: usize, size: Size, value: u
     }
 }
 
-/// Writes the low bytes of a number at an address; what is shared of directory, page and block is copied first. What it needs
+/// Writes the low bytes of a number at an address; what is shared of directory, half and block is copied first. What it needs
 /// of the stack stays out of the way of a write that copies nothing.
 #[cold]
 #[inline(never)]
@@ -128,8 +132,8 @@ fn write_copying(
     value: u64,
 ) -> Result<(), AllocError>
     requires { at % bytes_in size ≡ 0 }
-    ensures ok { OnOk result (IsWritten size at value directory.old.value.pages.items directory.new.value.pages.items) }
-    ensures err { OnErr result (IsSame directory.old.value.pages.items directory.new.value.pages.items) }
+    ensures ok { OnOk result (IsWritten size at value directory.old.value.halves.items directory.new.value.halves.items) }
+    ensures err { OnErr result (IsSame directory.old.value.halves.items directory.new.value.halves.items) }
 {
     let owned = Rc::make_mut(directory)?;
     owned.write_copying(zeros, at, size, value)?;
@@ -147,8 +151,8 @@ pub(crate) fn write(
     value: u64,
 ) -> Result<(), AllocError>
     requires { at % bytes_in size ≡ 0 }
-    ensures ok { OnOk result (IsWritten size at value directory.old.value.pages.items directory.new.value.pages.items) }
-    ensures err { OnErr result (IsSame directory.old.value.pages.items directory.new.value.pages.items) }
+    ensures ok { OnOk result (IsWritten size at value directory.old.value.halves.items directory.new.value.halves.items) }
+    ensures err { OnErr result (IsSame directory.old.value.halves.items directory.new.value.halves.items) }
 {
     if write_unshared(directory, at, size, value) {
         return Ok(());
@@ -162,12 +166,13 @@ pub(crate) fn put_page(
     directory: &mut Rc<Directory>,
     zeros: &Zeros,
     page: usize,
-    blocks: Rc<Blocks>,
+    halves: &Halves,
 ) -> Result<(), AllocError>
-    ensures ok { OnOk result (IsPut page blocks.value directory.old.value.pages.items directory.new.value.pages.items) }
-    ensures err { OnErr result (IsSame directory.old.value.pages.items directory.new.value.pages.items) }
+    requires { page < 65536 }
+    ensures ok { OnOk result (IsPut page halves.now directory.old.value.halves.items directory.new.value.halves.items) }
+    ensures err { OnErr result (IsSame directory.old.value.halves.items directory.new.value.halves.items) }
 {
     let owned = Rc::make_mut(directory)?;
-    owned.put(zeros, page, blocks)?;
+    owned.put(zeros, page, halves)?;
     Ok(())
 }

@@ -2,10 +2,11 @@
 #![tactic(auto)]
 
 mod block;
-mod blocks;
 mod chunk;
 mod directory;
 mod fault;
+mod half_page;
+mod halves;
 pub mod laws;
 mod levels;
 mod output;

@@ -1,55 +1,23 @@
 //! A page of RAM.
 
-ghost use Rattle.std.specs.Prelude.{◌≡◌, ◌<◌, ◌%◌, ◌/◌, length, true, slice_index_or, slice_set, IfOk, OnOk, OnErr, MatchBool};
+ghost use Rattle.std.specs.Prelude.{◌≡◌, ◌%◌, ◌/◌, length, true, slice_index_or, slice_set, IfOk, OnOk, OnErr, MatchBool};
 ghost use Rattle.sv8_model.specs.Outside.{word_of, with_word};
 ghost use Rattle.sv8_phys.specs.Bytes.{are_bytes};
-ghost use Rattle.sv8_phys.specs.Memory.{bytes_in, with_value};
 ghost use Rattle.sv8_phys.specs.Parts.{page_bytes};
 
 use crate::block::BLOCK_SIZE;
-use crate::blocks::Blocks;
+use crate::halves::Halves;
 use crate::size::Size;
 use std::alloc::AllocError;
 use std::marker::Model;
-use std::rc::Rc;
 
 /// How many bytes a page has.
 pub(crate) const PAGE_SIZE: usize = 4096;
 
-/// Writes the low bytes of a number at a place in a page, unless the page or its block is shared.
-#[inline(always)]
-pub(crate) fn write_unshared(page: &mut Rc<Blocks>, at: usize, size: Size, value: u64) -> bool
-    requires within { at < 4096 }
-    requires aligned { at % bytes_in size ≡ 0 }
-    ensures { MatchBool result (page_bytes page.new.value ≡ with_value size at value (page_bytes page.old.value)) (page_bytes page.new.value ≡ page_bytes page.old.value) }
-{
-    match Rc::get_mut(page) {
-        Some(owned) => owned.write_unshared(at, size, value),
-        None => false,
-    }
-}
-
-/// Writes the low bytes of a number at a place in a page; what is shared of the page and of its block is copied first.
-pub(crate) fn write_copying(
-    page: &mut Rc<Blocks>,
-    at: usize,
-    size: Size,
-    value: u64,
-) -> Result<(), AllocError>
-    requires within { at < 4096 }
-    requires aligned { at % bytes_in size ≡ 0 }
-    ensures ok { OnOk result (page_bytes page.new.value ≡ with_value size at value (page_bytes page.old.value)) }
-    ensures err { OnErr result (page_bytes page.new.value ≡ page_bytes page.old.value) }
-{
-    let owned = Rc::make_mut(page)?;
-    owned.write_copying(at, size, value)?;
-    Ok(())
-}
-
 /// A page of 4,096 bytes of RAM, which may be shared with memories and other pages until it is written.
 #[derive(Drop)]
 pub struct Page {
-    blocks: Rc<Blocks>,
+    halves: Halves,
 }
 
 impl Model for Page {
@@ -58,22 +26,22 @@ impl Model for Page {
 
     ghost Value = { List ℕ };
 
-    ghost view = { λ p. page_bytes p.blocks.value };
+    ghost view = { λ p. page_bytes p.halves };
 }
 
 impl Page {
-    /// The page that has these blocks.
-    pub(crate) fn from_blocks(blocks: Rc<Blocks>) -> Page
-        ensures { result ≡ page_bytes blocks.value }
+    /// The page that has these halves.
+    pub(crate) fn from_halves(halves: Halves) -> Page
+        ensures { result ≡ page_bytes halves }
     {
-        Page { blocks }
+        Page { halves }
     }
 
-    /// The blocks of the page.
-    pub(crate) fn into_blocks(self) -> Rc<Blocks>
-        ensures { page_bytes result.value ≡ self }
+    /// The halves of the page.
+    pub(crate) fn halves(&self) -> &Halves
+        ensures { page_bytes result.now ≡ self.now }
     {
-        self.blocks
+        &self.halves
     }
 
     /// The same page, shared once more.
@@ -84,8 +52,8 @@ impl Page {
     pub fn share(&self) -> Result<Page, AllocError>
         ensures { IfOk result (λ p. p ≡ self.now) }
     {
-        let blocks = self.blocks.clone()?;
-        Ok(Page { blocks })
+        let halves = self.halves.clone()?;
+        Ok(Page { halves })
     }
 
     /// The word at a physical address in the page.
@@ -96,7 +64,7 @@ impl Page {
         ensures bytes { are_bytes self.now ≡ true }
     {
         let at = pa as usize % PAGE_SIZE;
-        self.blocks.block(at).word(at % BLOCK_SIZE)
+        self.halves.block(at).word(at % BLOCK_SIZE)
     }
 
     /// Writes the word at a physical address in the page; what is shared of it is copied first.
@@ -106,7 +74,7 @@ impl Page {
         ensures err { OnErr result (self.new ≡ self.old) }
     {
         let at = pa as usize % PAGE_SIZE;
-        write_copying(&mut self.blocks, at, Size::Word, u64::from(value))?;
+        self.halves.write_copying(at, Size::Word, u64::from(value))?;
         Ok(())
     }
 
@@ -115,7 +83,7 @@ impl Page {
         ensures { result ≡ slice_index_or self.now (pa % 4096) 0 }
     {
         let at = pa as usize % PAGE_SIZE;
-        self.blocks.block(at).bytes[at % BLOCK_SIZE]
+        self.halves.block(at).bytes[at % BLOCK_SIZE]
     }
 
     /// Writes the byte at a physical address in the page; what is shared of it is copied first.
@@ -128,7 +96,7 @@ impl Page {
         ensures err { OnErr result (self.new ≡ self.old) }
     {
         let at = pa as usize % PAGE_SIZE;
-        write_copying(&mut self.blocks, at, Size::Byte, u64::from(value))?;
+        self.halves.write_copying(at, Size::Byte, u64::from(value))?;
         Ok(())
     }
 
@@ -136,6 +104,6 @@ impl Page {
     pub fn is_same(&self, other: &Page) -> bool
         ensures { MatchBool result (self.now ≡ other.now) (self.now ≡ other.now → ⊥) }
     {
-        self.blocks.is_same(&other.blocks)
+        self.halves.is_same(&other.halves)
     }
 }

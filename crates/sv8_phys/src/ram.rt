@@ -3,11 +3,12 @@
 ghost use Rattle.std.specs.Prelude.{◌≡◌, ℕ, ◌+◌, ◌*◌, ◌≤◌, ◌<◌, ◌/◌, ◌%◌, ◌^◌, Some, length, replicate, slice_index_or, IfOk, IfSome, MatchOption, OnOk, OnErr};
 ghost use Rattle.sv8_phys.specs.Differences.{next_difference};
 ghost use Rattle.sv8_phys.specs.Memory.{bytes_in, ram_size, value_at, with_value, page_of, with_page};
-ghost use Rattle.sv8_phys.specs.Parts.{page_bytes, part_of};
+ghost use Rattle.sv8_phys.specs.Parts.{half_bytes, part_of};
 
 use crate::block::{BLOCK_SIZE, Block};
-use crate::blocks::Blocks;
 use crate::directory::{Directory, put_page, write};
+use crate::half_page::{HALF_SIZE, HalfPage};
+use crate::halves::Halves;
 use crate::page::{PAGE_SIZE, Page};
 use crate::size::Size;
 use crate::zeros::Zeros;
@@ -15,7 +16,7 @@ use std::alloc::{AllocError, Global};
 use std::marker::Model;
 use std::rc::Rc;
 
-/// `PAGES` pages of RAM from address 0 on. The directory may be shared with snapshots, and so may each page and each block.
+/// `PAGES` pages of RAM from address 0 on. The directory may be shared with snapshots, and so may each half of a page and each block.
 #[derive(Drop)]
 pub(crate) struct Ram<const PAGES: usize> {
     directory: Rc<Directory>,
@@ -28,7 +29,7 @@ impl<const PAGES: usize> Model for Ram<PAGES> {
 
     ghost Value = { List ℕ };
 
-    ghost view = { λ m. ram_bytes PAGES m.directory.value.pages.items };
+    ghost view = { λ m. ram_bytes PAGES m.directory.value.halves.items };
 
     ghost invariant = { λ m. PAGES ≤ 65536 };
 }
@@ -56,16 +57,16 @@ impl<const PAGES: usize> Ram<PAGES> {
         PAGES * PAGE_SIZE
     }
 
-    /// The handle of a page, or of one of the pages of zeros where it was never written.
+    /// The handle of a half of a page, or of one of the halves of zeros where it was never written.
     #[inline(always)]
-    fn handle(&self, page: usize) -> &Rc<Blocks>
-        requires { page < PAGES }
-        ensures { page_bytes result.now.value ≡ page_of self.now page }
+    fn handle(&self, half: usize) -> &Rc<HalfPage>
+        requires { half < 2 * PAGES }
+        ensures { half_bytes result.now.value ≡ part_of 2048 self.now half }
     {
-        if page < self.directory.pages.len() {
-            &self.directory.pages[page]
+        if half < self.directory.halves.len() {
+            &self.directory.halves[half]
         } else {
-            self.zeros.page(page)
+            self.zeros.half(half)
         }
     }
 
@@ -73,9 +74,9 @@ impl<const PAGES: usize> Ram<PAGES> {
     #[inline(always)]
     fn block(&self, at: usize) -> &Block
         requires { at < ram_size PAGES }
-        ensures { result.now.bytes ≡ part_of 256 self.now (at / 256) }
+        ensures { result.now.bytes ≡ part_of 128 self.now (at / 128) }
     {
-        self.handle(at / PAGE_SIZE).block(at % PAGE_SIZE)
+        self.handle(at / HALF_SIZE).block(at % HALF_SIZE)
     }
 
     /// The number at an address.
@@ -115,8 +116,10 @@ impl<const PAGES: usize> Ram<PAGES> {
         requires { at < ram_size PAGES }
         ensures { IfOk result (λ p. p ≡ page_of self.now (at / 4096)) }
     {
-        let blocks = self.handle(at / PAGE_SIZE).clone()?;
-        Ok(Page::from_blocks(blocks))
+        let first = 2 * (at / PAGE_SIZE);
+        let low = self.handle(first).clone()?;
+        let high = self.handle(first + 1).clone()?;
+        Ok(Page::from_halves(Halves::new(low, high)))
     }
 
     /// Puts a page in the place of that of an address; a directory that is shared is copied first.
@@ -129,7 +132,7 @@ impl<const PAGES: usize> Ram<PAGES> {
             &mut self.directory,
             &self.zeros,
             at / PAGE_SIZE,
-            page.into_blocks(),
+            page.halves(),
         )?;
         Ok(())
     }
@@ -139,7 +142,7 @@ impl<const PAGES: usize> Ram<PAGES> {
         requires within { from < ram_size PAGES }
         requires aligned { from % 4 ≡ 0 }
         ensures { MatchOption result
-            (next_difference (ram_size PAGES) self.now other.now from ≡ next_difference (ram_size PAGES) self.now other.now (from / 256 * 256 + 256))
+            (next_difference (ram_size PAGES) self.now other.now from ≡ next_difference (ram_size PAGES) self.now other.now (from / 128 * 128 + 128))
             (λ at. next_difference (ram_size PAGES) self.now other.now from ≡ Some at) }
     {
         let block = self.block(from);

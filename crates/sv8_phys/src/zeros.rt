@@ -1,43 +1,43 @@
-//! Pages of zeros.
+//! Halves of pages of zeros.
 
 ghost use Rattle.std.specs.Prelude.{◌≡◌, replicate, vec_len};
-ghost use Rattle.sv8_phys.specs.Parts.{pages_of};
+ghost use Rattle.sv8_phys.specs.Parts.{halves_of};
 
-use crate::blocks::Blocks;
+use crate::half_page::HalfPage;
 use std::alloc::{AllocError, Global};
 use std::rc::Rc;
 
-/// How many pages of zeros there are.
+/// How many halves of zeros there are.
 ///
-/// A copy of a directory counts up for each handle. Where all handles were of one page, each would wait for the count of the
+/// A copy of a directory counts up for each handle. Where all handles were of one half, each would wait for the count of the
 /// one before it.
 const ZEROS: usize = 16;
 
-/// Pages of zeros, which share their blocks. They stand for the pages of RAM that were never written.
+/// Halves of pages of zeros, which share their blocks. They stand for the halves of RAM that were never written.
 #[derive(Drop)]
 pub(crate) struct Zeros {
-    pages: Vec<Rc<Blocks>>,
-    ghost all: { vec_len pages ≡ 16 },
-    ghost zero: { pages_of pages.items ≡ replicate 16 (replicate 4096 0) },
+    halves: Vec<Rc<HalfPage>>,
+    ghost all: { vec_len halves ≡ 16 },
+    ghost zero: { halves_of halves.items ≡ replicate 16 (replicate 2048 0) },
 }
 
 impl Zeros {
     ghost use Rattle.std.specs.Prelude.{◌≡◌, replicate};
-    ghost use Rattle.sv8_phys.specs.Parts.{page_bytes};
+    ghost use Rattle.sv8_phys.specs.Parts.{half_bytes};
 
     pub(crate) fn new(alloc: Global) -> Result<Zeros, AllocError> {
-        let page = Blocks::zero(alloc)?;
-        let mut pages = Vec::with_capacity(alloc, ZEROS)?;
+        let half = HalfPage::zero(alloc)?;
+        let mut halves = Vec::with_capacity(alloc, ZEROS)?;
         for _place in 0..ZEROS {
-            pages.push(Rc::new(alloc, page.clone()?)?)?;
+            halves.push(Rc::new(alloc, half.clone()?)?)?;
         }
-        Ok(Zeros { pages })
+        Ok(Zeros { halves })
     }
 
     /// One of them, for a place in a directory.
-    pub(crate) fn page(&self, place: usize) -> &Rc<Blocks>
-        ensures { page_bytes result.now.value ≡ replicate 4096 0 }
+    pub(crate) fn half(&self, place: usize) -> &Rc<HalfPage>
+        ensures { half_bytes result.now.value ≡ replicate 2048 0 }
     {
-        &self.pages[place % ZEROS]
+        &self.halves[place % ZEROS]
     }
 }

@@ -13,7 +13,7 @@ unfolding value_at
 returns-in-Half-clause-value c =
     let bytes = c.args.self.now.bytes in
     rw c.in-Half.is (c.read_u16.ensures
-    ∙ ap (big_number 2) (rest_part bytes c.args.at (256 - c.args.at) (omega (arith, c.args.self.now.full)))
+    ∙ ap (big_number 2) (rest_part bytes c.args.at (128 - c.args.at) (omega (arith, c.args.self.now.full)))
     ∙ half_read bytes c.args.at)
 
 pub returns-in-Word-clause-value : goal.returns-in-Word-clause-value
@@ -25,5 +25,5 @@ unfolding value_at
 returns-in-Double-clause-value c =
     let bytes = c.args.self.now.bytes in
     rw c.in-Double.is (c.read_u64.ensures
-    ∙ ap (big_number 8) (rest_part bytes c.args.at (256 - c.args.at) (omega (arith, c.args.self.now.full)))
+    ∙ ap (big_number 8) (rest_part bytes c.args.at (128 - c.args.at) (omega (arith, c.args.self.now.full)))
     ∙ double_read bytes c.args.at (rw c.in-Double.is at c.requires.aligned))

@@ -7,5 +7,5 @@ pub returns : goal.returns
 returns c =
     let bytes = c.args.self.now.bytes in
     c.read_u32.ensures
-    ∙ ap (big_number 4) (rest_part bytes c.args.at (256 - c.args.at) (omega (arith, c.args.self.now.full)))
+    ∙ ap (big_number 4) (rest_part bytes c.args.at (128 - c.args.at) (omega (arith, c.args.self.now.full)))
     ∙ word_read bytes c.args.at c.requires.aligned

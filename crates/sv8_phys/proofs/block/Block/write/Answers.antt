@@ -17,8 +17,8 @@ unfolding with_value with_byte
 invariant_of-self-in-Half-clause-fit c =
     let bytes = c.args.self.now.bytes in
     written_fits Half c.args.at c.args.value bytes _ c.args.self.now.fit
-    (ap (put_mid c.args.at (256 - c.args.at) bytes) c.write_u16.ensures
-    ∙ put_sets (big_bytes 2 (c.args.value % 65536)) bytes c.args.at (256 - c.args.at) (omega (arith, c.args.self.now.full, rw c.in-Half.is at c.requires.aligned)) (omega (arith, c.args.self.now.full))
+    (ap (put_mid c.args.at (128 - c.args.at) bytes) c.write_u16.ensures
+    ∙ put_sets (big_bytes 2 (c.args.value % 65536)) bytes c.args.at (128 - c.args.at) (omega (arith, c.args.self.now.full, rw c.in-Half.is at c.requires.aligned)) (omega (arith, c.args.self.now.full))
     ∙ half_sets bytes c.args.at c.args.value)
 
 pub invariant_of-self-in-Double-clause-fit : goal.invariant_of-self-in-Double-clause-fit
@@ -27,8 +27,8 @@ invariant_of-self-in-Double-clause-fit c =
     let bytes = c.args.self.now.bytes in
     let aligned = rw c.in-Double.is at c.requires.aligned in
     written_fits Double c.args.at c.args.value bytes _ c.args.self.now.fit
-    (ap (put_mid c.args.at (256 - c.args.at) bytes) c.write_u64.ensures
-    ∙ put_sets (big_bytes 8 c.args.value) bytes c.args.at (256 - c.args.at) (omega (arith, c.args.self.now.full)) (omega (arith, c.args.self.now.full))
+    (ap (put_mid c.args.at (128 - c.args.at) bytes) c.write_u64.ensures
+    ∙ put_sets (big_bytes 8 c.args.value) bytes c.args.at (128 - c.args.at) (omega (arith, c.args.self.now.full)) (omega (arith, c.args.self.now.full))
     ∙ double_sets bytes c.args.at c.args.value aligned)
 
 pub returns-in-Byte : goal.returns-in-Byte
@@ -41,8 +41,8 @@ returns-in-Half c =
     let bytes = c.args.self.now.bytes in
     let low = c.args.value % 65536 in
     let aligned = rw c.in-Half.is at c.requires.aligned in
-    rw c.in-Half.is (ap (put_mid c.args.at (256 - c.args.at) bytes) c.write_u16.ensures
-    ∙ put_sets (big_bytes 2 low) bytes c.args.at (256 - c.args.at) (omega (arith, c.args.self.now.full)) (omega (arith, c.args.self.now.full))
+    rw c.in-Half.is (ap (put_mid c.args.at (128 - c.args.at) bytes) c.write_u16.ensures
+    ∙ put_sets (big_bytes 2 low) bytes c.args.at (128 - c.args.at) (omega (arith, c.args.self.now.full)) (omega (arith, c.args.self.now.full))
     ∙ half_sets bytes c.args.at c.args.value)
 
 pub returns-in-Word : goal.returns-in-Word
@@ -54,6 +54,6 @@ unfolding with_value
 returns-in-Double c =
     let bytes = c.args.self.now.bytes in
     let aligned = rw c.in-Double.is at c.requires.aligned in
-    rw c.in-Double.is (ap (put_mid c.args.at (256 - c.args.at) bytes) c.write_u64.ensures
-    ∙ put_sets (big_bytes 8 c.args.value) bytes c.args.at (256 - c.args.at) (omega (arith, c.args.self.now.full)) (omega (arith, c.args.self.now.full))
+    rw c.in-Double.is (ap (put_mid c.args.at (128 - c.args.at) bytes) c.write_u64.ensures
+    ∙ put_sets (big_bytes 8 c.args.value) bytes c.args.at (128 - c.args.at) (omega (arith, c.args.self.now.full)) (omega (arith, c.args.self.now.full))
     ∙ double_sets bytes c.args.at c.args.value aligned)

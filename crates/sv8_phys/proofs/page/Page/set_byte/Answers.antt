@@ -9,4 +9,4 @@ unfolding with_value with_byte
 returns-clause-ok c =
     let at = c.args.pa % 4096 in
     let fits : c.from.result % 2 ^ 8 ≡ c.args.value = omega (arith, c.from.ensures) in
-    c.in_ok-write_copying.ensures.ok ∙ ap (λ v. set (page_bytes c.self.inside.blocks.value) at v) fits ∙ ap (λ bytes. set bytes at c.args.value) c.self.view_is
+    c.in_ok-write_copying.ensures.ok ∙ ap (λ v. set (page_bytes c.self.inside.halves) at v) fits ∙ ap (λ bytes. set bytes at c.args.value) c.self.view_is

@@ -9,4 +9,4 @@ unfolding with_value
 returns-clause-ok c =
     let k = c.args.pa % 4096 / 4 in
     let fits : c.from.result % 2 ^ 32 ≡ c.args.value = omega (arith, c.from.ensures) in
-    c.in_ok-write_copying.ensures.ok ∙ ap (λ v. with_word (page_bytes c.self.inside.blocks.value) k v) fits ∙ ap (λ bytes. with_word bytes k c.args.value) c.self.view_is
+    c.in_ok-write_copying.ensures.ok ∙ ap (λ v. with_word (page_bytes c.self.inside.halves) k v) fits ∙ ap (λ bytes. with_word bytes k c.args.value) c.self.view_is

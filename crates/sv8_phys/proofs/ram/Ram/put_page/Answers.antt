@@ -8,5 +8,5 @@ returns-clause-ok g c =
     let n = g.row.PAGES in
     let p = c.args.at / 4096 in
     c.in_ok-put_page.ensures.ok n (omega arith)
-    ∙ ap (with_page (ram_bytes n c.self.inside.directory.value.pages.items) p) c.into_blocks.ensures
+    ∙ ap (with_page (ram_bytes n c.self.inside.directory.value.halves.items) p) c.halves.ensures
     ∙ ap (λ ram. with_page ram p c.args.page) c.self.view_is

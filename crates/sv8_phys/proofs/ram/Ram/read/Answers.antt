@@ -8,5 +8,5 @@ pub returns-clause-value : goal.returns-clause-value
 returns-clause-value g c =
     let at = c.args.at in
     c.read.ensures.value
-    ∙ ap (value_at c.args.size (at % 256)) c.block.ensures
-    ∙ value_in_part 256 of_block c.args.self.now at c.args.size c.requires.aligned
+    ∙ ap (value_at c.args.size (at % 128)) c.block.ensures
+    ∙ value_in_part 128 of_block c.args.self.now at c.args.size c.requires.aligned

@@ -4,4 +4,4 @@ use Rattle.sv8_phys.specs.Parts.{ram_bytes}
 use Rattle.sv8_phys.proofs.ram.Ram.snapshot.Goals as goal
 
 pub returns : goal.returns
-returns g c = ap (λ (d : Directory). ram_bytes g.row.PAGES d.pages.items) c.in_ok-directory.ensures.cases ∙ c.self.view_is
+returns g c = ap (λ (d : Directory). ram_bytes g.row.PAGES d.halves.items) c.in_ok-directory.ensures.cases ∙ c.self.view_is
