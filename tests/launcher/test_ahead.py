@@ -65,7 +65,7 @@ class Ahead(InRepository):
         self.assertEqual(self.all_calls()[2], "ci high")
 
     def test_a_crate_does_not_wait_for_one_with_a_shorter_way(self) -> None:
-        # `side` waits for `tall`, and so does `high`, which is as long as `tall` and begun before it.
+        # `side` and `high` hold both places until `tall` is begun. Its way is longer than that of `side`.
         text = f"low:\nside:\nhigh: low\ntall: low\n{WORKBENCH}: high side tall\n"
         waits = f'case $2 in side | high) until grep -q "ci tall" {self.log}; do sleep 0.1; done ;; esac; {SAYS}'
         with mock.patch.object(ahead, "_AMPLE_BYTES", 0):
