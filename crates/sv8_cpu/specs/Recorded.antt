@@ -11,10 +11,10 @@ use Rattle.sv8_model.specs.Footprint.{reads_input}
 use Rattle.sv8_history.specs.Machine.{Footprint, Machine}
 use Rattle.sv8_history.specs.Acting.{Acting}
 use Rattle.sv8_time.specs.Order.{Each}
-use Rattle.sv8_time.specs.Schedule.{Schedule, BytePoke, pokes_of_step, requests_of_step}
+use Rattle.sv8_time.specs.Schedule.{Schedule, arrived, BytePoke, pokes_of_step, requests_of_step}
 use Rattle.sv8_time.specs.declared.requests.Request.{Request}
 use Rattle.sv8_phys.specs.Memory.{ram_size}
-use Rattle.sv8_phys.specs.Contents.{AreContents, arrived, outside_of}
+use Rattle.sv8_phys.specs.Contents.{AreContents, outside_of}
 use Rattle.sv8_memory.specs.Events.{poked, marked}
 use Rattle.sv8_cpu.specs.State.{State}
 use Rattle.sv8_cpu.specs.Run.{step_action, acted_on, touched}

@@ -3,9 +3,9 @@ use Rattle.std.specs.Prelude.{ℕ, zero, suc, ◌+◌, List}
 use Rattle.sv8_model.specs.declared.touch.Touch.{Touch}
 use Rattle.sv8_model.specs.declared.observation.Observation.{Observation}
 use Rattle.sv8_model.specs.Action.{Action, result_of, after, touches, observations}
-use Rattle.sv8_time.specs.Schedule.{Schedule}
+use Rattle.sv8_time.specs.Schedule.{Schedule, arrived}
 use Rattle.sv8_phys.specs.Memory.{ram_size}
-use Rattle.sv8_phys.specs.Contents.{arrived, outside_of}
+use Rattle.sv8_phys.specs.Contents.{outside_of}
 use Rattle.sv8_cpu.specs.Step.{Inner, action}
 use Rattle.sv8_memory.specs.Events.{with_events}
 use Rattle.sv8_cpu.specs.State.{State, inner_of, left_by}

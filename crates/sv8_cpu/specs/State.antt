@@ -1,8 +1,8 @@
 -- The whole state of the machine.
 use Rattle.std.specs.Prelude.{ℕ, ◌+◌, ◌-◌, List, length, drop}
 use Rattle.sv8_model.specs.Outside.{Outside}
-use Rattle.sv8_time.specs.Schedule.{Schedule}
-use Rattle.sv8_phys.specs.Contents.{Contents, arrived}
+use Rattle.sv8_time.specs.Schedule.{Schedule, arrived}
+use Rattle.sv8_phys.specs.Contents.{Contents}
 use Rattle.sv8_trap.specs.Processor.{Processor, reset_processor}
 use Rattle.sv8_mmu.specs.declared.registers.Mmu.{Mmu}
 use Rattle.sv8_mmu.specs.Registers.{registers_at_reset}

@@ -5,9 +5,8 @@ use Rattle.std.specs.List.{filter}
 use Rattle.std.proofs.lemmas.Bool.Decides.{nat_tests}
 use Rattle.std.proofs.lemmas.List.{append-nil}
 use Rattle.std.proofs.lemmas.List.Elements.{filter-append}
-use Rattle.sv8_time.specs.Schedule.{Schedule, Input, input_of, input_before, is_input_at, put_input, cut_input, input_bytes, with_input, without_input}
+use Rattle.sv8_time.specs.Schedule.{Schedule, arrived, Input, input_of, input_before, is_input_at, put_input, cut_input, input_bytes, with_input, without_input}
 use Rattle.sv8_time.proofs.Common.{filter_none, each_map, each_passes}
-use Rattle.sv8_phys.specs.Contents.{arrived}
 use Rattle.sv8_cpu.specs.Recorded.{Event, event_at}
 use Rattle.sv8_source.specs.Text.{Text}
 use Rattle.sv8_edits.specs.EditLaws.{CanRun, Refeeds}

@@ -3,9 +3,8 @@ use Rattle.std.proofs.Common.{◌≡◌, ◌∙◌, ℕ, zero, suc, ◌+◌, ◌
 use Rattle.std.specs.Prelude.{nat_lt}
 use Rattle.std.proofs.lemmas.List.{length-drop}
 use Rattle.std.proofs.lemmas.Bool.Decides.{nat_tests}
-use Rattle.sv8_time.specs.Schedule.{Input, bytes_below}
-use Rattle.sv8_phys.specs.Contents.{arrived}
-use Rattle.sv8_phys.proofs.Common.{length-arrived}
+use Rattle.sv8_time.specs.Schedule.{arrived, Input, bytes_below}
+use Rattle.sv8_time.proofs.Common.{length-arrived}
 use Rattle.sv8_memory.specs.Events.{with_events}
 use Rattle.sv8_cpu.specs.Run as run
 use Rattle.sv8_reset.specs.Reset.{reset_state}

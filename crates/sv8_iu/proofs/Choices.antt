@@ -10,8 +10,8 @@ use Rattle.sv8_regs.specs.Control.{above}
 use Rattle.sv8_isa.specs.declared.instr.Operand.{Operand}
 use Rattle.sv8_isa.specs.declared.instr.StateRegister.{StateRegister}
 use Rattle.sv8_isa.specs.declared.instr.MemoryOp.{MemoryOp}
-use Rattle.sv8_phys.specs.Memory.{bytes_in}
-use Rattle.sv8_phys.specs.declared.size.Size.{Size}
+use Rattle.sv8_model.specs.declared.size.Size.{Size}
+use Rattle.sv8_model.specs.Size.{bytes_in}
 use Rattle.sv8_iu.specs.Operands.{sum_of_sources, when}
 use Rattle.sv8_iu.specs.Control.{is_misaligned, jump_traps, return_traps}
 use Rattle.sv8_iu.specs.StateRegisters.{is_privileged, names_no_window, written_word, write_traps}

@@ -3,9 +3,9 @@ use Rattle.std.specs.Prelude.{ℕ, ◌+◌, ◌*◌, ◌/◌, ◌%◌, ◌^◌, 
 use Rattle.sv8_isa.specs.declared.instr.MemoryOp.{MemoryOp}
 use Rattle.sv8_isa.specs.declared.instr.MemoryOp.TheVariants as memory
 use Rattle.sv8_model.specs.Words.{signed, word_of_number}
-use Rattle.sv8_phys.specs.declared.size.Size.{Size}
-use Rattle.sv8_phys.specs.declared.size.Size.TheVariants.{Byte, Half, Word, Double}
-use Rattle.sv8_phys.specs.Memory.{bytes_in}
+use Rattle.sv8_model.specs.declared.size.Size.{Size}
+use Rattle.sv8_model.specs.declared.size.Size.TheVariants.{Byte, Half, Word, Double}
+use Rattle.sv8_model.specs.Size.{bytes_in}
 use Rattle.sv8_regs.specs.Ring.{read}
 use Rattle.sv8_trap.specs.declared.table.Trap.{Trap}
 use Rattle.sv8_trap.specs.declared.table.Trap.TheVariants.{IllegalInstruction, MemAddressNotAligned}

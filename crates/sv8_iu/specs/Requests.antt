@@ -1,6 +1,6 @@
 -- The access that an instruction asks for: the address spaces (Appendix I), and what holds of every address.
 use Rattle.std.specs.Prelude.{◌≡◌, ℕ, ◌/◌, ◌%◌, ◌==◌, ◌&&◌, nat_le, if◌then◌else◌}
-use Rattle.sv8_phys.specs.Memory.{bytes_in}
+use Rattle.sv8_model.specs.Size.{bytes_in}
 use Rattle.sv8_iu.specs.declared.request.AccessRequest.{AccessRequest}
 use Rattle.sv8_iu.specs.declared.request.AccessRequest.TheVariants as request
 use Rattle.sv8_iu.specs.declared.request.Space.{Space}

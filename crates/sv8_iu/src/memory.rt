@@ -2,7 +2,7 @@
 
 ghost use Rattle.std.specs.Prelude.{◌≡◌, ◌<◌, ◌≤◌, ◌+◌, ◌*◌, ◌/◌, ◌%◌, ◌^◌, [], ◌++◌, true, ◌==◌, ◌&&◌};
 ghost use Rattle.sv8_model.specs.Words.{signed};
-ghost use Rattle.sv8_phys.specs.Memory.{bytes_in};
+ghost use Rattle.sv8_model.specs.Size.{bytes_in};
 ghost use Rattle.sv8_trap.specs.Table.{taken};
 ghost use Rattle.sv8_iu.specs.Memory.{transfer_of, odd_register, takes_pair, memory_traps, pair, stored, access_of, low_word, with_pair, loaded, with_sign, transferred_data};
 ghost use Rattle.sv8_iu.specs.Instruction.{alternate_traps};
@@ -10,7 +10,7 @@ ghost use Rattle.sv8_iu.specs.Instruction.{alternate_traps};
 use crate::operands::word_of;
 use crate::request::AccessRequest;
 use sv8_isa::MemoryOp;
-use sv8_phys::Size;
+use sv8_model::Size;
 use sv8_trap::{Processor, Trap};
 
 /// What a load or a store does.

@@ -3,7 +3,7 @@
 ghost use Rattle.std.specs.Prelude.{◌≡◌};
 ghost use Rattle.sv8_iu.specs.Requests.{space_of};
 
-use sv8_phys::Size;
+use sv8_model::Size;
 use sv8_trap::Trap;
 
 /// The one access that an instruction makes, or none. Addresses are virtual, and multiples of the size.

@@ -5,7 +5,7 @@ ghost use Rattle.sv8_model.specs.Does.{noting, keeping};
 ghost use Rattle.sv8_iu.specs.Seen.{trap_seen};
 
 use std::alloc::AllocError;
-use sv8_phys::{Observation, Touches};
+use sv8_model::{Observation, Touches};
 use sv8_trap::Trap;
 
 /// Lets an observer see a trap: its type.

@@ -20,7 +20,7 @@ use sv8_isa::{
     ArithOp, Group, Instr, decode, decode_arithmetic, decode_call, decode_control, decode_format_2,
     decode_shift, group,
 };
-use sv8_phys::Touches;
+use sv8_model::Touches;
 use sv8_trap::Processor;
 
 /// Carries out any such word, by the way of every instruction: takes the trap that it raises, or completes it.

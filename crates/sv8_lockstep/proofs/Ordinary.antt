@@ -11,13 +11,13 @@ use Rattle.sv8_model.proofs.Common.{does_if_true, does_if_false}
 use Rattle.sv8_model.specs.Does.{DoesUnnoted, keeping, no_notes}
 use Rattle.sv8_model.specs.Outside.{Outside}
 use Rattle.sv8_model.specs.Levels.{asked}
-use Rattle.sv8_time.specs.Schedule.{Schedule}
+use Rattle.sv8_time.specs.Schedule.{Schedule, arrived}
 use Rattle.sv8_time.specs.Schedule.{pokes_of_step, requests_of_step}
 use Rattle.sv8_phys.specs.declared.timer.Timer.{Timer}
-use Rattle.sv8_phys.specs.declared.size.Size.{Size}
+use Rattle.sv8_model.specs.declared.size.Size.{Size}
 use Rattle.sv8_phys.specs.Devices.{tick}
 use Rattle.sv8_phys.specs.Memory.{ram_size}
-use Rattle.sv8_phys.specs.Contents.{Contents, arrived, outside_of}
+use Rattle.sv8_phys.specs.Contents.{Contents, outside_of}
 use Rattle.sv8_mmu.specs.declared.registers.Mmu.{Mmu}
 use Rattle.sv8_trap.specs.declared.table.Trap.{Trap}
 use Rattle.sv8_trap.specs.Table.{taken}

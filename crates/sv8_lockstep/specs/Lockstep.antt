@@ -1,10 +1,10 @@
 -- Steps of two machines with the same processor, made as one.
 use Rattle.std.specs.Prelude.{◌≡◌, ◌≢◌, ℕ, ◌+◌, ◌-◌, Bool, true, false, List, []}
 use Rattle.sv8_model.specs.Does.{DoesUnnoted}
-use Rattle.sv8_time.specs.Schedule.{Schedule, pokes_of_step, requests_of_step}
-use Rattle.sv8_phys.specs.Contents.{Contents, arrived, outside_of}
+use Rattle.sv8_time.specs.Schedule.{Schedule, arrived, pokes_of_step, requests_of_step}
+use Rattle.sv8_phys.specs.Contents.{Contents, outside_of}
 use Rattle.sv8_phys.specs.Memory.{ram_size}
-use Rattle.sv8_phys.specs.declared.size.Size.{Size}
+use Rattle.sv8_model.specs.declared.size.Size.{Size}
 use Rattle.sv8_phys.specs.declared.timer.Timer.{Timer}
 use Rattle.sv8_trap.specs.Processor.{Processor}
 use Rattle.sv8_iu.specs.declared.request.AccessRequest.TheVariants.{Load, Store}

@@ -2,8 +2,8 @@
 
 ghost use Rattle.std.specs.Prelude.{◌≡◌, ℕ, ◌%◌, ◌<◌, ◌≤◌, ◌⊎◌, true, false, None, MatchBool, IfOk, IfSome, OnOk, OnErr};
 ghost use Rattle.sv8_model.specs.Levels.{asked};
+ghost use Rattle.sv8_model.specs.Size.{bytes_in};
 ghost use Rattle.sv8_time.specs.Schedule.{Schedule, bytes_below};
-ghost use Rattle.sv8_phys.specs.Memory.{bytes_in};
 ghost use Rattle.sv8_isa.specs.Table.{group_of, meaning};
 ghost use Rattle.sv8_trap.specs.Interrupt.{unmasked};
 ghost use Rattle.sv8_trap.specs.Table.{taken};

@@ -10,8 +10,8 @@ use Rattle.sv8_model.specs.Action.{Action, done, take_input, count_waiting, obse
 use Rattle.sv8_model.specs.Does.{Does, Keeps, Notes, noting}
 use Rattle.sv8_model.proofs.Common.{does_then, does_map, does_done, does_observe, does_if_true, does_if_false, noting_none}
 use Rattle.sv8_phys.specs.declared.fault.BusError.{BusError}
-use Rattle.sv8_phys.specs.declared.size.Size.{Size}
-use Rattle.sv8_phys.specs.declared.size.Size.TheVariants.{Byte, Half, Word, Double}
+use Rattle.sv8_model.specs.declared.size.Size.{Size}
+use Rattle.sv8_model.specs.declared.size.Size.TheVariants.{Byte, Half, Word, Double}
 use Rattle.sv8_phys.specs.Devices.{input_address, waiting_address, Stored, load, store, ram_load, ram_store}
 use Rattle.sv8_mmu.specs.declared.access_type.AccessType.{AccessType}
 use Rattle.sv8_mmu.specs.declared.fault_type.FaultType.{FaultType}

@@ -2,8 +2,7 @@
 use Rattle.std.proofs.Common.{◌≡◌, ◌∙◌, ℕ, ◌+◌, ◌<◌, ◌≤◌, Bool, true, false, cond, nat_lt, List, [], ◌∷◌, filter, refl, sym, ap, arith}
 use Rattle.std.proofs.lemmas.Bool.Decides.{nat_tests}
 use Rattle.sv8_time.specs.Order.{Each}
-use Rattle.sv8_time.specs.Schedule.{Schedule, Input, IsInputPlace, IsTimeline, bytes_below, byte_count, input_bytes}
-use Rattle.sv8_phys.specs.Contents.{arrived}
+use Rattle.sv8_time.specs.Schedule.{Schedule, arrived, Input, IsInputPlace, IsTimeline, bytes_below, byte_count, input_bytes}
 
 all_below : (n : ℕ) (inputs : List Input) → 1000000 < n → Each IsInputPlace inputs → filter (λ i. nat_lt i.step n) inputs ≡ inputs
 all_below n [] late h = refl

@@ -5,10 +5,10 @@ use Rattle.sv8_model.specs.Outside.{Outside, with_byte, with_word}
 use Rattle.sv8_model.specs.Action.{Action, done, emit, clear_levels, expire, after}
 use Rattle.sv8_model.specs.Does.{Does, Keeps, Notes}
 use Rattle.sv8_model.proofs.Common.{length-with_word, word_other}
-use Rattle.sv8_phys.specs.declared.size.Size.{Size}
-use Rattle.sv8_phys.specs.declared.size.Size.TheVariants.{Byte, Half, Word, Double}
+use Rattle.sv8_model.specs.declared.size.Size.{Size}
+use Rattle.sv8_model.specs.declared.size.Size.TheVariants.{Byte, Half, Word, Double}
+use Rattle.sv8_model.specs.Size.{bytes_in}
 use Rattle.sv8_phys.specs.declared.timer.Timer.{Timer}
-use Rattle.sv8_phys.specs.Memory.{bytes_in}
 use Rattle.sv8_phys.specs.Devices.{input_address, waiting_address, output_address, count_address, reload_address, pending_address, Stored, store, ram_store, outside_store, device_store, tick}
 use Rattle.sv8_mmu.specs.Kept.{DiffersInPage}
 

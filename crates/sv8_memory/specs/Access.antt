@@ -7,9 +7,9 @@ use Rattle.sv8_model.specs.declared.observation.Observation.{Observation}
 use Rattle.sv8_model.specs.declared.observation.Observation.TheVariants as seen
 use Rattle.sv8_model.specs.Action.{Action, done, take_input, count_waiting, observe, ◌>>=◌}
 use Rattle.sv8_phys.specs.declared.fault.BusError.{BusError}
-use Rattle.sv8_phys.specs.declared.size.Size.{Size}
-use Rattle.sv8_phys.specs.declared.size.Size.TheVariants.{Byte, Half, Word, Double}
-use Rattle.sv8_phys.specs.Memory.{bytes_in}
+use Rattle.sv8_model.specs.declared.size.Size.{Size}
+use Rattle.sv8_model.specs.declared.size.Size.TheVariants.{Byte, Half, Word, Double}
+use Rattle.sv8_model.specs.Size.{bytes_in}
 use Rattle.sv8_phys.specs.Devices.{Stored, load, store, ram_load, ram_store, input_address, waiting_address}
 use Rattle.sv8_mmu.specs.declared.access_type.AccessType.{AccessType}
 use Rattle.sv8_mmu.specs.declared.access_type.AccessType.TheVariants.{UserLoad, SupervisorLoad, UserFetch, SupervisorFetch, UserStore, SupervisorStore, UserInstructionStore, SupervisorInstructionStore}

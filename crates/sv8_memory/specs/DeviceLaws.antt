@@ -2,7 +2,7 @@
 use Rattle.std.specs.Prelude.{◌≡◌, ℕ, Bool, true, false}
 use Rattle.sv8_model.specs.Outside.{Outside}
 use Rattle.sv8_model.specs.Action.{result_of}
-use Rattle.sv8_phys.specs.declared.size.Size.{Size}
+use Rattle.sv8_model.specs.declared.size.Size.{Size}
 use Rattle.sv8_mmu.specs.declared.translation.Reach.TheVariants.{Ram}
 use Rattle.sv8_mmu.specs.Translation.{is_served}
 use Rattle.sv8_iu.specs.declared.request.Response.{Response}

@@ -1,8 +1,8 @@
 //! What comes in from outside by a step.
 
 ghost use Rattle.std.specs.Prelude.{◌≡◌, ◌+◌, ◌≤◌};
-ghost use Rattle.sv8_time.specs.Schedule.{bytes_below};
-ghost use Rattle.sv8_phys.specs.Contents.{Contents, arrived};
+ghost use Rattle.sv8_time.specs.Schedule.{arrived, bytes_below};
+ghost use Rattle.sv8_phys.specs.Contents.{Contents};
 ghost use Rattle.sv8_memory.specs.Feeding.{bytes_fed, IsFed};
 
 use sv8_time::Timeline;

@@ -3,7 +3,8 @@
 
 ghost use Rattle.std.specs.Prelude.{◌≡◌, ℕ, ◌%◌, List, true, false, not, nat_lt, None, IfOk, OnOk, MatchOption};
 ghost use Rattle.sv8_model.specs.Does.{keeping};
-ghost use Rattle.sv8_phys.specs.Memory.{bytes_in, ram_size};
+ghost use Rattle.sv8_model.specs.Size.{bytes_in};
+ghost use Rattle.sv8_phys.specs.Memory.{ram_size};
 ghost use Rattle.sv8_mmu.specs.Registers.{translates};
 ghost use Rattle.sv8_memory.specs.Feeding.{bytes_fed, IsFed};
 ghost use Rattle.sv8_memory.specs.Access.{access, loaded_in, stored_in};

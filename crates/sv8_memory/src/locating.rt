@@ -2,8 +2,9 @@
 
 ghost use Rattle.std.specs.Prelude.{◌≡◌, ℕ, ◌+◌, ◌*◌, ◌%◌, ◌/◌, ◌^◌, ◌<◌, List, IfOk, OnOk};
 ghost use Rattle.sv8_model.specs.Does.{keeping};
-ghost use Rattle.sv8_phys.specs.declared.size.Size.{Size};
-ghost use Rattle.sv8_phys.specs.Memory.{bytes_in, ram_size};
+ghost use Rattle.sv8_model.specs.declared.size.Size.{Size};
+ghost use Rattle.sv8_model.specs.Size.{bytes_in};
+ghost use Rattle.sv8_phys.specs.Memory.{ram_size};
 ghost use Rattle.sv8_memory.specs.Units.{served, failed};
 ghost use Rattle.sv8_memory.specs.Access.{physical_place, reach_of, access};
 ghost use Rattle.sv8_memory.specs.View.{units_of, Serves};

@@ -4,8 +4,9 @@ ghost use Rattle.std.specs.Prelude.{◌≡◌, ℕ, ◌+◌, ◌*◌, ◌%◌, �
 ghost use Rattle.sv8_model.specs.Action as model;
 ghost use Rattle.sv8_model.specs.Action.{result_of};
 ghost use Rattle.sv8_model.specs.Does.{Does, DoesUnnoted, keeping};
+ghost use Rattle.sv8_model.specs.Size.{bytes_in};
 ghost use Rattle.sv8_phys.specs.declared.timer.Timer.{Timer};
-ghost use Rattle.sv8_phys.specs.Memory.{bytes_in, ram_size, with_page};
+ghost use Rattle.sv8_phys.specs.Memory.{ram_size, with_page};
 ghost use Rattle.sv8_phys.specs.Contents.{outside_of};
 ghost use Rattle.sv8_phys.specs.Devices.{tick};
 ghost use Rattle.sv8_mmu.specs.Registers.{registers_at_reset, translates};

@@ -2,9 +2,10 @@
 
 ghost use Rattle.std.specs.Prelude.{◌≡◌, ℕ, ◌%◌, ◌/◌, ◌≤◌, ◌<◌, List, false, IfOk, OnOk};
 ghost use Rattle.sv8_model.specs.Does.{keeping};
-ghost use Rattle.sv8_phys.specs.declared.size.Size.{Size};
+ghost use Rattle.sv8_model.specs.declared.size.Size.{Size};
+ghost use Rattle.sv8_model.specs.Size.{bytes_in};
 ghost use Rattle.sv8_mmu.specs.Registers.{translates};
-ghost use Rattle.sv8_phys.specs.Memory.{bytes_in, ram_size};
+ghost use Rattle.sv8_phys.specs.Memory.{ram_size};
 ghost use Rattle.sv8_memory.specs.Units.{served};
 ghost use Rattle.sv8_iu.specs.Requests.{space_of, IsAligned};
 ghost use Rattle.sv8_memory.specs.Feeding.{bytes_fed, IsFed};

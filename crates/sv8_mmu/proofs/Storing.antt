@@ -3,7 +3,7 @@ use Rattle.std.proofs.Common.{◌≡◌, ℕ, ◌/◌, ◌%◌, ◌^◌, ◌<◌
 use Rattle.sv8_model.specs.Outside.{Outside, with_word}
 use Rattle.sv8_model.specs.Action.{done, store_word}
 use Rattle.sv8_model.specs.Does.{Does, Keeps, Notes}
-use Rattle.sv8_phys.specs.declared.size.Size.TheVariants.{Word}
+use Rattle.sv8_model.specs.declared.size.Size.TheVariants.{Word}
 use Rattle.sv8_phys.specs.Devices.{ram_store}
 
 low_word : (v : ℕ) → v < 2 ^ 32 → v % 2 ^ 32 ≡ v

@@ -1,4 +1,5 @@
 pub mod Words
+pub mod Size
 pub mod Levels
 pub mod Outside
 pub mod Action

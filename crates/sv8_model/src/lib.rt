@@ -4,13 +4,19 @@
 //! The definitions stand in `specs/`; the functions of `laws` state laws about them and do nothing.
 #![tactic(auto)]
 
+mod arrivals;
 pub mod laws;
 mod level;
 mod observation;
 mod refused;
+mod size;
 mod touch;
+mod touches;
 
+pub use arrivals::Arrivals;
 pub use level::Level;
 pub use observation::{AccessKind, Observation};
 pub use refused::Refused;
+pub use size::Size;
 pub use touch::{Touch, TouchKind};
+pub use touches::{NoTouches, Touches};

@@ -1,7 +1,7 @@
 //! That the calls which take memory answer where there is enough of it: a body that always gave up would meet every contract.
 
 ghost use Rattle.std.specs.Prelude.{◌≡◌, ◌%◌};
-ghost use Rattle.sv8_phys.specs.Memory.{bytes_in};
+ghost use Rattle.sv8_model.specs.Size.{bytes_in};
 
 use crate::told::Told;
 use std::alloc::{AllocError, Global};
@@ -209,7 +209,7 @@ fn calls_without_notes_answer(rt: HostRuntime) -> Result<(), Fail> {
 
 /// Whether so many bytes wait at a step, and whether this byte is taken next.
 fn takes(memory: &mut Phys<2>, timeline: &Timeline, before: u32, count: u32, byte: u8) -> bool {
-    if timeline.delivered(before) < memory.taken() {
+    if timeline.count_below(before) < memory.taken() {
         return false;
     }
     memory.waiting(before, timeline) == count && memory.take_input(before, timeline) == byte

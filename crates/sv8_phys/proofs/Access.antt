@@ -8,8 +8,8 @@ use Rattle.sv8_model.specs.Levels.{asked, cleared, every_level}
 use Rattle.sv8_model.specs.Action.{done, ask_levels, clear_levels, expire, ◌>>=◌}
 use Rattle.sv8_model.specs.Does.{Does, Keeps, Notes, noting}
 use Rattle.sv8_model.proofs.Common.{does_map, does_done, does_if_true, does_if_false}
-use Rattle.sv8_phys.specs.declared.size.Size.{Size}
-use Rattle.sv8_phys.specs.declared.size.Size.TheVariants.{Byte, Half, Word, Double}
+use Rattle.sv8_model.specs.declared.size.Size.{Size}
+use Rattle.sv8_model.specs.declared.size.Size.TheVariants.{Byte, Half, Word, Double}
 use Rattle.sv8_phys.specs.declared.timer.Timer.{Timer}
 use Rattle.sv8_phys.specs.declared.fault.BusError.{BusError}
 use Rattle.sv8_phys.specs.Memory.{value_at, with_value}

@@ -5,8 +5,9 @@ use Rattle.std.proofs.lemmas.Grind.{same_number_lists}
 use Rattle.std.proofs.lemmas.List.{length-replicate, get_or-replicate, get_or-take, get_or-drop, get_or_append_left, get_or-append_right, get_or_past, length-take-le, length-drop}
 use Rattle.std.proofs.lemmas.List.FromFn.{get_or-map-range_with_len, length-map-range_with_len}
 use Rattle.sv8_model.proofs.Common.{IsByte}
-use Rattle.sv8_phys.specs.declared.size.Size.{Size}
-use Rattle.sv8_phys.specs.Memory.{bytes_in, with_value}
+use Rattle.sv8_model.specs.declared.size.Size.{Size}
+use Rattle.sv8_model.specs.Size.{bytes_in}
+use Rattle.sv8_phys.specs.Memory.{with_value}
 use Rattle.sv8_phys.specs.Parts.{part_at, part_of, with_part, all_bytes}
 use Rattle.sv8_phys.proofs.OnePart.{put_in_part, length-with_value}
 use Rattle.sv8_phys.proofs.Sizes.{IsSize}

@@ -4,8 +4,9 @@ use Rattle.std.proofs.lemmas.List.{get_or-map, length-map, map-set}
 use Rattle.std.proofs.Math.Seq.{map-set_same}
 use Rattle.std.specs.List.{AllZip}
 use Rattle.sv8_model.proofs.Common.{IsByte}
-use Rattle.sv8_phys.specs.declared.size.Size.{Size}
-use Rattle.sv8_phys.specs.Memory.{bytes_in, with_value}
+use Rattle.sv8_model.specs.declared.size.Size.{Size}
+use Rattle.sv8_model.specs.Size.{bytes_in}
+use Rattle.sv8_phys.specs.Memory.{with_value}
 use Rattle.sv8_phys.specs.Parts.{part_at, part_of, all_bytes}
 use Rattle.sv8_phys.proofs.AllBytes.{part_of-all, written}
 use Rattle.sv8_phys.proofs.Sizes.{IsSize}

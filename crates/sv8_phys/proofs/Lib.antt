@@ -15,7 +15,7 @@ pub mod PendingLevels
 pub mod ChunkLemmas
 pub mod PieceLemmas
 pub mod Access
-pub mod Arrivals
+pub mod Console
 pub mod Calls
 pub mod OnLiterals
 pub mod Common

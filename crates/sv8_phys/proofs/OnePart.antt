@@ -5,9 +5,10 @@ use Rattle.std.proofs.Math.Seq.{take-set-lt}
 use borrow.Rule.Slice.PartMut.{put_same}
 use Rattle.std.proofs.lemmas.List.{drop-drop}
 use Rattle.sv8_model.specs.Outside.{word_of, with_word, with_byte}
-use Rattle.sv8_phys.specs.declared.size.Size.{Size}
-use Rattle.sv8_phys.specs.declared.size.Size.TheVariants.{Byte, Half, Word, Double}
-use Rattle.sv8_phys.specs.Memory.{bytes_in, value_at, with_value}
+use Rattle.sv8_model.specs.declared.size.Size.{Size}
+use Rattle.sv8_model.specs.declared.size.Size.TheVariants.{Byte, Half, Word, Double}
+use Rattle.sv8_model.specs.Size.{bytes_in}
+use Rattle.sv8_phys.specs.Memory.{value_at, with_value}
 use Rattle.sv8_phys.specs.Parts.{part_of, with_part}
 use Rattle.sv8_phys.proofs.Sizes.{IsSize}
 

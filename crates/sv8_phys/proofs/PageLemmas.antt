@@ -6,8 +6,9 @@ use Rattle.std.specs.declared.rc.Rc.{Rc}
 use Rattle.std.specs.declared.alloc.Global.{Global}
 use Rattle.sv8_phys.specs.declared.half_page.HalfPage.{HalfPage}
 use Rattle.sv8_phys.specs.declared.halves.Halves.{Halves}
-use Rattle.sv8_phys.specs.declared.size.Size.{Size}
-use Rattle.sv8_phys.specs.Memory.{bytes_in, with_value, with_page}
+use Rattle.sv8_model.specs.declared.size.Size.{Size}
+use Rattle.sv8_model.specs.Size.{bytes_in}
+use Rattle.sv8_phys.specs.Memory.{with_value, with_page}
 use Rattle.sv8_phys.specs.Parts.{part_of, with_part, all_bytes, half_bytes, page_bytes, halves_of, ram_bytes, IsSame, IsWritten, IsPut}
 use Rattle.sv8_phys.proofs.AllBytes.{length-all, written, with_part-all}
 use Rattle.sv8_phys.proofs.BlockLemmas.{in_half, half_full, half_long, both_halves, page_full}

@@ -3,7 +3,7 @@ use Rattle.std.specs.Prelude.{ℕ, ◌+◌, ◌-◌, ◌==◌, true, List, [], �
 use Rattle.sv8_model.specs.Action.{result_of}
 use Rattle.sv8_model.specs.Levels.{timer_level}
 use Rattle.sv8_phys.specs.declared.fault.BusError.{BusError}
-use Rattle.sv8_phys.specs.declared.size.Size.{Size}
+use Rattle.sv8_model.specs.declared.size.Size.{Size}
 use Rattle.sv8_phys.specs.Contents.{Contents, outside_of}
 use Rattle.sv8_phys.specs.Devices.{load}
 

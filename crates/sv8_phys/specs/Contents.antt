@@ -1,7 +1,6 @@
 -- What physical memory holds, and how it lies outside the processor.
-use Rattle.std.specs.Prelude.{◌≡◌, ℕ, ◌<◌, Bool, false, List, [], length, nat_lt, drop, filter, replicate, slice_index_or}
+use Rattle.std.specs.Prelude.{◌≡◌, ℕ, ◌<◌, Bool, false, List, [], length, drop, replicate, slice_index_or}
 use Rattle.sv8_model.specs.Outside.{Outside}
-use Rattle.sv8_time.specs.Schedule.{Schedule, input_bytes}
 use Rattle.sv8_phys.specs.declared.timer.Timer.{Timer}
 use Rattle.sv8_phys.specs.Memory.{ram_size}
 use Rattle.sv8_phys.specs.Pending.{AreLevels}
@@ -20,10 +19,6 @@ pub record Contents : Type 0 where
 -- zeros in RAM, nothing taken or put out, the timer at rest, and no level pending
 abbrev pub empty_contents : ℕ → Contents
 empty_contents pages = record { ram = replicate (ram_size pages) 0; taken = 0; output = []; pending = replicate 16 false; timer = record { count = 0; reload = 0 } }
-
--- the bytes that came in at the steps below one, in the order of the steps
-abbrev pub arrived : ℕ → Schedule → List ℕ
-arrived before schedule = input_bytes (filter (λ i. nat_lt i.step before) schedule.inputs)
 
 -- the outside of the processor once these bytes have come in: of them wait all that have not been taken
 abbrev pub outside_of : Contents → List ℕ → Outside

@@ -1,7 +1,7 @@
 -- Where an access may want memory: for a note, for the copy of a page that is shared, or for a byte that is put out.
 use Rattle.std.specs.Prelude.{ℕ, Bool, false, nat_lt, ◌==◌, ◌&&◌, ◌||◌}
-use Rattle.sv8_phys.specs.declared.size.Size.{Size}
-use Rattle.sv8_phys.specs.declared.size.Size.TheVariants.{Word}
+use Rattle.sv8_model.specs.declared.size.Size.{Size}
+use Rattle.sv8_model.specs.declared.size.Size.TheVariants.{Word}
 use Rattle.sv8_phys.specs.Devices.{output_address, pending_address}
 
 -- a load from what is not RAM asks the levels, which is noted, or touches nothing

@@ -2,15 +2,8 @@
 -- most significant byte at the lowest address (SPARC is big-endian).
 use Rattle.std.specs.Prelude.{ℕ, ◌+◌, ◌*◌, ◌/◌, ◌%◌, ◌^◌, List, ◌++◌, take, drop, slice_index}
 use Rattle.sv8_model.specs.Outside.{word_of, with_word, with_byte}
-use Rattle.sv8_phys.specs.declared.size.Size.{Size}
-use Rattle.sv8_phys.specs.declared.size.Size.TheVariants.{Byte, Half, Word, Double}
-
--- how many bytes an access takes
-abbrev pub bytes_in : Size → ℕ
-bytes_in Byte = 1
-bytes_in Half = 2
-bytes_in Word = 4
-bytes_in Double = 8
+use Rattle.sv8_model.specs.declared.size.Size.{Size}
+use Rattle.sv8_model.specs.declared.size.Size.TheVariants.{Byte, Half, Word, Double}
 
 -- the bytes of RAM in so many pages of 4,096
 abbrev pub ram_size : ℕ → ℕ

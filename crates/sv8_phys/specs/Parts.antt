@@ -6,7 +6,7 @@ use Rattle.std.specs.declared.alloc.Global.{Global}
 use Rattle.sv8_phys.specs.declared.block.Block.{Block}
 use Rattle.sv8_phys.specs.declared.half_page.HalfPage.{HalfPage}
 use Rattle.sv8_phys.specs.declared.halves.Halves.{Halves}
-use Rattle.sv8_phys.specs.declared.size.Size.{Size}
+use Rattle.sv8_model.specs.declared.size.Size.{Size}
 use Rattle.sv8_phys.specs.Memory.{ram_size, with_value, with_page}
 
 -- part number p

@@ -2,14 +2,15 @@
 
 ghost use Rattle.std.specs.Prelude.{◌≡◌, ◌<◌, ◌%◌, ◌/◌, ◌^◌, length, replicate, true, IfSome, OnOk, OnErr, MatchBool};
 ghost use Rattle.sv8_model.specs.Outside.{word_of, with_word};
+ghost use Rattle.sv8_model.specs.Size.{bytes_in};
 ghost use Rattle.sv8_phys.specs.Bytes.{are_bytes};
 ghost use Rattle.sv8_phys.specs.Differences.{next_difference};
-ghost use Rattle.sv8_phys.specs.Memory.{bytes_in, value_at, with_value};
+ghost use Rattle.sv8_phys.specs.Memory.{value_at, with_value};
 
-use crate::size::Size;
 use byteorder::{BigEndian, ByteOrder};
 use std::alloc::AllocError;
 use std::rc::Rc;
+use sv8_model::Size;
 
 /// How many bytes a block has.
 pub(crate) const BLOCK_SIZE: usize = 128;

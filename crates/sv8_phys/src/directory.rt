@@ -1,15 +1,15 @@
 //! The directory of RAM: the handles of the halves of its pages, which a snapshot shares as one.
 
 ghost use Rattle.std.specs.Prelude.{◌≡◌, ◌<◌, ◌%◌, OnOk, OnErr, MatchBool};
-ghost use Rattle.sv8_phys.specs.Memory.{bytes_in};
+ghost use Rattle.sv8_model.specs.Size.{bytes_in};
 ghost use Rattle.sv8_phys.specs.Parts.{IsPut, IsSame, IsWritten};
 
 use crate::half_page::{HALF_SIZE, HalfPage};
 use crate::halves::Halves;
-use crate::size::Size;
 use crate::zeros::Zeros;
 use std::alloc::{AllocError, Global};
 use std::rc::Rc;
+use sv8_model::Size;
 
 /// The halves of the pages of RAM from address 0 on, up to the last one that was written. Each may be shared with other
 /// directories until it is written. All halves behind them are of zeros.
@@ -34,7 +34,7 @@ impl Clone for Directory {
 
 impl Directory {
     ghost use Rattle.std.specs.Prelude.{◌≡◌, ◌<◌, ◌%◌, [], length, OnOk, OnErr, MatchBool};
-    ghost use Rattle.sv8_phys.specs.Memory.{bytes_in};
+    ghost use Rattle.sv8_model.specs.Size.{bytes_in};
     ghost use Rattle.sv8_phys.specs.Parts.{IsPut, IsSame, IsWritten};
 
     /// Of RAM that is all zeros. It takes no memory.

@@ -3,10 +3,10 @@
 ghost use Rattle.std.specs.Prelude.{◌≡◌, length};
 
 use crate::block::{BLOCK_SIZE, Block, write_copying, write_unshared};
-use crate::size::Size;
 use std::alloc::{AllocError, Global};
 use std::array::try_from_fn;
 use std::rc::Rc;
+use sv8_model::Size;
 
 /// How many bytes a half of a page has.
 pub(crate) const HALF_SIZE: usize = 2048;
@@ -38,7 +38,8 @@ impl Clone for HalfPage {
 
 impl HalfPage {
     ghost use Rattle.std.specs.Prelude.{◌≡◌, ◌<◌, ◌%◌, ◌/◌, replicate, IfOk, OnOk, OnErr, MatchBool};
-    ghost use Rattle.sv8_phys.specs.Memory.{bytes_in, with_value};
+    ghost use Rattle.sv8_model.specs.Size.{bytes_in};
+    ghost use Rattle.sv8_phys.specs.Memory.{with_value};
     ghost use Rattle.sv8_phys.specs.Parts.{half_bytes, part_of};
 
     /// A half of zeros.

@@ -4,9 +4,9 @@ ghost use Rattle.std.specs.Prelude.{◌≡◌, length};
 
 use crate::block::Block;
 use crate::half_page::{HALF_SIZE, HalfPage};
-use crate::size::Size;
 use std::alloc::AllocError;
 use std::rc::Rc;
+use sv8_model::Size;
 
 /// How many halves a page has.
 const HALVES: usize = 2;
@@ -32,7 +32,8 @@ impl Clone for Halves {
 
 impl Halves {
     ghost use Rattle.std.specs.Prelude.{◌≡◌, ◌<◌, ◌%◌, ◌/◌, ◌++◌, OnOk, OnErr, MatchBool};
-    ghost use Rattle.sv8_phys.specs.Memory.{bytes_in, with_value};
+    ghost use Rattle.sv8_model.specs.Size.{bytes_in};
+    ghost use Rattle.sv8_phys.specs.Memory.{with_value};
     ghost use Rattle.sv8_phys.specs.Parts.{half_bytes, page_bytes, part_of};
 
     /// These two.

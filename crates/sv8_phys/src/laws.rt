@@ -10,7 +10,7 @@ ghost use Rattle.sv8_phys.specs.Laws.{FootprintIsTold, WritesAreUnread, BitsAreP
 ghost use Rattle.sv8_phys.specs.Examples.{small, timer};
 ghost use Rattle.sv8_phys.specs.Notes.{told};
 
-use crate::size::Size;
+use sv8_model::Size;
 
 /// What is told of a step reads and writes every cell exactly as what was noted does.
 pub fn footprint_is_told()

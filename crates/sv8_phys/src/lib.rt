@@ -13,10 +13,8 @@ mod output;
 mod page;
 mod phys;
 mod ram;
-mod size;
 mod step_touches;
 mod timer;
-mod touch;
 mod watch;
 mod zeros;
 
@@ -24,9 +22,9 @@ pub use fault::BusError;
 pub use output::OutputPlace;
 pub use page::Page;
 pub use phys::{INPUT, OUTPUT, PENDING, Phys, TIMER_COUNT, TIMER_RELOAD, WAITING};
-pub use size::Size;
 pub use step_touches::{StepTouches, tell_all};
-pub use sv8_model::{AccessKind, Observation, Touch, TouchKind};
+pub use sv8_model::{
+    AccessKind, Arrivals, NoTouches, Observation, Size, Touch, TouchKind, Touches,
+};
 pub use timer::Timer;
-pub use touch::{NoTouches, Touches};
 pub use watch::Watch;

@@ -7,9 +7,9 @@ ghost use Rattle.sv8_phys.specs.Parts.{page_bytes};
 
 use crate::block::BLOCK_SIZE;
 use crate::halves::Halves;
-use crate::size::Size;
 use std::alloc::AllocError;
 use std::marker::Model;
+use sv8_model::Size;
 
 /// How many bytes a page has.
 pub(crate) const PAGE_SIZE: usize = 4096;

@@ -18,12 +18,11 @@ use crate::levels::Pending;
 use crate::output::{Output, OutputPlace};
 use crate::page::Page;
 use crate::ram::Ram;
-use crate::size::Size;
 use crate::timer::Timer;
 pub use devices::{INPUT, OUTPUT, PENDING, TIMER_COUNT, TIMER_RELOAD, WAITING};
 use std::alloc::{AllocError, Global};
 use std::marker::Model;
-use sv8_model::Level;
+use sv8_model::{Level, Size};
 
 /// Physical memory of `PAGES` pages of 4,096 bytes of RAM (1 to 65,536) from address 0, with the devices: the console, the
 /// timer, and the pending interrupt levels.

@@ -1,8 +1,9 @@
 //! RAM in pages.
 
 ghost use Rattle.std.specs.Prelude.{◌≡◌, ℕ, ◌+◌, ◌*◌, ◌≤◌, ◌<◌, ◌/◌, ◌%◌, ◌^◌, Some, length, replicate, slice_index_or, IfOk, IfSome, MatchOption, OnOk, OnErr};
+ghost use Rattle.sv8_model.specs.Size.{bytes_in};
 ghost use Rattle.sv8_phys.specs.Differences.{next_difference};
-ghost use Rattle.sv8_phys.specs.Memory.{bytes_in, ram_size, value_at, with_value, page_of, with_page};
+ghost use Rattle.sv8_phys.specs.Memory.{ram_size, value_at, with_value, page_of, with_page};
 ghost use Rattle.sv8_phys.specs.Parts.{half_bytes, part_of};
 
 use crate::block::{BLOCK_SIZE, Block};
@@ -10,11 +11,11 @@ use crate::directory::{Directory, put_page, write};
 use crate::half_page::{HALF_SIZE, HalfPage};
 use crate::halves::Halves;
 use crate::page::{PAGE_SIZE, Page};
-use crate::size::Size;
 use crate::zeros::Zeros;
 use std::alloc::{AllocError, Global};
 use std::marker::Model;
 use std::rc::Rc;
+use sv8_model::Size;
 
 /// `PAGES` pages of RAM from address 0 on. The directory may be shared with snapshots, and so may each half of a page and each block.
 #[derive(Drop)]

@@ -5,10 +5,9 @@ ghost use Rattle.sv8_model.specs.Does.{kept, noting, keeping};
 ghost use Rattle.sv8_model.specs.Footprint.{reads_word};
 ghost use Rattle.sv8_phys.specs.Notes.{is_told, levels_of, levels_in, levels_note, told};
 
-use crate::touch::Touches;
 use std::alloc::{AllocError, Global};
 use std::marker::Model;
-use sv8_model::{Observation, Touch};
+use sv8_model::{Observation, Touch, Touches};
 
 /// The notes of one step, in their order.
 ///

@@ -3,10 +3,9 @@
 ghost use Rattle.std.specs.Prelude.{◌≡◌};
 ghost use Rattle.sv8_model.specs.Does.{no_notes};
 
-use crate::touch::Touches;
 use std::alloc::{AllocError, Global};
 use std::marker::Model;
-use sv8_model::{Observation, Touch};
+use sv8_model::{Observation, Touch, Touches};
 
 /// The notes of one step, in their order. The room that they took stays for the next step.
 #[derive(Drop)]

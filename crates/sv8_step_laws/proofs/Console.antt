@@ -2,7 +2,8 @@
 use Rattle.std.proofs.Common.{ℕ, ◌+◌, ◌-◌, ◌≤◌, List, [], ◌∷◌, ◌++◌, length, arith}
 use Rattle.sv8_model.specs.Outside.{Outside}
 use Rattle.sv8_model.specs.Action.{Action, done, load_word, store_word, load_byte, store_byte, take_input, count_waiting, emit, ask_levels, clear_levels, expire, observe, after}
-use Rattle.sv8_phys.specs.Contents.{arrived, outside_of}
+use Rattle.sv8_time.specs.Schedule.{arrived}
+use Rattle.sv8_phys.specs.Contents.{outside_of}
 use Rattle.sv8_memory.specs.Events.{with_events}
 use Rattle.sv8_cpu.specs.Run.{step, eventful, step_action}
 use Rattle.sv8_step_laws.specs.Console.{ConsolesGrow}

@@ -16,11 +16,13 @@ use Rattle.sv8_model.specs.Action.{Action, done, load_word, store_word, take_inp
 use Rattle.sv8_model.proofs.Actions.{result_of-then, touches-then, observations-then}
 use Rattle.sv8_time.specs.Order.{Each}
 use Rattle.sv8_time.proofs.Parts.{each_map, each_append}
-use Rattle.sv8_phys.specs.declared.size.Size.{Size}
-use Rattle.sv8_phys.specs.declared.size.Size.TheVariants.{Byte, Half, Word, Double}
+use Rattle.sv8_model.specs.declared.size.Size.{Size}
+use Rattle.sv8_model.specs.declared.size.Size.TheVariants.{Byte, Half, Word, Double}
+use Rattle.sv8_model.specs.Size.{bytes_in}
 use Rattle.sv8_phys.specs.declared.timer.Timer.{Timer}
-use Rattle.sv8_phys.specs.Memory.{bytes_in, ram_size}
-use Rattle.sv8_phys.specs.Contents.{arrived, outside_of}
+use Rattle.sv8_phys.specs.Memory.{ram_size}
+use Rattle.sv8_time.specs.Schedule.{arrived}
+use Rattle.sv8_phys.specs.Contents.{outside_of}
 use Rattle.sv8_phys.specs.Devices.{stored_with, answered as device_answered, ram_load, ram_store, device_load, device_store, outside_load, outside_store, tick, input_address, waiting_address, output_address, count_address, reload_address, pending_address}
 use Rattle.sv8_mmu.specs.declared.access_type.AccessType.{AccessType}
 use Rattle.sv8_mmu.specs.declared.fault_type.FaultType.{FaultType}

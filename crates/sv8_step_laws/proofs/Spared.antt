@@ -10,8 +10,8 @@ use Rattle.sv8_model.specs.Footprint.{is_touch_of}
 use Rattle.sv8_model.specs.Outside.{Outside, with_byte, with_word, word_address}
 use Rattle.sv8_model.specs.Action.{Action, done, load_word, store_word, load_byte, store_byte, take_input, count_waiting, emit, ask_levels, clear_levels, expire, observe, after, touches}
 use Rattle.sv8_model.proofs.Common.{word_other, length-with_word}
-use Rattle.sv8_time.specs.Schedule.{BytePoke, Schedule, pokes_of_step}
-use Rattle.sv8_phys.specs.Contents.{arrived, outside_of}
+use Rattle.sv8_time.specs.Schedule.{arrived, BytePoke, Schedule, pokes_of_step}
+use Rattle.sv8_phys.specs.Contents.{outside_of}
 use Rattle.sv8_memory.specs.Events.{poked, with_events}
 use Rattle.sv8_cpu.specs.State.{State}
 use Rattle.sv8_cpu.specs.Run as run

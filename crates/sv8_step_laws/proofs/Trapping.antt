@@ -15,10 +15,11 @@ use Rattle.sv8_model.specs.Action.{Action, done, observe, ◌>>=◌, result_of, 
 use Rattle.sv8_model.proofs.Actions.{result_of-then, observations-then}
 use Rattle.sv8_time.specs.Order.{Each}
 use Rattle.sv8_time.proofs.Parts.{each_append}
-use Rattle.sv8_phys.specs.declared.size.Size.{Size}
-use Rattle.sv8_phys.specs.declared.size.Size.TheVariants.{Byte, Half, Word, Double}
+use Rattle.sv8_model.specs.declared.size.Size.{Size}
+use Rattle.sv8_model.specs.declared.size.Size.TheVariants.{Byte, Half, Word, Double}
 use Rattle.sv8_phys.specs.declared.timer.Timer.{Timer}
-use Rattle.sv8_phys.specs.Contents.{arrived, outside_of}
+use Rattle.sv8_time.specs.Schedule.{arrived}
+use Rattle.sv8_phys.specs.Contents.{outside_of}
 use Rattle.sv8_phys.specs.Memory.{ram_size}
 use Rattle.sv8_phys.specs.Devices.{ram_load, ram_store, load, store}
 use Rattle.sv8_mmu.specs.declared.access_type.AccessType.{AccessType}

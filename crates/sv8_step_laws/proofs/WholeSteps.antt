@@ -7,9 +7,9 @@ use Rattle.std.proofs.Math.Seq.{drop-nil}
 use Rattle.sv8_model.specs.Outside.{Outside, without_oldest}
 use Rattle.sv8_model.specs.Action.{Action, done, load_word, store_word, load_byte, store_byte, take_input, count_waiting, emit, ask_levels, clear_levels, expire, observe, result_of, after, touches}
 use Rattle.sv8_time.specs.Order.{Each, Rising}
-use Rattle.sv8_time.specs.Schedule.{Schedule, Input, IsTimeline, input_before, is_input_at, bytes_of_step}
+use Rattle.sv8_time.specs.Schedule.{Schedule, arrived, Input, IsTimeline, input_before, is_input_at, bytes_of_step}
 use Rattle.sv8_phys.specs.Memory.{ram_size}
-use Rattle.sv8_phys.specs.Contents.{arrived, outside_of}
+use Rattle.sv8_phys.specs.Contents.{outside_of}
 use Rattle.sv8_source.specs.Text.{Text}
 use Rattle.sv8_cpu.specs.Step.{action}
 use Rattle.sv8_memory.specs.Events.{with_events}

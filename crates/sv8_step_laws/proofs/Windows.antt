@@ -38,10 +38,11 @@ use Rattle.sv8_iu.specs.declared.memory.TransferKind.TheVariants as kinds
 use Rattle.sv8_iu.specs.Memory.{transfer_of, size_of, odd_register, with_pair, finished_transfer, transferred_data}
 use Rattle.sv8_iu.specs.Instruction.{trapped, complete}
 use Rattle.sv8_memory.specs.Units.{Units}
-use Rattle.sv8_phys.specs.Contents.{arrived, outside_of}
+use Rattle.sv8_time.specs.Schedule.{arrived}
+use Rattle.sv8_phys.specs.Contents.{outside_of}
 use Rattle.sv8_phys.specs.Memory.{ram_size}
-use Rattle.sv8_phys.specs.declared.size.Size.{Size}
-use Rattle.sv8_phys.specs.declared.size.Size.TheVariants.{Byte, Half, Word, Double}
+use Rattle.sv8_model.specs.declared.size.Size.{Size}
+use Rattle.sv8_model.specs.declared.size.Size.TheVariants.{Byte, Half, Word, Double}
 use Rattle.sv8_cpu.specs.State.{inner_of}
 use Rattle.sv8_cpu.specs.Step.{Inner, observed_trap, executed, fetched, finished_access, instruction, continued, requested, interruptible, awake, action}
 use Rattle.sv8_cpu.specs.Run as run

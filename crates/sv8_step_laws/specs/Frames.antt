@@ -6,10 +6,10 @@ use Rattle.sv8_model.specs.Action.{result_of, after, touches}
 use Rattle.sv8_model.specs.Cells.{Cell, ram_byte, waiting_bytes, pending_level, Value, byte, held, get, is_read, is_written}
 use Rattle.sv8_model.specs.Footprint.{reads_input}
 use Rattle.sv8_model.specs.Frame.{Cells, Alike, Unread, remaining, IsSound}
-use Rattle.sv8_time.specs.Schedule.{Schedule, BytePoke, IsTimeline, pokes_of_step, requests_of_step, bytes_of_step}
+use Rattle.sv8_time.specs.Schedule.{Schedule, arrived, BytePoke, IsTimeline, pokes_of_step, requests_of_step, bytes_of_step}
 use Rattle.sv8_time.specs.declared.requests.Request.{Request}
 use Rattle.sv8_phys.specs.Memory.{ram_size}
-use Rattle.sv8_phys.specs.Contents.{arrived, outside_of}
+use Rattle.sv8_phys.specs.Contents.{outside_of}
 use Rattle.sv8_source.specs.Text.{Text}
 use Rattle.sv8_cpu.specs.Step.{Inner, action}
 use Rattle.sv8_memory.specs.Events.{poked, marked}

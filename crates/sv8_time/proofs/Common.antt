@@ -4,5 +4,6 @@ pub use Rattle.sv8_time.proofs.Places.{IsSame, others}
 pub use Rattle.sv8_time.proofs.Orders.{key_order, input_order}
 pub use Rattle.sv8_time.proofs.KeyPlaces.{same_place}
 pub use Rattle.sv8_time.proofs.Splits.{dropped_elsewhere, dropped_there, placed_elsewhere, placed_there, split}
+pub use Rattle.sv8_time.proofs.ArrivedBytes.{length-arrived}
 pub use Rattle.sv8_time.proofs.Nexts.{next_poke_is, next_request_is}
 pub use Rattle.sv8_time.proofs.SoundEvents.{poke_bound, request_bound}

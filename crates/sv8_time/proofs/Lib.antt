@@ -9,5 +9,6 @@ pub mod Nexts
 pub mod PokeEdits
 pub mod InputPlaces
 pub mod BlockPlaces
+pub mod ArrivedBytes
 pub mod SoundEvents
 pub mod Common

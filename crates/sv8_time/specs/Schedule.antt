@@ -138,6 +138,10 @@ byte_count (i ∷ inputs) = length i.bytes + byte_count inputs
 abbrev pub bytes_below : ℕ → List Input → ℕ
 bytes_below before inputs = byte_count (filter (λ i. nat_lt i.step before) inputs)
 
+-- the bytes that came in at the steps below one, in the order of the steps
+abbrev pub arrived : ℕ → Schedule → List ℕ
+arrived before schedule = input_bytes (filter (λ i. nat_lt i.step before) schedule.inputs)
+
 -- edits of the whole
 
 abbrev pub with_poke_byte : ℕ → ℕ → ℕ → Schedule → Schedule

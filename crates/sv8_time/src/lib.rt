@@ -1,6 +1,7 @@
 //! The timeline of the outside events of a machine: pokes, input bytes and interrupt requests by step.
 #![tactic(auto)]
 
+mod arrivals;
 mod block;
 mod edit;
 mod fault;

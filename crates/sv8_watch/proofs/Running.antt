@@ -1,9 +1,8 @@
 -- A machine that runs after a step ran before it, and did not come to error mode in it.
 use Rattle.std.proofs.Common.{◌≡◌, ℕ, ◌+◌, Bool, true, false, Option, Some, None, if◌then◌else◌, refl, sym, ◌∙◌, ap}
 use Rattle.std.proofs.lemmas.Bool.{true≢false}
-use Rattle.sv8_time.specs.Schedule.{Schedule}
+use Rattle.sv8_time.specs.Schedule.{Schedule, arrived}
 use Rattle.sv8_phys.specs.Memory.{ram_size}
-use Rattle.sv8_phys.specs.Contents.{arrived}
 use Rattle.sv8_model.specs.Action.{done}
 use Rattle.sv8_cpu.specs.State.{State, inner_of}
 use Rattle.sv8_cpu.specs.Step.{awake, action}

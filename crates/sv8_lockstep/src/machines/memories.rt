@@ -2,7 +2,8 @@
 
 ghost use Rattle.std.specs.Prelude.{◌≡◌, ℕ, ◌%◌, ◌≤◌, List, MatchBool, IfOk, IfSome, OnOk};
 ghost use Rattle.sv8_model.specs.Does.{DoesUnnoted};
-ghost use Rattle.sv8_phys.specs.Memory.{bytes_in, ram_size};
+ghost use Rattle.sv8_model.specs.Size.{bytes_in};
+ghost use Rattle.sv8_phys.specs.Memory.{ram_size};
 ghost use Rattle.sv8_phys.specs.Contents.{outside_of};
 ghost use Rattle.sv8_iu.specs.Requests.{space_of};
 ghost use Rattle.sv8_memory.specs.Feeding.{bytes_fed, IsFed};

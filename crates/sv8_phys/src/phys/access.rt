@@ -3,7 +3,8 @@
 ghost use Rattle.std.specs.Prelude.{◌≡◌, ℕ, ◌+◌, ◌*◌, ◌/◌, ◌%◌, ◌<◌, ◌++◌, ◌∷◌, [], true, false, List, IfOk, OnOk, OnErr};
 ghost use Rattle.sv8_model.specs.Does.{Does, DoesUnnoted, noting, keeping};
 ghost use Rattle.sv8_model.specs.Outside.{word_address};
-ghost use Rattle.sv8_phys.specs.Memory.{bytes_in, ram_size};
+ghost use Rattle.sv8_model.specs.Size.{bytes_in};
+ghost use Rattle.sv8_phys.specs.Memory.{ram_size};
 ghost use Rattle.sv8_phys.specs.Contents.{outside_of};
 ghost use Rattle.sv8_phys.specs.Devices.{load, store, ram_load, ram_store, stored_with};
 ghost use Rattle.sv8_phys.specs.Notes.{load_touches, store_touches};
@@ -12,11 +13,9 @@ ghost use Rattle.sv8_phys.specs.Calls.{loaded};
 
 use crate::fault::BusError;
 use crate::phys::Phys;
-use crate::size::Size;
 use crate::timer::Timer;
-use crate::touch::{NoTouches, Touches};
 use std::alloc::AllocError;
-use sv8_model::Touch;
+use sv8_model::{NoTouches, Size, Touch, Touches};
 
 impl<const PAGES: usize> Phys<PAGES> {
     /// Loads from RAM or a device. A number of more than one byte has its most significant byte at the lowest address.

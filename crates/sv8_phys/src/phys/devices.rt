@@ -10,11 +10,9 @@ ghost use Rattle.sv8_phys.specs.Calls.{ticked};
 
 use crate::fault::BusError;
 use crate::phys::Phys;
-use crate::size::Size;
 use crate::timer::Timer;
-use crate::touch::{NoTouches, Touches};
 use std::alloc::AllocError;
-use sv8_model::{Level, Touch};
+use sv8_model::{Level, NoTouches, Size, Touch, Touches};
 
 /// The console's input, a load of which takes the oldest waiting byte.
 pub const INPUT: u64 = 0x8000_0000;

@@ -1,6 +1,5 @@
 use Rattle.std.proofs.Common.{◌≡◌, ◌∙◌, ℕ, List, refl, ap}
 use Rattle.sv8_time.specs.Schedule.{Schedule}
-use Rattle.sv8_phys.proofs.Common.{length-arrived}
 use Rattle.sv8_memory.specs.Events.{with_events}
 use Rattle.sv8_memory.specs.Feeding.{bytes_fed, IsFed}
 use Rattle.sv8_memory.specs.declared.feed.Feed.{Feed}
@@ -27,6 +26,6 @@ returns-clause-ok g c =
     let m = c.args.parts.now.memory in
     let begun = none_taken c.of_step.result c.args.timeline.now c.args.n c.args.parts.now.memory c.happen.new.self c.in_ok-happen.ensures (c.of_step.ensures.begins c.args.parts.now.memory.phys c.requires.delivered) in
     left _ _ _ c.happen.new.self.phys c.act.new.self.memory.phys (inner_of_parts c.act.new.self) _ _ _
-    (rw (length-arrived _ _) begun) (rw (length-arrived _ _) c.in_ok-act.ensures.fed) c.in_ok-act.ensures.ok refl refl refl refl
+    begun c.in_ok-act.ensures.fed c.in_ok-act.ensures.ok refl refl refl refl
     ∙ ap {A = Physical g.row.PAGES} {B = State} (λ m. acted_on (bytes_fed c.of_step.result) (state_over p m) (step_action g.row.NW g.row.PAGES (state_over p m))) c.in_ok-happen.ensures
     ∙ ap {A = List ℕ} {B = State} (λ bytes. acted_on bytes (eventful c.args.timeline.now c.args.n (state_over p m)) (step_action g.row.NW g.row.PAGES (eventful c.args.timeline.now c.args.n (state_over p m)))) c.of_step.ensures.arrived

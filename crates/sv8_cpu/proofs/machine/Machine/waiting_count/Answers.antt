@@ -1,6 +1,6 @@
 use Rattle.std.proofs.Common.{arith}
-use Rattle.sv8_phys.specs.Contents.{arrived}
-use Rattle.sv8_phys.proofs.Common.{length-arrived}
+use Rattle.sv8_time.specs.Schedule.{arrived}
+use Rattle.sv8_time.proofs.Common.{length-arrived}
 use Rattle.sv8_cpu.proofs.Leaving.{length-dropped}
 use Rattle.sv8_cpu.proofs.machine.Machine.waiting_count.Goals as goal
 

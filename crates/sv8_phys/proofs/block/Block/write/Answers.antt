@@ -4,7 +4,7 @@ use Rattle.byteorder.specs.Endian.{big_bytes}
 use Rattle.sv8_model.specs.Outside.{with_byte}
 use Rattle.sv8_phys.specs.Memory.{with_value}
 use Rattle.sv8_phys.proofs.Numbers.{put_sets, half_sets, double_sets}
-use Rattle.sv8_phys.specs.declared.size.Size.TheVariants.{Byte, Half, Double}
+use Rattle.sv8_model.specs.declared.size.Size.TheVariants.{Byte, Half, Double}
 use Rattle.sv8_phys.proofs.ByteLemmas.{written_fits}
 use Rattle.sv8_phys.proofs.block.Block.write.Goals as goal
 

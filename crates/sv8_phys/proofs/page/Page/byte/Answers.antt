@@ -1,5 +1,5 @@
 use Rattle.std.proofs.Common.{◌/◌, ◌%◌, get_or, ap, ◌∙◌, arith}
-use Rattle.sv8_phys.specs.declared.size.Size.TheVariants.{Byte}
+use Rattle.sv8_model.specs.declared.size.Size.TheVariants.{Byte}
 use Rattle.sv8_phys.specs.Memory.{value_at}
 use Rattle.sv8_phys.specs.Parts.{page_bytes}
 use Rattle.sv8_phys.proofs.OnePart.{value_in_part}

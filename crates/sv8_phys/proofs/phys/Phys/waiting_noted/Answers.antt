@@ -1,6 +1,6 @@
 use Rattle.std.proofs.Common.{rules}
-use Rattle.sv8_phys.proofs.Arrivals.{counts_waiting}
+use Rattle.sv8_phys.proofs.Console.{counts_waiting}
 use Rattle.sv8_phys.proofs.phys.Phys.waiting_noted.Goals as goal
 
 pub returns-clause-ok : goal.returns-clause-ok
-returns-clause-ok g c = counts_waiting _ c.args.self.now _ c.args.timeline.now _ _ (search rules) _ (search rules)
+returns-clause-ok g c = counts_waiting _ c.args.self.now _ _ _ (search rules) _ (search rules)

@@ -3,8 +3,9 @@
 ghost use Rattle.std.specs.Prelude.{◌≡◌, ◌∷◌, [], true, OnOk, OnErr};
 ghost use Rattle.sv8_model.specs.Does.{keeping, noting};
 
+use crate::observation::Observation;
+use crate::touch::Touch;
 use std::alloc::AllocError;
-use sv8_model::{Observation, Touch};
 
 /// What takes notes of touches and of observations.
 pub trait Touches {

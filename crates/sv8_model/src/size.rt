@@ -1,7 +1,7 @@
 //! The sizes of accesses.
 
 ghost use Rattle.std.specs.Prelude.{◌≡◌, ◌≤◌};
-ghost use Rattle.sv8_phys.specs.Memory.{bytes_in};
+ghost use Rattle.sv8_model.specs.Size.{bytes_in};
 
 /// How much an access loads or stores (Appendix B.1 and B.4 of the manual).
 #[derive(Clone, Copy, PartialEq, Eq, Debug)]
