@@ -1,6 +1,6 @@
 //! The bytes of a statement.
 
-ghost use Rattle.std.specs.Prelude.{ℕ, List, Result, [], ◌≡◌, ℤ, pos, negsuc, ◌≤ℤ◌, ◌-◌, ◌^◌, ◌++◌, IsOk, IfOk, OnErr, MatchResult, Ok, Err};
+ghost use Rattle.std.specs.Prelude.{ℕ, List, Result, ◌≡◌, ℤ, pos, negsuc, ◌≤ℤ◌, ◌-◌, ◌^◌, ◌++◌, IsOk, IfOk, MatchResult, Ok, Err};
 ghost use Rattle.std.specs.Int.{w16, w32, to_be_bytes};
 ghost use Rattle.sv8_model.specs.Refused.{ByFault};
 ghost use Rattle.sv8_syntax.specs.declared.fault.LineFault.{LineFault};

@@ -1,6 +1,6 @@
 //! The operands of an instruction, as its fields hold them.
 
-ghost use Rattle.std.specs.Prelude.{◌≡◌, ℤ, pos, negsuc, ◌≤ℤ◌, ◌^◌, ◌-◌, IfOk};
+ghost use Rattle.std.specs.Prelude.{◌≡◌, ℤ, pos, negsuc, ◌≤ℤ◌, ◌-◌};
 ghost use Rattle.sv8_asm.specs.Code.{least_immediate, most_immediate, immediate, second_source, upper_bits, below};
 
 use crate::symbols::Symbols;

@@ -1,6 +1,6 @@
 //! How far a statement moves the location.
 
-ghost use Rattle.std.specs.Prelude.{◌≡◌, ℤ, pos, negsuc, ◌≤ℤ◌, ◌^◌, ◌-◌, ◌*◌, ◌+◌, ◌≤◌, ◌<◌, IfSome, option_map};
+ghost use Rattle.std.specs.Prelude.{◌≡◌, ℤ, pos, negsuc, ◌≤ℤ◌, ◌^◌, ◌-◌, ◌*◌, ◌≤◌, ◌<◌, IfSome};
 ghost use Rattle.sv8_asm.specs.Size.{aligned, plain, fits_simm13, has_no_low_bits, set_count, bytes_of_width, is_alignment, motion_size, text_size, size};
 
 use crate::value::word_of_number;

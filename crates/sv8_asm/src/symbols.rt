@@ -1,7 +1,7 @@
 //! The names of a source and its local labels, with what they stand for.
 
-ghost use Rattle.std.specs.Prelude.{◌≡◌, ℕ, ℤ, ◌<◌, List, [], ◌∷◌, ◌++◌, map, IsSome, OnOk, OnErr, IfOk, MatchBool, None, Some, option_map};
-ghost use Rattle.sv8_asm.specs.Names.{Names, Reference, no_names, defined, with_name, with_mark, marks_of, last_of, first_behind, reference_of, reference_to, get};
+ghost use Rattle.std.specs.Prelude.{◌≡◌, ℕ, ℤ, ◌<◌, List, [], ◌∷◌, ◌++◌, map, IsSome, OnOk, OnErr, IfOk, MatchBool, None};
+ghost use Rattle.sv8_asm.specs.Names.{Names, no_names, defined, with_name, with_mark, first_behind, get};
 ghost use Rattle.sv8_asm.specs.Index.{Answers, pair_of};
 
 use crate::marks::Marks;

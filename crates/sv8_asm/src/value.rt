@@ -1,8 +1,8 @@
 //! Values of expressions. They are whole numbers, so a sum never wraps.
 
-ghost use Rattle.std.specs.Prelude.{◌≡◌, ℤ, pos, negsuc, neg_ℤ, ◌≤ℤ◌, ◌<◌, ◌^◌, ◌-◌, IfOk, IfSome};
+ghost use Rattle.std.specs.Prelude.{◌≡◌, ℤ, pos, negsuc, ◌≤ℤ◌, ◌<◌, ◌^◌, ◌-◌, IfOk, IfSome};
 ghost use Rattle.sv8_model.specs.Words.{word_of_number, signed};
-ghost use Rattle.sv8_asm.specs.Value.{value_of, within, is_outside, word_of, whole_words, displacement, call_words, call_displacement, call_target};
+ghost use Rattle.sv8_asm.specs.Value.{value_of, within, word_of, whole_words, displacement, call_words, call_displacement, call_target};
 
 use crate::symbols::Symbols;
 use sv8_syntax::{Expr, LineFault};

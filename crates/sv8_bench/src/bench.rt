@@ -1,6 +1,6 @@
 //! The workbench.
 
-ghost use Rattle.std.specs.Prelude.{◌≡◌, ℕ, ◌+◌, ◌*◌, ◌<◌, ◌≤◌, length, None, Some, IfOk, IfErr, OnOk, OnErr, map, option_map};
+ghost use Rattle.std.specs.Prelude.{◌≡◌, ◌+◌, ◌*◌, ◌<◌, ◌≤◌, length, None, Some, IfOk, IfErr, OnOk, OnErr, map, option_map};
 ghost use Rattle.sv8_model.specs.Refused.{ByFault};
 ghost use Rattle.sv8_source.specs.Text.{texts, replaced};
 ghost use Rattle.sv8_source.specs.Listing.{listing, numbered};

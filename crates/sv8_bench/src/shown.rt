@@ -1,7 +1,6 @@
 //! The state of the machine as it is shown.
 
-ghost use Rattle.std.specs.Prelude.{◌≡◌, ◌<◌, ◌≤◌, ℕ, List};
-ghost use Rattle.sv8_regs.specs.Ring.{read};
+ghost use Rattle.std.specs.Prelude.{◌≡◌, ◌<◌, ◌≤◌};
 ghost use Rattle.sv8_time.specs.Schedule.{bytes_below};
 ghost use Rattle.sv8_bench.specs.Shown.{shown_registers, shown_state};
 

@@ -1,7 +1,5 @@
 //! Where virtual addresses lie, by tables at each level.
 
-ghost use Rattle.std.specs.Prelude.{◌≡◌};
-
 use std::alloc::{AllocError, Global};
 use std::test::*;
 use sv8_cpu::{Machine, Work};

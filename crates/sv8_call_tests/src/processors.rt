@@ -1,7 +1,5 @@
 //! Whether two machines have the same processor: what each instruction alone makes different.
 
-ghost use Rattle.std.specs.Prelude.{◌≡◌};
-
 use std::alloc::{AllocError, Global};
 use std::test::*;
 use sv8_cpu::{Machine, Work};

@@ -20,7 +20,7 @@ struct Notes {
 }
 
 impl Touches for Notes {
-    ghost use Rattle.std.specs.Prelude.{Bool, true};
+    ghost use Rattle.std.specs.Prelude.{true};
 
     const KEEPS: bool = true;
 

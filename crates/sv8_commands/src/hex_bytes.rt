@@ -1,5 +1,5 @@
 //! Bytes that stand as digits in a line.
-ghost use Rattle.std.specs.Prelude.{true, ◌≡◌, ℕ, ◌+◌, ◌-◌, ◌*◌, ◌%◌, ◌<◌, ◌≤◌, ◌++◌, ◌∷◌, [], List, length, drop, take, Some, None};
+ghost use Rattle.std.specs.Prelude.{true, ◌≡◌, ℕ, ◌+◌, ◌-◌, ◌*◌, ◌%◌, ◌<◌, List, length, take, Some, None};
 ghost use Rattle.sv8_commands.specs.Words.{is_hex, hex_value, all_hex, bytes_in, is_bytes, bytes_of_word};
 
 use crate::words::{hex_value, is_hex};

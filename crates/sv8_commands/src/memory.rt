@@ -1,5 +1,5 @@
 //! Words of memory and bytes of output, which are put as their text grows: it may be longer than any buffer.
-ghost use Rattle.std.specs.Prelude.{◌≡◌, ℕ, ◌+◌, ◌*◌, ◌<◌, ◌≤◌, ◌++◌, List, [], length};
+ghost use Rattle.std.specs.Prelude.{◌+◌, ◌*◌, ◌<◌, ◌≤◌, [], length};
 ghost use Rattle.sv8_commands.specs.Put.{Gains};
 ghost use Rattle.sv8_commands.specs.Text.{numbered_text, memory_line, memory_text, output_byte, output_end, output_text};
 

@@ -1,5 +1,5 @@
 //! Bytes to a writer that may fail. Each function says what has reached the writer, also where it fails.
-ghost use Rattle.std.specs.Prelude.{◌≡◌, ℕ, ◌+◌, ◌-◌, ◌<◌, ◌≤◌, ◌++◌, ◌∷◌, [], List, length, flat_map, OnOk};
+ghost use Rattle.std.specs.Prelude.{◌≡◌, ◌+◌, ◌-◌, ◌<◌, ◌≤◌, ◌++◌, [], length, flat_map, OnOk};
 ghost use Rattle.std.specs.Io.KnownBytes.{Keeps};
 ghost use Rattle.sv8_session.specs.Put.{Puts};
 ghost use Rattle.sv8_commands.specs.Put.{Gains, refusal_in};

@@ -1,5 +1,5 @@
 //! Text in a buffer of a fixed size, which takes no memory.
-ghost use Rattle.std.specs.Prelude.{◌≡◌, ℕ, ◌+◌, ◌-◌, ◌*◌, ◌/◌, ◌%◌, ◌<◌, ◌≤◌, ◌++◌, ◌∷◌, [], List, length, decimal};
+ghost use Rattle.std.specs.Prelude.{◌≡◌, ℕ, ◌+◌, ◌-◌, ◌/◌, ◌%◌, ◌<◌, ◌≤◌, ◌++◌, [], List, length, decimal};
 ghost use Rattle.sv8_commands.specs.Text.{hex_digit, hex_byte, hex_word};
 
 use arrayvec::ArrayVec;

@@ -1,6 +1,6 @@
 //! Lines and words of answers, added to a text.
 
-ghost use Rattle.std.specs.Prelude.{◌≡◌, ℕ, ◌+◌, ◌*◌, ◌≤◌, ◌++◌, List, [], length, codes, decimal, flat_map};
+ghost use Rattle.std.specs.Prelude.{◌≡◌, ◌+◌, ◌*◌, ◌≤◌, ◌++◌, length, codes, flat_map};
 ghost use Rattle.sv8_commands.specs.Text.{hex_word, ok_line, refusal_line, at_line, words_line};
 ghost use Rattle.sv8_commands.specs.Put.{refusal_in};
 

@@ -1,5 +1,5 @@
 //! The words of a line, and the numbers among them.
-ghost use Rattle.std.specs.Prelude.{true, ◌≡◌, ℕ, ◌+◌, ◌-◌, ◌*◌, ◌^◌, ◌<◌, ◌≤◌, ◌++◌, ◌∷◌, [], List, length, drop, Some, None, IfSome, MatchOption};
+ghost use Rattle.std.specs.Prelude.{true, ◌≡◌, ◌+◌, ◌-◌, ◌*◌, ◌^◌, ◌<◌, ◌≤◌, ◌∷◌, [], Some, None, IfSome, MatchOption};
 ghost use Rattle.sv8_commands.specs.Words.{is_gap, words_of, number_of_word, starts_word, is_hex, hex_value, hex_of_word};
 
 /// The number of 1 to 10 decimal digits, below 2^32.

@@ -3,8 +3,8 @@
 ghost use Rattle.std.specs.Prelude.{◌≡◌, ◌+◌, ◌<◌, ◌≤◌, ◌/◌, [], IfOk, OnOk, OnErr};
 ghost use Rattle.sv8_model.specs.Does.{noting, keeping};
 ghost use Rattle.sv8_phys.specs.Notes.{told};
-ghost use Rattle.sv8_cpu.specs.Run.{acted_on, eventful, step_action, touched, seen, step, footprint, observed};
-ghost use Rattle.sv8_time.specs.Schedule.{arrived, bytes_below};
+ghost use Rattle.sv8_cpu.specs.Run.{seen, step, footprint, observed};
+ghost use Rattle.sv8_time.specs.Schedule.{bytes_below};
 ghost use Rattle.sv8_trap.specs.Table.{taken};
 ghost use Rattle.sv8_phys.specs.Memory.{ram_size};
 ghost use Rattle.sv8_cpu.specs.Step.{instruction};

@@ -1,13 +1,13 @@
 //! The parts of a machine, and what a step does with them behind its events.
 
-ghost use Rattle.std.specs.Prelude.{◌≡◌, ◌<◌, ◌≤◌, ◌/◌, [], None, IfOk, OnOk};
+ghost use Rattle.std.specs.Prelude.{◌≡◌, ◌<◌, ◌/◌, [], None, OnOk};
 ghost use Rattle.sv8_isa.specs.Registers.{HasRegisters};
 ghost use Rattle.sv8_model.specs.Does.{kept, noting, keeping};
 ghost use Rattle.sv8_cpu.specs.Run.{step};
 ghost use Rattle.sv8_trap.specs.Table.{taken};
 ghost use Rattle.sv8_phys.specs.Memory.{ram_size};
 ghost use Rattle.sv8_iu.specs.Instruction.{raised};
-ghost use Rattle.sv8_cpu.specs.Step.{refusal_seen, answered, executed, carried_out, fetched, instruction, continued, requested, interruptible, awake, action};
+ghost use Rattle.sv8_cpu.specs.Step.{refusal_seen, answered, executed, carried_out, fetched, instruction, continued, requested, interruptible, action};
 ghost use Rattle.sv8_memory.specs.Feeding.{IsFed};
 ghost use Rattle.sv8_memory.specs.View.{units_of};
 ghost use Rattle.sv8_cpu.specs.Whole.{inner_of_parts, Acts};

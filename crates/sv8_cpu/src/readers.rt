@@ -1,6 +1,6 @@
 //! What is read of a machine, and what its keeper does with its state.
 
-ghost use Rattle.std.specs.Prelude.{◌≡◌, ◌<◌, ◌≤◌, ◌%◌, ◌/◌, ◌^◌, length, drop, false, option_map, IfOk, IfSome, MatchBool, slice_index_or, slice_set, OnOk, OnErr};
+ghost use Rattle.std.specs.Prelude.{◌≡◌, ◌<◌, ◌≤◌, ◌%◌, ◌/◌, ◌^◌, length, false, option_map, IfOk, IfSome, MatchBool, slice_index_or, slice_set, OnOk, OnErr};
 ghost use Rattle.sv8_model.specs.Levels.{levels_word};
 ghost use Rattle.sv8_regs.specs.Current.{other_windows};
 ghost use Rattle.sv8_model.specs.Outside.{word_of};

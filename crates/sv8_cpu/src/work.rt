@@ -1,6 +1,6 @@
 //! The count of steps.
 
-ghost use Rattle.std.specs.Prelude.{◌≡◌, ◌+◌, min};
+ghost use Rattle.std.specs.Prelude.{◌≡◌};
 ghost use Rattle.sv8_cpu.specs.Work.{counted};
 
 use std::marker::Model;

@@ -24,7 +24,7 @@ struct Told {
 }
 
 impl Touches for Told {
-    ghost use Rattle.std.specs.Prelude.{Bool, true, false};
+    ghost use Rattle.std.specs.Prelude.{true, false};
     ghost use Rattle.sv8_model.specs.Does.{touching};
 
     const KEEPS: bool = true;

@@ -1,6 +1,6 @@
 //! Records a run that traps: its trap is noted, and a copy of the run has the note, also where memory was refused at first.
 
-ghost use Rattle.std.specs.Prelude.{◌+◌, ◌≡◌, ◌≤◌};
+ghost use Rattle.std.specs.Prelude.{◌≡◌, ◌≤◌};
 ghost use Rattle.sv8_time.specs.Schedule.{bytes_below};
 ghost use Rattle.sv8_trace.specs.Recording.{last_point, recorded};
 

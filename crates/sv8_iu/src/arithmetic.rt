@@ -1,8 +1,7 @@
 //! Arithmetic and logic (Appendices B.9, B.11 to B.19).
 
-ghost use Rattle.std.specs.Prelude.{◌≡◌, ◌<◌, ◌≤◌, ◌*◌, ◌%◌, ◌^◌, [], true, not, MatchBool};
+ghost use Rattle.std.specs.Prelude.{◌≡◌, ◌<◌, ◌^◌, true};
 ghost use Rattle.sv8_isa.specs.Registers.{OperandHasRegister};
-ghost use Rattle.sv8_regs.specs.Ring.{read};
 ghost use Rattle.sv8_trap.specs.Table.{taken};
 ghost use Rattle.sv8_iu.specs.Operands.{operand_value};
 ghost use Rattle.sv8_iu.specs.Arithmetic.{codes_of, icc_of_psr, finished, finished_product, finished_quotient, operated, arithmetic, divides, arithmetic_traps, traps_on_overflow, tagged_of, tagged, tagged_traps, stepped, multiply_step, shift_form, shifted, upper_set};

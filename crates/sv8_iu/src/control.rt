@@ -1,6 +1,6 @@
 //! Control transfer (Appendices B.21 and B.24 to B.27).
 
-ghost use Rattle.std.specs.Prelude.{◌≡◌, ◌<◌, ◌≤◌, ◌*◌, ◌%◌, ◌^◌, [], true, None};
+ghost use Rattle.std.specs.Prelude.{◌≡◌, ◌<◌, ◌%◌, true, None};
 ghost use Rattle.sv8_isa.specs.Registers.{OperandHasRegister};
 ghost use Rattle.sv8_trap.specs.Table.{taken};
 ghost use Rattle.sv8_trap.specs.Entry.{returned};

@@ -1,11 +1,10 @@
 //! The three parts of each instruction: what it raises, the access that it asks for, and its end.
 
-ghost use Rattle.std.specs.Prelude.{◌≡◌, ◌<◌, ◌≤◌, ◌%◌, ◌*◌, ◌^◌, ◌⊎◌, None};
-ghost use Rattle.sv8_isa.specs.Registers.{HasRegisters, OperandHasRegister};
+ghost use Rattle.std.specs.Prelude.{◌≡◌, ◌<◌, ◌⊎◌, None};
+ghost use Rattle.sv8_isa.specs.Registers.{HasRegisters};
 ghost use Rattle.sv8_trap.specs.Table.{taken};
 ghost use Rattle.sv8_isa.specs.Table.{is_queue_store};
 ghost use Rattle.sv8_iu.specs.Operands.{sum_of_sources};
-ghost use Rattle.sv8_iu.specs.Memory.{memory_traps};
 ghost use Rattle.sv8_iu.specs.Instruction.{disabled_traps, immediate_traps, raised, trapped, data_space, asked, complete};
 ghost use Rattle.sv8_iu.specs.Requests.{space_of, IsAligned};
 

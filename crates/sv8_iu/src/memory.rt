@@ -1,6 +1,6 @@
 //! Loads, stores, LDSTUB and SWAP (Appendices B.1 to B.8).
 
-ghost use Rattle.std.specs.Prelude.{◌≡◌, ◌<◌, ◌≤◌, ◌+◌, ◌*◌, ◌/◌, ◌%◌, ◌^◌, [], ◌++◌, true, ◌==◌, ◌&&◌};
+ghost use Rattle.std.specs.Prelude.{◌≡◌, ◌<◌, ◌+◌, ◌*◌, ◌/◌, ◌%◌, ◌^◌, true, ◌==◌, ◌&&◌};
 ghost use Rattle.sv8_model.specs.Words.{signed};
 ghost use Rattle.sv8_model.specs.Size.{bytes_in};
 ghost use Rattle.sv8_trap.specs.Table.{taken};

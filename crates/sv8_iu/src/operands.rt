@@ -1,6 +1,6 @@
 //! The second source of an instruction, and the sum of its sources (Appendix B.1 to B.29).
 
-ghost use Rattle.std.specs.Prelude.{◌≡◌, ◌<◌, ◌≤◌, ◌%◌, ◌*◌, ◌^◌};
+ghost use Rattle.std.specs.Prelude.{◌≡◌, ◌<◌};
 ghost use Rattle.sv8_isa.specs.Registers.{OperandHasRegister};
 ghost use Rattle.sv8_model.specs.Words.{word_of_number};
 ghost use Rattle.sv8_iu.specs.Operands.{operand_value, sum_of_sources};

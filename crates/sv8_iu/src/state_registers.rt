@@ -1,8 +1,7 @@
 //! Reads and writes of Y, PSR, WIM and TBR (Appendices B.28 and B.29).
 
-ghost use Rattle.std.specs.Prelude.{◌≡◌, ◌<◌, ◌≤◌, [], ◌++◌, true, false, not, ◌&&◌, None};
+ghost use Rattle.std.specs.Prelude.{◌≡◌, ◌<◌, false, not, ◌&&◌, None};
 ghost use Rattle.sv8_isa.specs.Registers.{OperandHasRegister};
-ghost use Rattle.sv8_regs.specs.Control.{window_field};
 ghost use Rattle.sv8_trap.specs.Table.{taken};
 ghost use Rattle.sv8_iu.specs.StateRegisters.{is_privileged, privilege_traps, state_word, state_read, written_word, names_no_window, write_traps, with_state, state_written};
 

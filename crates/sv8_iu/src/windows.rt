@@ -1,6 +1,6 @@
 //! SAVE and RESTORE (Appendix B.20).
 
-ghost use Rattle.std.specs.Prelude.{◌≡◌, ◌<◌, ◌≤◌, [], true};
+ghost use Rattle.std.specs.Prelude.{◌≡◌, ◌<◌};
 ghost use Rattle.sv8_isa.specs.Registers.{OperandHasRegister};
 ghost use Rattle.sv8_trap.specs.Table.{taken};
 ghost use Rattle.sv8_iu.specs.Windows.{save_traps, restore_traps, moved, saved, restored};

@@ -1,6 +1,6 @@
 //! A step of two machines that have the same processor, made as one where both do the same and nothing from outside comes in.
 
-ghost use Rattle.std.specs.Prelude.{◌≡◌, ℕ, ◌%◌, ◌<◌, ◌≤◌, ◌⊎◌, true, false, None, MatchBool, IfOk, IfSome, OnOk, OnErr};
+ghost use Rattle.std.specs.Prelude.{◌≡◌, ℕ, ◌%◌, ◌<◌, ◌≤◌, ◌⊎◌, true, false, None, MatchBool, IfOk, IfSome, OnOk};
 ghost use Rattle.sv8_model.specs.Levels.{asked};
 ghost use Rattle.sv8_model.specs.Size.{bytes_in};
 ghost use Rattle.sv8_time.specs.Schedule.{Schedule, bytes_below};

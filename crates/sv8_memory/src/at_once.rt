@@ -1,7 +1,7 @@
 //! Accesses of which it is known at once, with no walk of the tables, that they raise no trap: fetches and loads of RAM and the
 //! load that counts the bytes that wait, which change nothing, and stores to RAM or to a device.
 
-ghost use Rattle.std.specs.Prelude.{◌≡◌, ℕ, ◌%◌, ◌≤◌, List, true, nat_lt, IfOk, IfSome};
+ghost use Rattle.std.specs.Prelude.{◌≡◌, ℕ, ◌%◌, List, true, IfOk, IfSome};
 ghost use Rattle.sv8_model.specs.Action.{result_of};
 ghost use Rattle.sv8_model.specs.Outside.{Outside};
 ghost use Rattle.sv8_model.specs.Does.{DoesUnnoted};

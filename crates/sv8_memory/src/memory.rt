@@ -1,6 +1,6 @@
 //! Memory as the processor reaches it.
 
-ghost use Rattle.std.specs.Prelude.{◌≡◌, ℕ, ◌+◌, ◌*◌, ◌%◌, ◌/◌, ◌≤◌, ◌<◌, ◌||◌, List, [], true, false, not, nat_lt, None, IfOk, IfSome, OnOk, OnErr, MatchOption, slice_set, length};
+ghost use Rattle.std.specs.Prelude.{◌≡◌, ℕ, ◌%◌, ◌/◌, ◌<◌, ◌||◌, List, true, not, nat_lt, None, IfOk, IfSome, OnOk, OnErr, MatchOption, slice_set};
 ghost use Rattle.sv8_model.specs.Action as model;
 ghost use Rattle.sv8_model.specs.Action.{result_of};
 ghost use Rattle.sv8_model.specs.Does.{Does, DoesUnnoted, keeping};

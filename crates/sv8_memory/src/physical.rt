@@ -1,9 +1,8 @@
 //! Accesses at a physical address: RAM, the devices, and the registers of the memory management unit, which record faults.
 
-ghost use Rattle.std.specs.Prelude.{◌≡◌, ℕ, ◌+◌, ◌*◌, ◌%◌, ◌/◌, ◌≤◌, ◌<◌, ◌∷◌, [], List, true, nat_lt, IfOk, OnOk, OnErr};
+ghost use Rattle.std.specs.Prelude.{◌≡◌, ℕ, ◌%◌, ◌/◌, ◌<◌, [], List, true, nat_lt, IfOk, OnOk, OnErr};
 ghost use Rattle.sv8_model.specs.Does.{keeping, noting};
 ghost use Rattle.sv8_model.specs.Size.{bytes_in};
-ghost use Rattle.sv8_phys.specs.declared.timer.Timer.{Timer};
 ghost use Rattle.sv8_phys.specs.Memory.{ram_size};
 ghost use Rattle.sv8_mmu.specs.Kept.{DiffersInPage};
 ghost use Rattle.sv8_memory.specs.Units.{served, failed, is_hidden};

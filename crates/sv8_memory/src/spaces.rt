@@ -1,6 +1,6 @@
 //! Accesses by address space (Appendices H and I).
 
-ghost use Rattle.std.specs.Prelude.{◌≡◌, ℕ, ◌%◌, ◌/◌, ◌≤◌, ◌<◌, List, false, IfOk, OnOk};
+ghost use Rattle.std.specs.Prelude.{◌≡◌, ℕ, ◌%◌, ◌/◌, ◌<◌, List, false, IfOk, OnOk};
 ghost use Rattle.sv8_model.specs.Does.{keeping};
 ghost use Rattle.sv8_model.specs.declared.size.Size.{Size};
 ghost use Rattle.sv8_model.specs.Size.{bytes_in};

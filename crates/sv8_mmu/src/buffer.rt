@@ -1,6 +1,6 @@
 //! The lookaside buffer.
 
-ghost use Rattle.std.specs.Prelude.{◌≡◌, ◌⊎◌, ◌≢◌, ℕ, ◌<◌, ◌^◌, ◌/◌, ◌%◌, List, [], ◌++◌, Bool, true, false, slice_index_or, ⊤, Contains, IfSome, MatchOption};
+ghost use Rattle.std.specs.Prelude.{◌≡◌, ◌⊎◌, ◌≢◌, ℕ, ◌<◌, ◌^◌, ◌/◌, ◌%◌, List, [], ◌++◌, true, false, ⊤, Contains, IfSome, MatchOption};
 ghost use Rattle.lru.specs.LruCache.{LruCache};
 ghost use Rattle.sv8_mmu.specs.Registers.{control_address, table_pointer_address, is_register, after_write};
 ghost use Rattle.sv8_mmu.specs.Plain.{LeadsPlainly};

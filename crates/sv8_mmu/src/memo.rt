@@ -1,6 +1,6 @@
 //! The memos of the lookaside buffer.
 
-ghost use Rattle.std.specs.Prelude.{◌≡◌, ◌<◌, ◌≤◌, ◌+◌, ◌^◌, IfSome};
+ghost use Rattle.std.specs.Prelude.{◌≡◌, ◌<◌, ◌^◌, IfSome};
 ghost use Rattle.sv8_mmu.specs.Plain.{LeadsPlainly};
 
 use crate::access_type::AccessType;

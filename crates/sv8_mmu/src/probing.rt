@@ -1,12 +1,12 @@
 //! Probes.
 
-ghost use Rattle.std.specs.Prelude.{◌≡◌, ℕ, ◌<◌, ◌≤◌, ◌+◌, ◌-◌, ◌*◌, ◌/◌, ◌%◌, ◌^◌, List, [], ◌∷◌, length, IfOk, OnErr, true};
+ghost use Rattle.std.specs.Prelude.{◌≡◌, ℕ, ◌<◌, ◌≤◌, ◌+◌, ◌-◌, ◌*◌, ◌/◌, ◌%◌, List, [], length, IfOk, OnErr, true};
 ghost use Rattle.sv8_model.specs.Outside.{Outside};
 ghost use Rattle.sv8_model.specs.Does.{Does, keeping, touching, no_notes};
 ghost use Rattle.sv8_phys.specs.Memory.{ram_size};
 ghost use Rattle.sv8_phys.specs.Contents.{outside_of};
-ghost use Rattle.sv8_mmu.specs.Walk.{table_of, entry_at, indices_of, root_of, walk};
-ghost use Rattle.sv8_mmu.specs.Probe.{found, sought, page_or_zero, level_probed, entirely_probed, probe_type, probed_as, probe};
+ghost use Rattle.sv8_mmu.specs.Walk.{table_of, entry_at, indices_of, walk};
+ghost use Rattle.sv8_mmu.specs.Probe.{found, sought, level_probed, entirely_probed, probed_as, probe};
 ghost use Rattle.sv8_mmu.specs.Kept.{places_of, reads_of};
 
 use crate::registers::Mmu;

@@ -1,13 +1,13 @@
 //! Translation of a virtual address.
 
-ghost use Rattle.std.specs.Prelude.{◌≡◌, ℕ, ◌<◌, ◌≤◌, ◌+◌, ◌*◌, ◌/◌, ◌%◌, ◌^◌, List, [], ◌++◌, IfOk, IfSome, MatchOption, OnOk, OnErr, nat_lt, true, slice_index_or};
-ghost use Rattle.sv8_model.specs.Outside.{Outside, with_word};
+ghost use Rattle.std.specs.Prelude.{◌≡◌, ℕ, ◌<◌, ◌+◌, ◌*◌, ◌/◌, ◌%◌, ◌^◌, List, [], IfOk, IfSome, MatchOption, OnOk, OnErr, nat_lt, true};
+ghost use Rattle.sv8_model.specs.Outside.{Outside};
 ghost use Rattle.sv8_model.specs.Does.{Does, DoesUnnoted, kept, noting, keeping, touching, no_notes};
 ghost use Rattle.sv8_phys.specs.Memory.{ram_size};
 ghost use Rattle.sv8_phys.specs.Contents.{outside_of};
 ghost use Rattle.sv8_mmu.specs.Registers.{translates};
 ghost use Rattle.sv8_mmu.specs.FaultTypes.{refused_by};
-ghost use Rattle.sv8_mmu.specs.Translation.{fault_types, permission, fault_type, with_bit, marked, physical_address, is_device, is_served, with_marks, reached, settled, translate};
+ghost use Rattle.sv8_mmu.specs.Translation.{fault_types, fault_type, with_bit, marked, physical_address, is_device, is_served, settled, translate};
 ghost use Rattle.sv8_mmu.specs.Answers.{changes_marks, translation_grows};
 ghost use Rattle.sv8_mmu.specs.Kept.{places_of, reads_of, IsEnd, IsTranslation, IsWalk, AllStand};
 ghost use Rattle.sv8_model.specs.Action.{done, store_word};

@@ -1,10 +1,10 @@
 //! The walk through the tables in RAM.
 
-ghost use Rattle.std.specs.Prelude.{◌≡◌, ℕ, ◌<◌, ◌≤◌, ◌+◌, ◌*◌, ◌/◌, ◌%◌, ◌^◌, List, [], ◌∷◌, ◌++◌, length, IfSome, MatchOption, nat_lt, true, false};
+ghost use Rattle.std.specs.Prelude.{◌≡◌, ◌<◌, ◌≤◌, ◌+◌, ◌*◌, ◌/◌, ◌%◌, ◌^◌, [], ◌∷◌, ◌++◌, length, IfSome, MatchOption, nat_lt, true, false};
 ghost use Rattle.sv8_model.specs.Outside.{Outside, word_of};
 ghost use Rattle.sv8_model.specs.Does.{Does, keeping, touching};
 ghost use Rattle.sv8_phys.specs.Memory.{ram_size};
-ghost use Rattle.sv8_mmu.specs.Walk.{table_of, indices_of, root_of, met, looked_up, below_pointer, walk};
+ghost use Rattle.sv8_mmu.specs.Walk.{table_of, indices_of, looked_up, below_pointer, walk};
 ghost use Rattle.sv8_mmu.specs.Kept.{places_of, reads_of, IsEnd, IsWalk};
 
 use crate::fault_type::FaultType;

@@ -1,6 +1,6 @@
 //! Flags of steps that follow one another.
 
-ghost use Rattle.std.specs.Prelude.{◌≡◌, ◌+◌, ◌==◌};
+ghost use Rattle.std.specs.Prelude.{◌+◌, ◌==◌};
 ghost use Rattle.sv8_notes.specs.Flags.{IsFlagged};
 
 /// Sets the flag of the step with an offset, if it has one. Flag number i is that of the step with the offset `from + i`.

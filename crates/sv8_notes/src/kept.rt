@@ -1,6 +1,6 @@
 //! What stood in cells before events set them.
 
-ghost use Rattle.std.specs.Prelude.{◌≡◌, ℕ, ◌&&◌, ◌==◌, ◌++◌, ◌∷◌, [], cond, not, filter, IfOk, OnOk, OnErr, Some, None, true, option_map};
+ghost use Rattle.std.specs.Prelude.{◌≡◌, ℕ, ◌&&◌, ◌==◌, ◌++◌, ◌∷◌, [], cond, not, filter, IfOk, OnOk, Some, None, true, option_map};
 ghost use Rattle.sv8_model.specs.Cells as model;
 ghost use Rattle.sv8_model.specs.Cells.{same_cell};
 ghost use Rattle.sv8_notes.specs.Cells.{cell_of, content_of};

@@ -1,13 +1,13 @@
 //! The notes of the steps from a checkpoint to the next one.
 
-ghost use Rattle.std.specs.Prelude.{◌≡◌, ℕ, ◌+◌, ◌<◌, ◌≤◌, ◌==◌, ◌&&◌, ◌||◌, ◌++◌, ◌∷◌, [], Bool, true, false, IfOk, OnOk, MatchBool};
+ghost use Rattle.std.specs.Prelude.{◌≡◌, ℕ, ◌+◌, ◌<◌, ◌≤◌, ◌==◌, ◌&&◌, ◌||◌, ◌++◌, ◌∷◌, [], true, false, IfOk, OnOk, MatchBool};
 ghost use Rattle.std.specs.List.{list_any};
 ghost use Rattle.sv8_model.specs.Words.{bit};
 ghost use Rattle.sv8_notes.specs.Cells.{cell_of};
 ghost use Rattle.sv8_notes.specs.Flags.{IsFlagged};
 ghost use Rattle.sv8_notes.specs.Marks.{mark_of, IsUntouched};
 ghost use Rattle.sv8_model.specs.Footprint.{behind_fetch, data_touches};
-ghost use Rattle.sv8_notes.specs.Steps.{Gains, IsAllData, IsFirstBelow, footprint_in, is_among, is_asked_in, is_word_of, has_word, no_steps};
+ghost use Rattle.sv8_notes.specs.Steps.{Gains, IsAllData, IsFirstBelow, footprint_in, is_asked_in, is_word_of, has_word, no_steps};
 ghost use Rattle.sv8_notes.specs.Sought.{is_met, sought_word};
 ghost use Rattle.sv8_notes.specs.Touching.{is_from_to, is_note_in, are_notes_in, touches_any};
 ghost use Rattle.sv8_notes.specs.WordRuns.{words_of};

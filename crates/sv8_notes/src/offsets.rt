@@ -1,6 +1,6 @@
 //! Least offsets: which of some steps is the first.
 
-ghost use Rattle.std.specs.Prelude.{◌≡◌, ℕ, ◌==◌, ◌||◌, Bool};
+ghost use Rattle.std.specs.Prelude.{ℕ, ◌==◌, ◌||◌, Bool};
 ghost use Rattle.sv8_notes.specs.Steps.{IsFirstBelow, is_among};
 
 /// The lesser of two offsets, where there are any.

@@ -15,7 +15,7 @@ use sv8_phys::{NoTouches, Observation, Phys, Size, Touch, Touches};
 struct Full;
 
 impl Touches for Full {
-    ghost use Rattle.std.specs.Prelude.{Bool, true};
+    ghost use Rattle.std.specs.Prelude.{true};
     ghost use Rattle.sv8_model.specs.Does.{no_notes};
 
     const KEEPS: bool = true;

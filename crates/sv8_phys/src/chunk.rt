@@ -1,6 +1,6 @@
 //! Chunks of the bytes that the console has put out.
 
-ghost use Rattle.std.specs.Prelude.{◌≡◌, ℕ, ◌<◌, ◌∷◌, length, IfOk, OnOk, OnErr, slice_set, slice_index};
+ghost use Rattle.std.specs.Prelude.{◌≡◌, ◌<◌, length, IfOk, OnOk, OnErr, slice_set, slice_index};
 
 use std::alloc::{AllocError, Global};
 use std::rc::Rc;

@@ -1,6 +1,6 @@
 //! Laws of the definitions in `specs/`. Each stands as the contract of a function that does nothing.
 
-ghost use Rattle.std.specs.Prelude.{◌≡◌, [], ◌∷◌, true, false, replicate, Ok, Err};
+ghost use Rattle.std.specs.Prelude.{◌≡◌, [], ◌∷◌, true, false, Ok, Err};
 ghost use Rattle.sv8_model.specs.declared.touch.Touch.TheVariants.{Read, Write, Input, Levels, Expiry};
 ghost use Rattle.sv8_model.specs.Action.{result_of, after, touches};
 ghost use Rattle.sv8_model.specs.Levels.{asked, cleared, levels_word};

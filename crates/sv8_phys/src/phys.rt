@@ -1,6 +1,6 @@
 //! Physical memory and the devices.
 
-ghost use Rattle.std.specs.Prelude.{◌≡◌, ℕ, ◌/◌, ◌%◌, ◌≤◌, ◌<◌, true, false, slice_index_or, slice_set, nat_lt, option_map, IfOk, IfSome, OnOk, OnErr};
+ghost use Rattle.std.specs.Prelude.{◌≡◌, ◌/◌, ◌%◌, ◌≤◌, ◌<◌, true, false, slice_index_or, slice_set, nat_lt, option_map, IfOk, IfSome, OnOk, OnErr};
 ghost use Rattle.sv8_model.specs.Outside.{word_of};
 ghost use Rattle.sv8_model.specs.Levels.{levels_word};
 ghost use Rattle.sv8_phys.specs.Memory.{ram_size, page_of, with_page};

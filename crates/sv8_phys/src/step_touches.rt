@@ -1,6 +1,6 @@
 //! The notes of one step, kept until its end.
 
-ghost use Rattle.std.specs.Prelude.{◌≡◌, ◌∷◌, ◌++◌, [], IfOk, OnOk, OnErr, true, filter};
+ghost use Rattle.std.specs.Prelude.{◌≡◌, ◌∷◌, [], IfOk, OnOk, OnErr, true, filter};
 ghost use Rattle.sv8_model.specs.Does.{kept, noting, keeping};
 ghost use Rattle.sv8_model.specs.Footprint.{reads_word};
 ghost use Rattle.sv8_phys.specs.Notes.{is_told, levels_of, levels_in, levels_note, told};
@@ -28,7 +28,7 @@ impl Model for StepTouches {
 }
 
 impl Touches for StepTouches {
-    ghost use Rattle.std.specs.Prelude.{Bool, true, false};
+    ghost use Rattle.std.specs.Prelude.{true, false};
     ghost use Rattle.sv8_model.specs.Does.{touching};
 
     const KEEPS: bool = true;

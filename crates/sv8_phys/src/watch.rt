@@ -23,7 +23,7 @@ impl Model for Watch {
 }
 
 impl Touches for Watch {
-    ghost use Rattle.std.specs.Prelude.{Bool, true};
+    ghost use Rattle.std.specs.Prelude.{true};
 
     const KEEPS: bool = true;
 

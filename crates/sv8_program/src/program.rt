@@ -1,6 +1,6 @@
 //! A program's run: the words, the script, the answers.
 
-ghost use Rattle.std.specs.Prelude.{◌≡◌, ◌⊎◌, ◌≤◌, ℕ, List, Option, IsTrue, map};
+ghost use Rattle.std.specs.Prelude.{◌≡◌, ◌⊎◌, ℕ, List, IsTrue, map};
 ghost use Rattle.clap.specs.Words.{Kinds, kind_of};
 ghost use Rattle.sv8_session.specs.Language.{Language};
 ghost use Rattle.sv8_program.specs.Windows.{is_window_count};

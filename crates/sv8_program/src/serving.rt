@@ -1,6 +1,6 @@
 //! A run over a state of its own, from what a reader gives to how the program ends.
 
-ghost use Rattle.std.specs.Prelude.{◌≡◌, IsTrue};
+ghost use Rattle.std.specs.Prelude.{IsTrue};
 ghost use Rattle.sv8_program.specs.Ends.{Serves, is_run_end};
 
 use crate::end::{End, end_of};

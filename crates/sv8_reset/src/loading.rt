@@ -1,6 +1,6 @@
 //! How a source gets into RAM.
 
-ghost use Rattle.std.specs.Prelude.{◌≡◌, ℕ, ◌+◌, ◌<◌, ◌≤◌, ◌^◌, length, drop, OnOk, replicate};
+ghost use Rattle.std.specs.Prelude.{◌≡◌, ◌+◌, ◌<◌, ◌^◌, drop, OnOk, replicate};
 ghost use Rattle.sv8_source.specs.Listing.{listing};
 ghost use Rattle.sv8_source.specs.Image.{image_bytes};
 ghost use Rattle.sv8_phys.specs.Memory.{ram_size};

@@ -1,6 +1,6 @@
 //! The image's bytes, all together.
 
-ghost use Rattle.std.specs.Prelude.{◌≡◌, ℕ, ◌≤◌, length, max, map, IfOk, OnOk, slice_index};
+ghost use Rattle.std.specs.Prelude.{◌≡◌, ℕ, length, max, map, IfOk, OnOk, slice_index};
 ghost use Rattle.std.specs.List.{range_with_len};
 ghost use Rattle.sv8_source.specs.Kept.{code_bytes};
 ghost use Rattle.sv8_source.specs.Listing.{shown};

@@ -3,7 +3,7 @@
 //! An edit of one line that keeps the label, defines no number and moves nothing behind it, and one that puts a line
 //! without a name behind all, share everything else. Any other edit lays all lines again, those that stay as they were read.
 
-ghost use Rattle.std.specs.Prelude.{◌≡◌, ℕ, ◌+◌, ◌-◌, ◌*◌, ◌^◌, ◌≤◌, ◌<◌, ◌⊎◌, [], ◌∷◌, ◌++◌, true, false, length, None, Some, IsOk, IfSome, IfOk, MatchResult, Ok, Err, slice_get};
+ghost use Rattle.std.specs.Prelude.{◌≡◌, ◌+◌, ◌-◌, ◌*◌, ◌≤◌, ◌<◌, ◌⊎◌, [], ◌∷◌, ◌++◌, true, false, length, None, Some, IsOk, IfSome, IfOk, MatchResult, Ok, Err};
 ghost use Rattle.sv8_model.specs.Refused.{ByFault};
 ghost use Rattle.sv8_asm.specs.Size.{size};
 ghost use Rattle.sv8_source.specs.Edits.{Within};

@@ -3,7 +3,7 @@
 //! The layout pass reads each line, gives its names their values and finds the location of each line. The value pass
 //! then assembles each line, now that all names are known, so that a line may use a name that a later one defines.
 
-ghost use Rattle.std.specs.Prelude.{◌≡◌, ℕ, ℤ, ◌+◌, ◌-◌, ◌^◌, ◌<◌, ◌≤◌, List, [], ◌++◌, ◌∷◌, IfSome, IfOk, OnOk, MatchResult, Ok, Err, vec_items, length, pos, map, All};
+ghost use Rattle.std.specs.Prelude.{◌≡◌, ◌+◌, ◌-◌, ◌^◌, ◌<◌, ◌≤◌, [], IfSome, IfOk, MatchResult, Ok, Err, length, All};
 ghost use Rattle.sv8_model.specs.Refused.{ByFault};
 ghost use Rattle.sv8_syntax.specs.Names.{IsLabel, Defines};
 ghost use Rattle.sv8_syntax.specs.Reading.{reading};

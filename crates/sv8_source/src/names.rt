@@ -1,7 +1,6 @@
 //! The names of a source, in the order of their values.
 
 ghost use Rattle.std.specs.Prelude.{◌≡◌, ◌++◌, map, option_map, IfOk, OnOk};
-ghost use Rattle.std.specs.List.{flat_map};
 ghost use Rattle.std.specs.Option.{option_to_list};
 ghost use Rattle.sv8_model.specs.Words.{word_of_number};
 ghost use Rattle.sv8_source.specs.Names.{label_name, equ_name, line_names, defined_names, in_order, HasNoTies};

@@ -1,6 +1,6 @@
 //! Laws of the definitions, each a function that does nothing and whose contract is the law.
 
-ghost use Rattle.std.specs.Prelude.{◌≡◌, true, false};
+ghost use Rattle.std.specs.Prelude.{◌≡◌, true};
 ghost use Rattle.sv8_regs.specs.Control.{packed_psr};
 ghost use Rattle.sv8_regs.specs.Ring.{read};
 ghost use Rattle.sv8_model.specs.Outside.{word_of};

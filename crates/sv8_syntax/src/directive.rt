@@ -1,6 +1,6 @@
 //! Directives and `set`, each from its operands.
 
-ghost use Rattle.std.specs.Prelude.{◌≡◌, ◌≤◌, length};
+ghost use Rattle.std.specs.Prelude.{◌≤◌, length};
 ghost use Rattle.sv8_syntax.specs.Operand.{operand_views};
 ghost use Rattle.sv8_syntax.specs.Outcome.{Gives};
 ghost use Rattle.sv8_syntax.specs.Taking.{exprs_in};

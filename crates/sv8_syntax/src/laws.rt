@@ -1,6 +1,6 @@
 //! What is true of the grammar and of `reading`, whatever the text, and some lines worked out.
 
-ghost use Rattle.std.specs.Prelude.{◌≡◌, ℕ, List, Result, Ok, Err, Some, None, codes, true, false, [], ◌∷◌, ◌++◌};
+ghost use Rattle.std.specs.Prelude.{◌≡◌, ℕ, List, Ok, Err, Some, codes, true, false, [], ◌∷◌, ◌++◌};
 ghost use Rattle.sv8_isa.specs.declared.instr.ArithOp.TheVariants as arith;
 ghost use Rattle.sv8_isa.specs.declared.instr.Cond.TheVariants as condition;
 ghost use Rattle.sv8_isa.specs.declared.instr.MemoryOp.TheVariants as memory;

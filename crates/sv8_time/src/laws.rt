@@ -2,7 +2,7 @@
 
 ghost use Rattle.std.specs.Prelude.{◌≡◌, [], ◌∷◌, Some, None, slice_get};
 ghost use Rattle.sv8_time.specs.declared.fault.TimeFault.TheVariants.{StepTooLarge, BadAddress, BadLevel, NothingThere};
-ghost use Rattle.sv8_time.specs.Schedule.{poke_of, pokes_of_step, poke_after, request_after, event_count, without_poke, without_poke_byte, bytes_of_step, bytes_below, input_bytes, set_poke_fault, clear_poke_fault, set_poke_byte_fault, clear_poke_byte_fault, clear_input_fault, set_request_fault, clear_request_fault, requests_of_step, request_of};
+ghost use Rattle.sv8_time.specs.Schedule.{poke_of, pokes_of_step, poke_after, request_after, event_count, without_poke, bytes_of_step, bytes_below, input_bytes, set_poke_fault, clear_poke_fault, set_poke_byte_fault, clear_poke_byte_fault, clear_input_fault, set_request_fault, clear_request_fault, requests_of_step, request_of};
 ghost use Rattle.sv8_time.specs.Examples.{nothing, word_and_byte, three_bytes, later_pokes, levels, arrivals};
 
 /// Pokes of words and bytes (the numbers are hexadecimal).

@@ -1,6 +1,6 @@
 //! The steps that may have events.
 
-ghost use Rattle.std.specs.Prelude.{◌≡◌, ℕ, ◌≤◌, ◌<◌, [], length, IfOk, OnOk, OnErr, true, false};
+ghost use Rattle.std.specs.Prelude.{◌≡◌, ℕ, ◌≤◌, ◌<◌, [], length, IfOk, OnOk, true, false};
 ghost use Rattle.sv8_time.specs.Marks.{is_marked, Covers};
 
 use std::alloc::{AllocError, Global};

@@ -1,9 +1,9 @@
 //! The poked bytes of a timeline.
 
-ghost use Rattle.std.specs.Prelude.{◌≡◌, ℕ, ◌+◌, ◌*◌, ◌/◌, ◌%◌, ◌^◌, [], ◌∷◌, length, if◌then◌else◌, true, IfOk, OnOk, OnErr, None, Some, is_some, List, map, find, option_map, ◌<◌, ◌≤◌};
+ghost use Rattle.std.specs.Prelude.{◌≡◌, ◌+◌, ◌*◌, ◌/◌, ◌%◌, ◌^◌, [], ◌∷◌, if◌then◌else◌, true, IfOk, OnOk, OnErr, None, Some, is_some, List, map, find, option_map, ◌<◌, ◌≤◌};
 ghost use Rattle.sv8_time.specs.Order.{Each, Rising, passes_at};
 ghost use Rattle.sv8_time.specs.Schedule.{poke_of, has_poke, poked_at, put_poke, cut_poke, pokes_of_step, word_of, has_word, word_count, IsNextPoke};
-ghost use Rattle.sv8_time.specs.Words.{is_poked, poked_bytes, bytes_of_words, word_before, with_bytes};
+ghost use Rattle.sv8_time.specs.Words.{is_poked, bytes_of_words, word_before, with_bytes};
 
 use crate::ordered::{Ordered, put_both};
 use crate::words::{ByAddress, WordPoke};

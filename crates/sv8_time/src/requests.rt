@@ -16,8 +16,6 @@ pub struct Request {
 }
 
 impl Keyed for Request {
-    ghost use Rattle.std.specs.Prelude.{ℕ};
-
     ghost major_of = { λ r. r.step };
 
     ghost minor_of = { λ r. r.level };

@@ -18,8 +18,6 @@ pub struct WordPoke {
 }
 
 impl Keyed for WordPoke {
-    ghost use Rattle.std.specs.Prelude.{ℕ};
-
     ghost major_of = { λ w. w.step };
 
     ghost minor_of = { λ w. w.address };
@@ -40,8 +38,6 @@ pub(crate) struct ByAddress {
 }
 
 impl Keyed for ByAddress {
-    ghost use Rattle.std.specs.Prelude.{ℕ};
-
     ghost major_of = { λ b. b.word.address };
 
     ghost minor_of = { λ b. b.word.step };

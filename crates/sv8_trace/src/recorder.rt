@@ -1,13 +1,12 @@
 //! Steps that are made and recorded.
 
-ghost use Rattle.std.specs.Prelude.{◌≡◌, ℕ, ◌+◌, ◌≤◌, ◌<◌, ◌&&◌, ◌==◌, ◌++◌, ◌⊎◌, cond, None, Some, is_some, slice_index_or, IfOk, OnOk, OnErr};
+ghost use Rattle.std.specs.Prelude.{◌≡◌, ℕ, ◌+◌, ◌≤◌, ◌<◌, ◌&&◌, ◌==◌, ◌++◌, ◌⊎◌, cond, None, Some, is_some, IfOk, OnOk, OnErr};
 ghost use Rattle.sv8_model.specs.Cells as model;
 ghost use Rattle.sv8_model.specs.Footprint.{data_touches};
 ghost use Rattle.sv8_time.specs.Schedule.{bytes_below};
 ghost use Rattle.sv8_phys.specs.Memory.{ram_size};
 ghost use Rattle.sv8_phys.specs.Notes.{told};
 ghost use Rattle.sv8_notes.specs.Kept.{kept_in};
-ghost use Rattle.sv8_notes.specs.Cells.{cell_of, content_of, IsCell};
 ghost use Rattle.sv8_notes.specs.Touched.{is_touched};
 ghost use Rattle.sv8_notes.specs.Steps.{Gains};
 ghost use Rattle.sv8_memory.specs.WordPokes.{AreInside};

@@ -1,7 +1,7 @@
 //! What the states before and after the steps of an interval show: of each step whether it led where a trap leads, and of all
 //! together whether addresses were translated.
 
-ghost use Rattle.std.specs.Prelude.{◌≡◌, ℕ, ◌+◌, ◌≤◌, ◌==◌, ◌&&◌, ◌||◌, IfOk, OnOk};
+ghost use Rattle.std.specs.Prelude.{◌≡◌, ◌+◌, ◌≤◌, ◌==◌, ◌&&◌, ◌||◌, IfOk, OnOk};
 ghost use Rattle.std.specs.List.{list_any};
 ghost use Rattle.sv8_mmu.specs.Registers.{translates};
 ghost use Rattle.sv8_trace.specs.Signs.{has_sign, has_sign_between, is_note_between, is_note_of, may_be_of, no_signs, noted_type, with_end, with_trap};

@@ -1,6 +1,6 @@
 //! The recorded run.
 
-ghost use Rattle.std.specs.Prelude.{◌≡◌, ℕ, ◌+◌, ◌*◌, ◌<◌, ◌≤◌, ◌/◌, ◌++◌, ◌∷◌, [], length, IfOk, OnOk, OnErr};
+ghost use Rattle.std.specs.Prelude.{◌≡◌, ◌+◌, ◌*◌, ◌<◌, ◌≤◌, ◌/◌, ◌++◌, ◌∷◌, [], length, IfOk, OnOk, OnErr};
 ghost use Rattle.sv8_time.specs.Schedule.{bytes_below};
 ghost use Rattle.sv8_phys.specs.Memory.{ram_size};
 ghost use Rattle.sv8_history.specs.Growing.{restored};
@@ -56,7 +56,7 @@ impl<const NW: usize, const PAGES: usize, const K: u32> Drop for Trace<NW, PAGES
 }
 
 impl<const NW: usize, const PAGES: usize, const K: u32> Model for Trace<NW, PAGES, K> {
-    ghost use Rattle.std.specs.Prelude.{◌≡◌, ℕ, ◌+◌, ◌*◌, ◌≤◌, length};
+    ghost use Rattle.std.specs.Prelude.{◌≡◌, ◌+◌, ◌*◌, ◌≤◌, length};
     ghost use Rattle.sv8_trace.specs.Recording.{Recording};
     ghost use Rattle.sv8_trace.specs.Marks.{AreMarked};
     ghost use Rattle.sv8_trace.specs.Placing.{AreSound};

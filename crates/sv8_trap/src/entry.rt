@@ -1,11 +1,10 @@
 //! How traps and interrupts are entered, and returned from.
 
-ghost use Rattle.std.specs.Prelude.{◌≡◌, ◌<◌, ◌≤◌, ◌%◌, ◌^◌, suc};
+ghost use Rattle.std.specs.Prelude.{◌≡◌, ◌<◌, ◌≤◌, ◌%◌};
 ghost use Rattle.sv8_model.specs.Words.{bit};
 ghost use Rattle.sv8_model.specs.Levels.{level_of};
-ghost use Rattle.sv8_trap.specs.Table.{row_of};
 ghost use Rattle.sv8_trap.specs.Entry.{trap_registers, entered_from, entered, interrupted, stopped, with_trap, with_return_trap, returned};
-ghost use Rattle.sv8_trap.specs.Interrupt.{unmasked, highest, highest_from};
+ghost use Rattle.sv8_trap.specs.Interrupt.{unmasked, highest};
 
 use crate::processor::Processor;
 use crate::table::Trap;

@@ -1,9 +1,9 @@
 //! The registers and counters, and how an instruction leaves them.
 
-ghost use Rattle.std.specs.Prelude.{◌≡◌, ◌≢◌, ◌<◌, ◌≤◌, ◌%◌, ◌^◌, MatchBool};
+ghost use Rattle.std.specs.Prelude.{◌≡◌, ◌≢◌, ◌<◌, ◌≤◌, ◌%◌, MatchBool};
 ghost use Rattle.sv8_regs.specs.Control.{unpacked_psr, window_field, kept_mask, with_base};
 ghost use Rattle.sv8_regs.specs.Current.{other_windows};
-ghost use Rattle.sv8_trap.specs.Processor.{reset_processor, plus, advanced, transferred, slot_skipped, with_register, with_result, with_codes, with_y, in_window};
+ghost use Rattle.sv8_trap.specs.Processor.{reset_processor, advanced, transferred, slot_skipped, with_register, with_result, with_codes, with_y, in_window};
 
 use std::marker::Model;
 use sv8_regs::{ConditionCodes, Regs};

@@ -1,6 +1,6 @@
 //! The table of traps.
 
-ghost use Rattle.std.specs.Prelude.{◌≡◌, ◌<◌, ◌≤◌, length, Some};
+ghost use Rattle.std.specs.Prelude.{◌≡◌, ◌<◌, length, Some};
 ghost use Rattle.sv8_trap.specs.Table.{row_of, is_before, first_of, first_among, taken};
 
 /// A trap, by its name in table 7-1.

@@ -1,11 +1,11 @@
 //! What an edit changes of the recorded run.
 
-ghost use Rattle.std.specs.Prelude.{◌≡◌, ℕ, ◌+◌, ◌*◌, ◌/◌, ◌%◌, ◌^◌, ◌<◌, ◌≤◌, ◌++◌, [], ◌∷◌, Option, IfOk, OnOk, slice_index_or};
+ghost use Rattle.std.specs.Prelude.{◌≡◌, ◌+◌, ◌/◌, ◌%◌, ◌^◌, ◌<◌, ◌≤◌, ◌++◌, Option, IfOk, OnOk, slice_index_or};
 ghost use Rattle.std.specs.List.{All};
 ghost use Rattle.sv8_phys.specs.Memory.{ram_size};
 ghost use Rattle.sv8_phys.specs.Contents.{AreContents};
 ghost use Rattle.sv8_source.specs.Text.{Text};
-ghost use Rattle.sv8_source.specs.Image.{image_bytes, changes};
+ghost use Rattle.sv8_source.specs.Image.{changes};
 ghost use Rattle.sv8_reset.specs.Reset.{reset_state};
 ghost use Rattle.sv8_edits.specs.Changes.{next_poke, next_request, first_poke, stands, poke_byte_changes, clear_byte_changes, poke_changes, clear_changes, request_changes, clear_request_changes, image_byte_changes, image_changes};
 ghost use Rattle.sv8_trace.specs.Patch.{changes_of, IsPatch};

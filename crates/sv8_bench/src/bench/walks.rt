@@ -1,6 +1,6 @@
 //! Walks through the steps of the run, one by one, so that each can be watched.
 
-ghost use Rattle.std.specs.Prelude.{◌≡◌, ℕ, ◌+◌, ◌-◌, ◌*◌, ◌/◌, ◌%◌, ◌<◌, ◌≤◌, ◌⊎◌, true, max, IfOk, OnOk, OnErr};
+ghost use Rattle.std.specs.Prelude.{◌≡◌, ◌+◌, ◌-◌, ◌*◌, ◌/◌, ◌%◌, ◌<◌, ◌≤◌, ◌⊎◌, true, max, IfOk, OnOk, OnErr};
 ghost use Rattle.sv8_cpu.specs.Run.{footprint, observed};
 ghost use Rattle.sv8_trace.specs.Drafts.{IsDraft};
 ghost use Rattle.sv8_trace.specs.Recorder.{counted_by, RaisedUpTo};

@@ -1,6 +1,6 @@
 //! Loads and stores.
 
-ghost use Rattle.std.specs.Prelude.{◌≡◌, ℕ, ◌+◌, ◌*◌, ◌/◌, ◌%◌, ◌<◌, ◌++◌, ◌∷◌, [], true, false, List, IfOk, OnOk, OnErr};
+ghost use Rattle.std.specs.Prelude.{◌≡◌, ℕ, ◌+◌, ◌*◌, ◌/◌, ◌%◌, ◌<◌, ◌∷◌, [], true, false, List, IfOk, OnOk, OnErr};
 ghost use Rattle.sv8_model.specs.Does.{Does, DoesUnnoted, noting, keeping};
 ghost use Rattle.sv8_model.specs.Outside.{word_address};
 ghost use Rattle.sv8_model.specs.Size.{bytes_in};

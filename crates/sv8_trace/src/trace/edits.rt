@@ -1,6 +1,6 @@
 //! What an edit of past inputs makes of a trace: a cut by the first step that reads what was changed, and patches.
 
-ghost use Rattle.std.specs.Prelude.{◌≡◌, ℕ, ◌*◌, ◌<◌, [], length, ⊤, true, MatchOption, IfOk};
+ghost use Rattle.std.specs.Prelude.{◌≡◌, ◌*◌, ◌<◌, [], length, ⊤, true, MatchOption, IfOk};
 ghost use Rattle.std.specs.List.{All};
 ghost use Rattle.sv8_history.specs.Reads.{first_of_change, first_of_each, earlier};
 ghost use Rattle.sv8_history.specs.Patches.{count_after, edited};

@@ -1,6 +1,6 @@
 //! What patches make of a trace, built in full before anything changes.
 
-ghost use Rattle.std.specs.Prelude.{◌≡◌, ℕ, ◌+◌, ◌*◌, ◌<◌, ◌≤◌, ◌/◌, ◌%◌, ◌==◌, ◌&&◌, [], cond, not, leb, ltb, true, length, slice_index_or, slice_set, option_map, Option, Some, None, IfOk, OnOk, OnErr, IfSome};
+ghost use Rattle.std.specs.Prelude.{◌≡◌, ℕ, ◌+◌, ◌*◌, ◌<◌, ◌≤◌, ◌/◌, ◌%◌, ◌==◌, ◌&&◌, not, leb, length, slice_index_or, slice_set, option_map, Option, Some, None, IfOk, OnOk, IfSome};
 ghost use Rattle.std.specs.List.{All};
 ghost use Rattle.sv8_model.specs.Cells as model;
 ghost use Rattle.sv8_model.specs.Cells.{ram_byte, byte, pending_level, held};
@@ -9,10 +9,9 @@ ghost use Rattle.sv8_history.specs.Trace.{Trace};
 ghost use Rattle.sv8_history.specs.Patches as history;
 ghost use Rattle.sv8_history.specs.Patches.{set_poke, spread, uncover, kept_by_poke};
 ghost use Rattle.sv8_notes.specs.Cells.{cell_of, content_of, IsCell};
-ghost use Rattle.sv8_notes.specs.Steps.{IsFirstBelow};
-ghost use Rattle.sv8_cpu.specs.Recorded.{machine, get, put};
+ghost use Rattle.sv8_cpu.specs.Recorded.{machine, get};
 ghost use Rattle.sv8_trace.specs.Patch.{change_of, changes_of, IsPatch};
-ghost use Rattle.sv8_trace.specs.Recording.{Recording, blank, no_interval, recorded, trace_of};
+ghost use Rattle.sv8_trace.specs.Recording.{blank, recorded, trace_of};
 ghost use Rattle.sv8_trace.specs.Prepared.{list_at, placed, prepared_trace, IsPreparedFor, Near};
 ghost use Rattle.sv8_trace.specs.Patching.{IsFirstWrite, KeptPut, PointsSet, RaisedAt};
 

@@ -1,11 +1,10 @@
 //! The first steps that read what an edit changes.
 
-ghost use Rattle.std.specs.Prelude.{◌≡◌, ℕ, ◌*◌, ◌<◌, ◌≤◌, false, min, length};
+ghost use Rattle.std.specs.Prelude.{◌≡◌, ℕ, ◌*◌, ◌<◌, ◌≤◌, false, min};
 ghost use Rattle.sv8_model.specs.Cells.{ram_byte, pending_level};
 ghost use Rattle.sv8_history.specs.Changes.{Clear};
 ghost use Rattle.sv8_history.specs.Reads.{first_of_change};
 ghost use Rattle.sv8_history.specs.Input.{first_take};
-ghost use Rattle.sv8_notes.specs.Cells.{cell_of};
 ghost use Rattle.sv8_notes.specs.Steps.{IsFirstBelow};
 ghost use Rattle.sv8_notes.specs.Sought.{is_met};
 ghost use Rattle.sv8_cpu.specs.Recorded.{machine};

@@ -1,6 +1,6 @@
 //! What recorded steps show.
 
-ghost use Rattle.std.specs.Prelude.{ℕ, ◌+◌, ◌%◌, ◌≤◌, length, MatchBool};
+ghost use Rattle.std.specs.Prelude.{◌+◌, ◌%◌, ◌≤◌, length, MatchBool};
 ghost use Rattle.sv8_trace.specs.Recording.{recorded};
 ghost use Rattle.sv8_trace.specs.Showing.{NoneShows};
 ghost use Rattle.sv8_notes.specs.Flags.{IsFlaggedUnless};

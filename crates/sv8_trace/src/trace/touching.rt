@@ -1,10 +1,9 @@
 //! Whether recorded steps leave bytes of RAM alone.
 
-ghost use Rattle.std.specs.Prelude.{◌≡◌, ℕ, ◌+◌, ◌/◌, ◌%◌, ◌<◌, ◌≤◌, false, length, MatchBool};
+ghost use Rattle.std.specs.Prelude.{◌+◌, ◌/◌, ◌%◌, ◌<◌, ◌≤◌, false, length, MatchBool};
 ghost use Rattle.sv8_model.specs.declared.touch.TouchKind.{TouchKind};
 ghost use Rattle.sv8_notes.specs.Flags.{IsFlaggedUnless};
-ghost use Rattle.sv8_notes.specs.Sought.{is_met};
-ghost use Rattle.sv8_trace.specs.Recording.{recorded, trace_of};
+ghost use Rattle.sv8_trace.specs.Recording.{recorded};
 ghost use Rattle.sv8_trace.specs.Touching.{NoneTouches};
 
 use crate::trace::Trace;
