@@ -62,6 +62,19 @@ class Schedule(unittest.TestCase):
         page = PAGE.replace("`side`", "`another`")
         self.assertAlmostEqual(next(it.minutes for it in tasks_of(self.sources, page) if it.crate == "side"), 11 / 3)
 
+    def test_what_is_under_way_is_told_once_a_minute(self) -> None:
+        now = [0.0]
+        progress = Progress(self.tasks, 4, lanes=2, clock=lambda: now[0])
+        for at_work in ([], ["low"]):
+            now[0] += 60.0
+            progress.at_work = at_work
+            with contextlib.redirect_stderr(io.StringIO()) as said:
+                progress.tick()
+                progress.tick()
+            self.assertEqual(said.getvalue().count("sparc8:"), 1)
+            # Where it is not known, those are told that wait for none.
+            self.assertIn("sparc8:   low; 2" if at_work else "sparc8:   low, side; 1", said.getvalue())
+
     def test_the_minutes_to_come_follow_the_pace(self) -> None:
         now = [0.0]
         progress = Progress(self.tasks, 1, clock=lambda: now[0])

@@ -1,10 +1,10 @@
 """Proves crates side by side, each by a command of its own (`ways` says which), once something is to be proved.
 
 One `rt ci` of all crates gives most proofs one processor, also while others have nothing to do: it counts with the
-tests that each crate might have. So crates are asked for one by one, those with the longest way above them first, two
-at a time on four processors: with three the longest way went slower. Each may use all processors, where the toolchain
-lets the launcher say so, and the one on the longest way has them first: the other goes on with what it leaves. Where a
-crate at work has a shorter way than one that becomes ready, the second does not wait for it.
+tests that each crate might have. So crates are asked for one by one, those with the longest way above them first, three
+at a time on four processors, since each begins and ends with seconds that use one. The one on the longest way has the
+processors first, and the others go on with what it leaves. Where a crate at work has a shorter way than one that becomes
+ready, the second does not wait for it.
 
 A command takes some seconds before it proves anything, the more the more crates lie below. So the next crate is begun
 while the last of its libraries is under way: where commands share what they prove, its own then waits for that.
@@ -45,7 +45,7 @@ _AMPLE_BYTES = 16 << 30
 
 def lanes(cores: int, memory: int) -> int:
     """How many crates are proved side by side; 0 where `rt ci` of all is as quick, or memory holds no two checks."""
-    number = min(max(2, cores // 4), memory // _CHECK_BYTES)
+    number = min(max(3, cores // 4), memory // _CHECK_BYTES)
     return number if cores >= 4 and number >= 2 else 0
 
 
@@ -100,6 +100,7 @@ class Ahead:
         """
         try:
             while self._begin(number):
+                self._progress.at_work = self._at_work()
                 time.sleep(_LOOK_SECONDS)
                 tick()
                 self._look()
@@ -107,6 +108,7 @@ class Ahead:
                     return False
             return True
         finally:
+            self._progress.at_work = []
             for it in self._under_way:
                 running.end(it.process)
                 it.said.close()

@@ -42,6 +42,8 @@ class Progress:
         self._pace = times.measured().get("pace", _USUAL_PACE)
         self._functions, self._of_crate, self._within, self._current = 0, 0, "", ""
         self.proved: list[str] = []
+        # Those that are known to be under way.
+        self.at_work: list[str] = []
         self.has_worked = False
         self.was_kept = False
 
@@ -113,9 +115,11 @@ class Progress:
             self._tell(f"  {', '.join(self._at_work())}" + (f", {self._within}" if self._within else ""))
 
     def _at_work(self) -> list[str]:
-        """The crates that may be under way: those that wait for none."""
+        """The crates under way, or, where they are not known, those that may be: they wait for none."""
         if self._current or not self._foretells:
             return [self._current or "what was kept is read"]
+        if self.at_work:
+            return self.at_work
         ready = [
             it
             for it in self._tasks
