@@ -36,7 +36,7 @@ impl<const PAGES: usize> Model for Ram<PAGES> {
 }
 
 impl<const PAGES: usize> Ram<PAGES> {
-    /// RAM of zeros. It takes no more memory than the pages that stand for those that were never written.
+    /// RAM of zeros. It takes no more memory than the halves of zeros that stand for all that was never written.
     pub(crate) fn new(alloc: Global) -> Result<Self, AllocError>
         requires { PAGES ≤ 65536 }
         ensures { IfOk result (λ m. m ≡ replicate (ram_size PAGES) 0) }

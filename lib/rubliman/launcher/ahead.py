@@ -3,8 +3,8 @@
 One `rt ci` of all crates gives most proofs one processor, also while others have nothing to do: it counts with the
 tests that each crate might have. So crates are asked for one by one, those with the longest way above them first, three
 at a time on four processors, since each begins and ends with seconds that use one. The one on the longest way has the
-processors first, and the others go on with what it leaves. Where a crate at work has a shorter way than one that becomes
-ready, the second does not wait for it.
+processors first, and the others go on with what it leaves. Where a crate at work has a shorter way than one that
+becomes ready, the second does not wait for it.
 
 A command takes some seconds before it proves anything, the more the more crates lie below. So the next crate is begun
 while the last of its libraries is under way: where commands share what they prove, its own then waits for that.
