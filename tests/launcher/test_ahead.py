@@ -72,6 +72,14 @@ class Ahead(InRepository):
             self.prove(waits, text=text)
         self.assertEqual(sorted(self.all_calls()), ["ci high", "ci low", "ci side", "ci tall"])
 
+    def test_a_crate_with_a_far_shorter_way_leaves_the_processors_to_two_others(self) -> None:
+        # `side` may be begun once `low` or `long` has ended: its way has 2 minutes where theirs have 10.
+        text = f"low:\nlong:\nside:\nhigh: low long\n{WORKBENCH}: high side\n"
+        ended = self.room / "ended"
+        waits = f"case $2 in low | long) sleep 0.5; touch {ended} ;; side) [ -e {ended} ] || exit 1 ;; esac; {SAYS}"
+        self.prove(waits, lanes=3, text=text)
+        self.assertEqual(sorted(self.all_calls()), ["ci high", "ci long", "ci low", "ci side"])
+
     def test_tests_hold_no_other_crate_back(self) -> None:
         # `low` is proved, and its tests wait for `high`, which can only come once `low` counts as proved.
         tests = f'[ "$2" = low ] && until grep -q "ci high" {self.log}; do sleep 0.1; done; true'

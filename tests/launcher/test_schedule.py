@@ -9,7 +9,7 @@ import unittest
 from unittest import mock
 
 from rubliman.launcher.progress import Progress
-from rubliman.launcher.schedule import longest_first, minutes_left, minutes_of, tasks_of
+from rubliman.launcher.schedule import longest_first, minutes_left, minutes_of, tasks_of, ways_above
 from rubliman.launcher.sources import WORKBENCH, Sources, crates_of
 
 from .support import CRATES, PAGE
@@ -51,7 +51,9 @@ class Schedule(unittest.TestCase):
         self.assertAlmostEqual(minutes_left(self.tasks, (), 4, 2), (4 + 6 + 1) / 1.5)
 
     def test_the_longest_way_comes_first(self) -> None:
-        self.assertEqual(longest_first(self.tasks), ["low", "high", "side", "sparc8"])
+        ways = ways_above(self.tasks)
+        self.assertEqual(ways, {"low": 11.0, "high": 7.0, "side": 3.0, "sparc8": 1.0})
+        self.assertEqual(longest_first(ways), ["low", "high", "side", "sparc8"])
 
     def test_what_is_proved_is_not_counted(self) -> None:
         self.assertAlmostEqual(minutes_left(self.tasks, ("low", "side", "high"), 1), 1.0)

@@ -4,7 +4,8 @@ One `rt ci` of all crates gives most proofs one processor, also while others hav
 tests that each crate might have. So crates are asked for one by one, those with the longest way above them first, three
 at a time on four processors, since each begins and ends with seconds that use one. The one on the longest way has the
 processors first, and the others go on with what it leaves. Where a crate at work has a shorter way than one that
-becomes ready, the second does not wait for it.
+becomes ready, the second does not wait for it. A crate with a far shorter way than the longest one leaves the processors
+to two others: what waits for it is far, and at the end of the longest way there are processors with nothing to do.
 
 A command takes some seconds before it proves anything, the more the more crates lie below. So the next crate is begun
 while the last of its libraries is under way: where commands share what they prove, its own then waits for that.
@@ -39,6 +40,8 @@ _MOST_JOBS = 4
 _NICENESS, _NICEST = 10, 19
 # Behind so many seconds a command has begun its proof, so that another one waits for it and does not begin the same.
 _BEGUN_SECONDS = 20
+# While two crates are at work, one whose way is a smaller part of the longest way than this can wait.
+_NEAR = 0.4
 # A command counts the memory that is free when it begins, and with less it may give its crate one job.
 _AMPLE_BYTES = 16 << 30
 
@@ -86,7 +89,8 @@ class Ahead:
         self._tasks = list(tasks)
         self._way, self._environment, self._progress, self._jobs = way, environment, progress, jobs
         self._proved = set(progress.proved)
-        self._order = schedule.longest_first(self._tasks)
+        self._ways = schedule.ways_above([it for it in self._tasks if not it.of_tests])
+        self._order = schedule.longest_first(self._ways)
         self._left = [it for it in self._order if it not in self._proved]
         self._below = {it.crate: set(it.below) for it in self._tasks if not it.of_tests}
         self._under_way: list[_Begun] = []
@@ -116,7 +120,8 @@ class Ahead:
     def _begin(self, number: int) -> bool:
         """Begins crates whose libraries are proved, and the one that comes next. Gives whether one is under way."""
         for crate in [it for it in self._left if self._is_ready(it)]:
-            if len(self._at_work()) < number or self._overtakes(crate, number):
+            has_place = len(self._at_work()) < number or self._overtakes(crate, number)
+            if has_place and not self._can_wait(crate):
                 self._begin_one(crate)
         following = self._following()
         if following:
@@ -142,12 +147,18 @@ class Ahead:
         is_longer = any(self._order.index(it) > self._order.index(crate) for it in at_work)
         return is_longer and len(at_work) == number and free_memory() >= _AMPLE_BYTES
 
+    def _can_wait(self, crate: str) -> bool:
+        """Whether a crate leaves the processors to those at work, since what waits for it is far."""
+        longest = max(self._ways[it] for it in [*self._left, *(it.crate for it in self._under_way)])
+        return len(self._at_work()) >= 2 and self._ways[crate] < _NEAR * longest
+
     def _following(self) -> str | None:
         """The crate that comes next, where it lacks libraries that are being proved, and no other crate waits so."""
         if not self._way.waits or len(self._at_work()) < len(self._under_way) or free_memory() < _AMPLE_BYTES:
             return None
         since = {it.crate: it.since for it in self._under_way}
-        following = next((it for it in self._left if self._below[it] <= self._proved | since.keys()), None)
+        others = (it for it in self._left if self._below[it] <= self._proved | since.keys())
+        following = next((it for it in others if not self._can_wait(it)), None)
         lacking = self._below[following] - self._proved if following else set()
         have_begun = all(time.monotonic() - since[it] >= _BEGUN_SECONDS for it in lacking)
         return following if lacking and have_begun else None

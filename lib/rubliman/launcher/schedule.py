@@ -3,7 +3,7 @@ from __future__ import annotations
 
 import heapq
 import re
-from collections.abc import Iterable, Mapping
+from collections.abc import Iterable, Mapping, Sequence
 from dataclasses import dataclass
 
 from .sources import Sources
@@ -46,11 +46,9 @@ def tasks_of(sources: Sources, page: str) -> list[Task]:
     return tasks
 
 
-def longest_first(tasks: Iterable[Task]) -> list[str]:
-    """The crates, those with the longest way above them first."""
-    proofs = [it for it in tasks if not it.of_tests]
-    ways = _ways(proofs)
-    return sorted((it.crate for it in proofs), key=lambda it: -ways[it])
+def longest_first(ways: Mapping[str, float]) -> list[str]:
+    """The crates, those with the longest way first."""
+    return sorted(ways, key=lambda it: -ways[it])
 
 
 def minutes_left(tasks: Iterable[Task], proved: Iterable[str], cores: int, lanes: int = 0) -> float:
@@ -60,7 +58,7 @@ def minutes_left(tasks: Iterable[Task], proved: Iterable[str], cores: int, lanes
     """
     done = set(proved)
     left = [it for it in tasks if it.crate not in done]
-    behind = _ways(left)
+    behind = ways_above(left)
     left.sort(key=lambda it: (it.of_tests, -behind[it.crate]))
     running: list[tuple[float, int, Task, int]] = []
     now, number = 0.0, 0
@@ -82,13 +80,13 @@ def minutes_left(tasks: Iterable[Task], proved: Iterable[str], cores: int, lanes
     return now
 
 
-def _ways(tasks: list[Task]) -> Mapping[str, float]:
+def ways_above(tasks: Sequence[Task]) -> Mapping[str, float]:
     """For each crate, the minutes of the longest way from it up to the last that stands on it."""
-    ways: dict[str, float] = {}
+    ways: dict[str, float] = {it.crate: 0.0 for it in tasks}
     above: dict[str, float] = {}
     for task in reversed(tasks):
         way = above.get(task.crate, 0.0) + (0.0 if task.of_tests else task.minutes)
-        ways[task.crate] = max(ways.get(task.crate, 0.0), way)
+        ways[task.crate] = max(ways[task.crate], way)
         if not task.of_tests:
             for it in task.below:
                 above[it] = max(above.get(it, 0.0), way)
