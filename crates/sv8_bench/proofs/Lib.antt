@@ -3,4 +3,4 @@ pub mod ImageWords
 pub mod Queried
 pub mod Alike
 pub mod Edited
-pub mod Walking
+pub mod Made

@@ -3,5 +3,5 @@ pub mod Kept
 pub mod Shown
 pub mod Workbench
 pub mod Alike
-pub mod Walks
+pub mod Made
 pub mod Edits

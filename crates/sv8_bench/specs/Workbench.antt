@@ -6,6 +6,7 @@ use Rattle.sv8_history.specs.Input.{IsFirstTake}
 use Rattle.sv8_history.specs.Trace.{IsTraceOf}
 use Rattle.sv8_history.specs.Laws.{IsRightCount}
 use Rattle.sv8_history.specs.Growing.{restored}
+use Rattle.sv8_phys.specs.Memory.{ram_size}
 use Rattle.sv8_cpu.specs.Recorded.{machine, AreEvents, IsSound}
 use Rattle.sv8_reset.specs.Reset.{reset_state, run_of}
 use Rattle.sv8_trace.specs.Recorder.{counted_by, RaisedUpTo}
@@ -28,7 +29,7 @@ checkpoints w = length w.recording.intervals
 abbrev pub run_of_kept : (k : Kept) → AreEvents k.pages k.timeline → Run (machine k.windows k.pages)
 run_of_kept k valid = run_of k.windows k.pages k.source k.timeline valid
 
--- the machine has so many register windows and pages of RAM, and a checkpoint stands every k steps
+-- the machine has so many register windows and pages of RAM, which is what the timeline may poke, and a checkpoint stands every k steps
 pub record IsSized (nw ram_pages k : ℕ) (w : Workbench) : Type 0 where
   pub windows : w.kept.windows ≡ nw
   pub pages : w.kept.pages ≡ ram_pages
@@ -38,6 +39,7 @@ pub record IsSized (nw ram_pages k : ℕ) (w : Workbench) : Type 0 where
   pub few_pages : ram_pages ≤ 65536
   pub some_steps : 1 ≤ k
   pub few_steps : k ≤ 1000000
+  pub limit : w.kept.timeline.limit ≡ ram_size ram_pages
 
 -- THE RECORD OF A RUN: each checkpoint is the state of its step, each step has the notes of what it touches, and each interval has the signs that the
 -- states before and after its steps show.

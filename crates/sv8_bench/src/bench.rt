@@ -16,10 +16,10 @@ ghost use Rattle.sv8_bench.specs.Workbench.{IsRun, IsNew, IsEdited, IsSized};
 
 mod affected;
 mod copies;
+mod drafts;
 mod edits;
 mod patches;
 mod queries;
-mod walks;
 
 use crate::bench::affected::{Affected, commit, prepare};
 use crate::bench::patches::image_patches;

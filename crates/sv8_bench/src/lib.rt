@@ -4,7 +4,6 @@
 mod bench;
 mod fault;
 mod shown;
-mod walk;
 
 pub use bench::{Bench, LAST_STEP};
 pub use fault::{BAD_ADDRESS, BenchFault, NO_SUCH_LINE, STEP_TOO_LARGE};
@@ -12,4 +11,3 @@ pub use shown::Shown;
 pub use sv8_cpu::Mmu;
 pub use sv8_phys::Timer;
 pub use sv8_source::{DefinedName, Listed, NameKind};
-pub use walk::{Place, Walk};

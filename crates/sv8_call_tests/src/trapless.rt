@@ -8,6 +8,7 @@ use sv8_model::Refused;
 use sv8_phys::Watch;
 use sv8_search::{checkpoint, flag_shown, shows_none};
 use sv8_trace::Sign;
+use sv8_walks::Walk;
 
 /// A program that takes a trap in step 4, whose handler goes back in steps 5 and 6. Its first line is `wr %g0, 0xa0, %psr`,
 /// which enables traps.
@@ -207,11 +208,11 @@ fn tells_edits(alloc: Global, bench: &mut Small) -> Result<bool, Fail> {
 /// Whether a walk notes the trap that it sees.
 fn tells_walks(alloc: Global, bench: &mut Small) -> Result<bool, Fail> {
     let mut watch = Watch::new(alloc);
-    let mut walk = bench.walk(4, &mut watch)?;
-    bench.walk_on(&mut walk, &mut watch)?;
-    bench.walk_on(&mut walk, &mut watch)?;
-    bench.walk_on(&mut walk, &mut watch)?;
-    bench.walk_on(&mut walk, &mut watch)?;
+    let mut walk = Walk::begin(bench, 4, &mut watch)?;
+    walk.go_on(bench, &mut watch)?;
+    walk.go_on(bench, &mut watch)?;
+    walk.go_on(bench, &mut watch)?;
+    walk.go_on(bench, &mut watch)?;
     Ok(bench.recorded() == 8 && answers(bench, &[(0, 4, true), (4, 8, false)]))
 }
 
@@ -219,10 +220,10 @@ fn tells_walks(alloc: Global, bench: &mut Small) -> Result<bool, Fail> {
 fn walks_past(alloc: Global, bench: &mut Small) -> Result<bool, Fail> {
     bench.regs_at(12)?;
     let mut watch = Watch::new(alloc);
-    let mut walk = bench.walk(1, &mut watch)?;
-    bench.walk_to(&mut walk, 6, &mut watch)?;
+    let mut walk = Walk::begin(bench, 1, &mut watch)?;
+    walk.go_to(bench, 6, &mut watch)?;
     let there = walk.step() == 6 && walk.machine().pc() == 0x804 && !walk.machine().is_at_trap();
-    bench.walk_to(&mut walk, 6, &mut watch)?;
+    walk.go_to(bench, 6, &mut watch)?;
     Ok(there && walk.step() == 6 && bench.worked() == 18)
 }
 

@@ -7,6 +7,7 @@ use sv8_bench::BenchFault;
 use sv8_model::Refused;
 use sv8_phys::Watch;
 use sv8_search::is_unreached;
+use sv8_walks::Walk;
 
 /// A program that turns translation on in step 7, the last one of its interval, and off in step 8. One entry, at 400
 /// (hexadecimal), maps each address to itself.
@@ -103,12 +104,12 @@ fn tells(bench: &mut Small, steps: u32, ranges: &[Range]) -> Result<bool, Refuse
 /// Whether each has, once a walk has recorded the interval of steps 8 to 11 and the one behind it.
 fn tells_walked(alloc: Global, bench: &mut Small, ranges: &[Range]) -> Result<bool, AllocError> {
     let mut watch = Watch::new(alloc);
-    let mut walk = bench.walk(11, &mut watch)?;
-    bench.walk_on(&mut walk, &mut watch)?;
-    bench.walk_on(&mut walk, &mut watch)?;
-    bench.walk_on(&mut walk, &mut watch)?;
-    bench.walk_on(&mut walk, &mut watch)?;
-    bench.walk_on(&mut walk, &mut watch)?;
+    let mut walk = Walk::begin(bench, 11, &mut watch)?;
+    walk.go_on(bench, &mut watch)?;
+    walk.go_on(bench, &mut watch)?;
+    walk.go_on(bench, &mut watch)?;
+    walk.go_on(bench, &mut watch)?;
+    walk.go_on(bench, &mut watch)?;
     Ok(bench.recorded() == 16 && answers(bench, ranges))
 }
 

@@ -5,8 +5,8 @@ ghost use Rattle.std.specs.Prelude.{◌<◌};
 use std::alloc::{AllocError, Global};
 use std::test::Fail;
 use sv8_bench::Bench;
-use sv8_lockstep::walk_in_lockstep;
 use sv8_phys::Watch;
+use sv8_walks::{Walk, walk_in_lockstep};
 
 /// A machine with one page of RAM, and a checkpoint every 256 steps.
 type Small = Bench<8, 1, 256>;
@@ -34,15 +34,15 @@ fn with_lines(alloc: Global, texts: &[&[u8]]) -> Result<Small, Fail> {
 /// one from step 255 records none again.
 fn leads_on(alloc: Global, bench: &mut Small) -> Result<bool, AllocError> {
     let mut watch = Watch::new(alloc);
-    let mut walk = bench.walk(511, &mut watch)?;
+    let mut walk = Walk::begin(bench, 511, &mut watch)?;
     let begun = steps(bench) == (256, 511) && walk.machine().registers().get(1) == 255;
-    bench.walk_on(&mut walk, &mut watch)?;
+    walk.go_on(bench, &mut watch)?;
     let recorded = steps(bench) == (512, 512) && walk.machine().registers().get(1) == 256;
     let seen = watch.touches().len() == 1 && watch.observations().len() == 1;
-    bench.walk_past::<0>(&mut walk, &mut watch)?;
+    walk.pass::<256, 0>(bench, &mut watch)?;
     let behind = steps(bench) == (512, 513) && walk.step() == 513 && walk.machine().pc() == 4;
-    let mut again = bench.walk(255, &mut watch)?;
-    bench.walk_on(&mut again, &mut watch)?;
+    let mut again = Walk::begin(bench, 255, &mut watch)?;
+    again.go_on(bench, &mut watch)?;
     let kept = steps(bench) == (512, 769) && again.machine().registers().get(1) == 128;
     Ok(begun && recorded && seen && behind && kept)
 }
@@ -64,8 +64,8 @@ fn together(
     requires { from < 600 }
 {
     let mut watch = Watch::new(alloc);
-    let mut walk = bench.walk(from, &mut watch)?;
-    let mut other_walk = other.walk(from, &mut watch)?;
+    let mut walk = Walk::begin(bench, from, &mut watch)?;
+    let mut other_walk = Walk::begin(other, from, &mut watch)?;
     if !other_walk.machine().has_same_processor(walk.machine()) {
         return Ok(600);
     }
@@ -82,8 +82,8 @@ fn come_to(alloc: Global, own: &[&[u8]], others: &[&[u8]]) -> Result<(u32, u64),
     let mut bench = with_lines(alloc, own)?;
     let mut other = with_lines(alloc, others)?;
     let mut watch = Watch::new(alloc);
-    let _ = bench.walk(512, &mut watch)?;
-    let _ = other.walk(512, &mut watch)?;
+    let _ = Walk::begin(&mut bench, 512, &mut watch)?;
+    let _ = Walk::begin(&mut other, 512, &mut watch)?;
     let step = together(alloc, &mut bench, &mut other, 0)?;
     Ok((step, other.worked()))
 }
@@ -181,8 +181,8 @@ fn walks_part_in_front_of_another_count(rt: HostRuntime) -> Result<(), Fail> {
     let mut other = with_lines(alloc, polling)?;
     other.set_input(99, b"x")?;
     let mut watch = Watch::new(alloc);
-    let _ = bench.walk(512, &mut watch)?;
-    let _ = other.walk(512, &mut watch)?;
+    let _ = Walk::begin(&mut bench, 512, &mut watch)?;
+    let _ = Walk::begin(&mut other, 512, &mut watch)?;
     assert!(rt; together(alloc, &mut bench, &mut other, 100)? == 100);
     Ok(())
 }
@@ -194,8 +194,8 @@ fn walks_part_in_front_of_an_event(rt: HostRuntime) -> Result<(), Fail> {
     let mut bench = with_lines(alloc, COUNT)?;
     let mut other = with_lines(alloc, COUNT)?;
     let mut watch = Watch::new(alloc);
-    let _ = bench.walk(512, &mut watch)?;
-    let _ = other.walk(512, &mut watch)?;
+    let _ = Walk::begin(&mut bench, 512, &mut watch)?;
+    let _ = Walk::begin(&mut other, 512, &mut watch)?;
     other.set_poke(100, 0x100, 7)?;
     assert!(rt; together(alloc, &mut bench, &mut other, 0)? == 100);
     Ok(())
@@ -225,8 +225,8 @@ fn translated_walks_go_on_together(rt: HostRuntime) -> Result<(), Fail> {
     let mut bench = with_lines(alloc, MAPPED)?;
     let mut other = with_lines(alloc, MAPPED)?;
     let mut watch = Watch::new(alloc);
-    let _ = bench.walk(512, &mut watch)?;
-    let _ = other.walk(512, &mut watch)?;
+    let _ = Walk::begin(&mut bench, 512, &mut watch)?;
+    let _ = Walk::begin(&mut other, 512, &mut watch)?;
     assert!(rt; together(alloc, &mut bench, &mut other, 0)? == 2);
     assert!(rt; together(alloc, &mut bench, &mut other, 20)? == 512);
     Ok(())

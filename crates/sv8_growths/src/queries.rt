@@ -3,9 +3,9 @@
 
 use std::alloc::{AllocError, Global};
 use sv8_bench::{Bench, BenchFault};
-use sv8_lockstep::walk_in_lockstep;
 use sv8_model::Refused;
 use sv8_phys::Watch;
+use sv8_walks::{Walk, walk_in_lockstep};
 
 type Small = Bench<8, 2, 256>;
 
@@ -206,9 +206,9 @@ fn is_copied(alloc: Global, bench: &Small) -> bool {
 /// Whether a walk leads over the next checkpoint.
 fn walked(alloc: Global, bench: &mut Small) -> Result<bool, AllocError> {
     let mut watch = Watch::new(alloc);
-    let mut walk = bench.walk(1_279, &mut watch)?;
-    bench.walk_on(&mut walk, &mut watch)?;
-    bench.walk_past::<0>(&mut walk, &mut watch)?;
+    let mut walk = Walk::begin(bench, 1_279, &mut watch)?;
+    walk.go_on(bench, &mut watch)?;
+    walk.pass::<256, 0>(bench, &mut watch)?;
     Ok(walk.step() == 1_281 && bench.recorded() == 1_280 && walk.machine().word(0x104) == 7)
 }
 
@@ -227,8 +227,8 @@ fn walked_together(
     other: &mut Small,
 ) -> Result<bool, AllocError> {
     let mut watch = Watch::new(alloc);
-    let mut walk = bench.walk(2, &mut watch)?;
-    let mut other_walk = other.walk(2, &mut watch)?;
+    let mut walk = Walk::begin(bench, 2, &mut watch)?;
+    let mut other_walk = Walk::begin(other, 2, &mut watch)?;
     if !other_walk.machine().has_same_processor(walk.machine()) {
         return Ok(false);
     }

@@ -8,7 +8,7 @@ use Rattle.sv8_cpu.specs.Sameness.{IsSameProcessor}
 use Rattle.sv8_bench.specs.Alike.{AreAlikeUpTo}
 use Rattle.sv8_bench.specs.Kept.{Kept}
 use Rattle.sv8_bench.specs.Shown.{machine_state}
-use Rattle.sv8_bench.specs.Walks.{state_in}
+use Rattle.sv8_walks.specs.Walks.{state_in}
 use Rattle.sv8_bench.specs.Workbench.{Workbench}
 use Rattle.sv8_search.specs.declared.compare.Both.{Both}
 use Rattle.sv8_search.specs.Comparing.{AreSameOutside, AreWalks, AreAlike, IsParted}

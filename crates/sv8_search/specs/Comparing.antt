@@ -9,7 +9,7 @@ use Rattle.sv8_bench.specs.declared.fault.BenchFault.{BenchFault}
 use Rattle.sv8_bench.specs.declared.fault.BenchFault.TheVariants.{Time}
 use Rattle.sv8_bench.specs.Kept.{Kept}
 use Rattle.sv8_bench.specs.Shown.{machine_state}
-use Rattle.sv8_bench.specs.Walks.{IsWalk}
+use Rattle.sv8_walks.specs.Walks.{IsWalk}
 use Rattle.sv8_bench.specs.Workbench.{Workbench}
 use Rattle.sv8_search.specs.declared.compare.Both.{Both}
 use Rattle.sv8_search.specs.declared.difference.Difference.{Difference}

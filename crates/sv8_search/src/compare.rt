@@ -7,19 +7,19 @@ ghost use Rattle.sv8_bench.specs.Alike.{AreAlikeUpTo};
 ghost use Rattle.sv8_bench.specs.Shown.{machine_state};
 ghost use Rattle.sv8_bench.specs.Workbench.{checkpoints, IsAnswered, IsGivenUp};
 ghost use Rattle.sv8_cpu.specs.Sameness.{IsSameProcessor};
-ghost use Rattle.sv8_bench.specs.Walks.{state_in};
+ghost use Rattle.sv8_walks.specs.Walks.{state_in};
 ghost use Rattle.sv8_search.specs.Search.{IsSearched, IsWalked, IsStopped, IsAbandoned};
 ghost use Rattle.sv8_search.specs.Comparing.{range_refusal, AreAlike, AreSameOutside, AreWalks, IsParted, parting, differences};
 
 use crate::difference::Difference;
 use std::alloc::{AllocError, Global};
-use sv8_bench::{Bench, BenchFault, LAST_STEP, STEP_TOO_LARGE, Walk};
+use sv8_bench::{Bench, BenchFault, LAST_STEP, STEP_TOO_LARGE};
 use sv8_cpu::Machine;
-use sv8_lockstep::walk_in_lockstep;
 use sv8_model::Refused;
 use sv8_phys::Watch;
+use sv8_walks::{Walk, walk_in_lockstep};
 
-/// The sites of the steps of both runs (see `walk_past`).
+/// The sites of the steps of both runs (see `Walk::pass`).
 const NOW: usize = 2;
 
 const BEFORE: usize = 3;
@@ -135,8 +135,8 @@ fn go_on<const NW: usize, const PAGES: usize, const K: u32>(
         return Ok(true);
     }
     let window = both.window();
-    now.walk_past::<NOW>(&mut both.walk, watch)?;
-    before.walk_past::<BEFORE>(&mut both.other, watch)?;
+    both.walk.pass::<K, NOW>(now, watch)?;
+    both.other.pass::<K, BEFORE>(before, watch)?;
     Ok(both.are_alike_after(window))
 }
 
@@ -155,8 +155,8 @@ fn part_within<const NW: usize, const PAGES: usize, const K: u32>(
     now.sizes();
     before.sizes();
     let mut watch = Watch::new(now.alloc());
-    let walk = now.walk(from, &mut watch)?;
-    let other = before.walk(from, &mut watch)?;
+    let walk = Walk::begin(now, from, &mut watch)?;
+    let other = Walk::begin(before, from, &mut watch)?;
     let mut both = Both { walk, other };
     if !both.are_alike() {
         return Ok(Some(both.walk.step()));

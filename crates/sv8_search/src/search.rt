@@ -11,7 +11,8 @@ ghost use Rattle.sv8_watch.specs.Conditions.{is_met, meets, meets_any};
 ghost use Rattle.sv8_watch.specs.Happening.{happened};
 ghost use Rattle.sv8_watch.specs.Watched.{IsBefore, IsStepFrom, happening_of};
 ghost use Rattle.sv8_bench.specs.Shown.{machine_state};
-ghost use Rattle.sv8_bench.specs.Walks.{IsWalk, IsMade};
+ghost use Rattle.sv8_bench.specs.Made.{IsMade};
+ghost use Rattle.sv8_walks.specs.Walks.{IsWalk};
 ghost use Rattle.sv8_search.specs.Plans.{IsPlan};
 ghost use Rattle.sv8_search.specs.Search.{olds_of, old_count, olds_count, is_inside, are_inside, any_met, found_at, found_if, is_wanted, wanted_found, rising, looked_to, sought_to, steps_refusal, steps_told, IsSearched, IsAdded, IsSought, IsTried, IsWalked, IsStopped, IsAbandoned};
 
@@ -21,11 +22,12 @@ use crate::old_bytes::{look_again, look_at_old, old_count};
 use crate::plan::Plan;
 use crate::room::Room;
 use std::alloc::AllocError;
-use sv8_bench::{BAD_ADDRESS, Bench, BenchFault, LAST_STEP, STEP_TOO_LARGE, Walk};
+use sv8_bench::{BAD_ADDRESS, Bench, BenchFault, LAST_STEP, STEP_TOO_LARGE};
 use sv8_cpu::Machine;
 use sv8_model::Refused;
 use sv8_phys::Watch;
 use sv8_time::Timeline;
+use sv8_walks::Walk;
 use sv8_watch::{Before, Condition, MadeStep};
 
 /// Whether a step meets one of some conditions. `old` are the bytes that they compare with those of the machine behind it.
@@ -221,7 +223,7 @@ fn look<const NW: usize, const PAGES: usize, const K: u32>(
     let n = walk.step();
     let before = Before::of(walk.machine());
     let _size = walk.machine().ram_size();
-    bench.walk_on(walk, watch)?;
+    walk.go_on(bench, watch)?;
     let after = walk.machine();
     let bytes = old.as_slice();
     if !may_be_wanted(
@@ -304,7 +306,7 @@ fn go_on<const NW: usize, const PAGES: usize, const K: u32>(
     let _size = walk.machine().ram_size();
     let end = plan.passable(bench, conditions, step, to)?;
     if step < end {
-        bench.walk_to(walk, end, watch)?;
+        walk.go_to(bench, end, watch)?;
         return Ok(left);
     }
     let rest = look(bench, walk, watch, conditions, old, found, left)?;
@@ -335,7 +337,7 @@ pub(crate) fn search_up<const NW: usize, const PAGES: usize, const K: u32>(
     ensures given_up { IsAbandoned K from to bench.old bench.new }
 {
     bench.sizes();
-    let mut walk = bench.walk(from, &mut room.watch)?;
+    let mut walk = Walk::begin(bench, from, &mut room.watch)?;
     look_at_old(&mut room.old, conditions, walk.machine())?;
     room.plan.forget();
     let mut left = most;

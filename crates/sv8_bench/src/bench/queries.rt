@@ -10,7 +10,7 @@ ghost use Rattle.sv8_trace.specs.Recorder.{steps_on, counted_by, RaisedUpTo};
 ghost use Rattle.sv8_trace.specs.Recording.{last_point, recorded};
 ghost use Rattle.sv8_bench.specs.Faults.{are_words, step_refusal, words_refusal};
 ghost use Rattle.sv8_bench.specs.Shown.{machine_state, shown_at, words_in, words_shown, output_shown};
-ghost use Rattle.sv8_bench.specs.Workbench.{IsAnswered, IsGivenUp, IsRecordOf};
+ghost use Rattle.sv8_bench.specs.Workbench.{checkpoints, IsAnswered, IsGivenUp, IsRecordOf};
 
 use crate::bench::Bench;
 use crate::fault::{BAD_ADDRESS, BenchFault, STEP_TOO_LARGE};
@@ -252,5 +252,28 @@ impl<const NW: usize, const PAGES: usize, const K: u32> Bench<NW, PAGES, K> {
         let from = step - step % K;
         let machine = run_on(machine, from, step, &self.timeline, &mut self.work)?;
         Ok(machine)
+    }
+
+    /// Records the run up to the last checkpoint that is not above a step, where it is not recorded so far.
+    ///
+    /// # Errors
+    ///
+    /// `AllocError` where memory for it cannot be had; what was recorded by then stays.
+    pub fn record_below(&mut self, step: u32) -> Result<(), AllocError>
+        requires step { step ≤ 1000000 }
+        ensures kept { self.new.kept ≡ self.old.kept }
+        ensures recorded { OnOk result (checkpoints self.new ≡ max (checkpoints self.old) (step / K)) }
+        ensures counted { OnOk result (self.new.worked ≡ counted_by (K * (step / K - checkpoints self.old)) self.old.worked) }
+        ensures fewest { checkpoints self.old ≤ checkpoints self.new }
+        ensures most { checkpoints self.new ≤ max (checkpoints self.old) (step / K) }
+        ensures raised { RaisedUpTo (K * (step / K - checkpoints self.old)) self.old.worked self.new.worked }
+    {
+        record_up_to(
+            self.alloc,
+            &mut self.trace,
+            &self.timeline,
+            &mut self.work,
+            step,
+        )
     }
 }

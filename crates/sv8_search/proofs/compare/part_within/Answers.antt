@@ -7,12 +7,12 @@ use Rattle.sv8_search.proofs.compare.part_within.Goals as goal
 pub returns-in_err-other-clause-given_up : goal.returns-in_err-other-clause-given_up
 returns-in_err-other-clause-given_up g c =
     let pos = c.sizes.ensures.some_steps in
-    (searched_from pos c.requires.ordered c.walk.ensures.given_up, searched_from pos c.requires.ordered c.walk-2.ensures.given_up)
+    (searched_from pos c.requires.ordered c.begin.ensures.given_up, searched_from pos c.requires.ordered c.begin-2.ensures.given_up)
 
 pub returns-then-not-are_alike-clause-given_up : goal.returns-then-not-are_alike-clause-given_up
 returns-then-not-are_alike-clause-given_up g c =
     let pos = c.sizes.ensures.some_steps in
-    (searched_from pos c.requires.ordered c.walk.ensures.given_up, searched_from pos c.requires.ordered c.walk-2.ensures.given_up)
+    (searched_from pos c.requires.ordered c.begin.ensures.given_up, searched_from pos c.requires.ordered c.begin-2.ensures.given_up)
 
 pub returns-in_err-alike-clause-given_up : goal.returns-in_err-alike-clause-given_up
 returns-in_err-alike-clause-given_up g c =

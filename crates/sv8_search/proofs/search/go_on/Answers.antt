@@ -16,7 +16,7 @@ returns-then-step-end-clause-found g c =
     let at = c.step-step.ensures in
     let low : c.args.walk.now.step ≤ c.in_ok-end.end = omega (arith, c.in_ok-end.ensures.ordered, at) in
     found_passed (is_wanted kept c.args.conditions.now) c.args.walk.now.step c.in_ok-end.end c.args.to c.args.left low c.in_ok-end.ensures.end c.requires.some
-    (λ n least below. c.in_ok-end.ensures.none n (omega (arith, least, at)) below) (found_at kept) c.args.found.now.items c.walk_to.new.walk.step c.in_ok-walk_to.ensures.step
+    (λ n least below. c.in_ok-end.ensures.none n (omega (arith, least, at)) below) (found_at kept) c.args.found.now.items c.go_to.new.self.step c.in_ok-go_to.ensures.step
 
 pub returns-then-step-end-clause-looked : goal.returns-then-step-end-clause-looked
 returns-then-step-end-clause-looked g c =
@@ -24,7 +24,7 @@ returns-then-step-end-clause-looked g c =
     let at = c.step-step.ensures in
     let low : c.args.walk.now.step ≤ c.in_ok-end.end = omega (arith, c.in_ok-end.ensures.ordered, at) in
     looked_passed (is_wanted kept c.args.conditions.now) c.args.walk.now.step c.in_ok-end.end c.args.to c.args.left low c.in_ok-end.ensures.end c.requires.some
-    (λ n least below. c.in_ok-end.ensures.none n (omega (arith, least, at)) below) c.walk_to.new.walk.step c.in_ok-walk_to.ensures.step
+    (λ n least below. c.in_ok-end.ensures.none n (omega (arith, least, at)) below) c.go_to.new.self.step c.in_ok-go_to.ensures.step
 
 pub returns-in_err-rest-clause-stopped : goal.returns-in_err-rest-clause-stopped
 returns-in_err-rest-clause-stopped g c =
@@ -60,14 +60,14 @@ returns-then-step-end-clause-bytes g c =
     let inside : are_inside (ram_size kept.pages) cs ≡ true = ap (λ size. are_inside size cs) pages ∙ c.requires.inside in
     let size : length (machine_state kept n).memory.ram ≡ ram_size kept.pages =
     ap (λ (x : State). length x.memory.ram) (sym (c.machine.ensures ∙ c.requires.walk.state)) ∙ c.ram_size-size.ensures.contents.size ∙ sym pages in
-    let end : n + (c.in_ok-end.end - n) ≡ c.walk_to.new.walk.step = omega (arith, c.in_ok-end.ensures.ordered, at, c.in_ok-walk_to.ensures.step) in
+    let end : n + (c.in_ok-end.end - n) ≡ c.go_to.new.self.step = omega (arith, c.in_ok-end.ensures.ordered, at, c.in_ok-go_to.ensures.step) in
     c.requires.bytes
     ∙ olds_pass kept cs inside (c.in_ok-end.end - n) n size (λ i low high. c.in_ok-end.ensures.none i (omega (arith, low, at)) (omega (arith, high, low)))
     ∙ ap (λ i. olds_of cs (machine_state kept i).memory.ram) end
 
 pub returns-then-step-end-clause-plan : goal.returns-then-step-end-clause-plan
 returns-then-step-end-clause-plan g c =
-    plan_stays g.row.K c.args.bench.now c.walk_to.new.self c.args.conditions.now c.passable.new.self.start c.passable.new.self.flags.items c.walk_to.ensures.kept (omega (arith, c.walk_to.ensures.recorded))
+    plan_stays g.row.K c.args.bench.now c.go_to.new.bench c.args.conditions.now c.passable.new.self.start c.passable.new.self.flags.items c.go_to.ensures.kept (omega (arith, c.go_to.ensures.recorded))
     c.in_ok-end.ensures.plan
 
 pub returns-clause-plan : goal.returns-clause-plan

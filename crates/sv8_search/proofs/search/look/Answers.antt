@@ -13,7 +13,7 @@ pub returns-then-not-may_be_wanted-clause-added : goal.returns-then-not-may_be_w
 returns-then-not-may_be_wanted-clause-added g c =
     let s = machine_state c.args.bench.now.kept c.args.walk.now.step in
     let before : IsBefore s c.of-before.result = subst (λ (x : State). IsBefore x c.of-before.result) (c.machine.ensures ∙ c.requires.walk.state) c.of-before.ensures in
-    let made = c.in_ok-walk_on.ensures in
+    let made = c.in_ok-go_on.ensures in
     let kept = c.args.bench.now.kept in
     let n = c.args.walk.now.step in
     let sizes = c.sizes.ensures in
@@ -28,7 +28,7 @@ pub returns-then-not-may_be_wanted-clause-bytes : goal.returns-then-not-may_be_w
 returns-then-not-may_be_wanted-clause-bytes g c =
     let s = machine_state c.args.bench.now.kept c.args.walk.now.step in
     let before : IsBefore s c.of-before.result = subst (λ (x : State). IsBefore x c.of-before.result) (c.machine.ensures ∙ c.requires.walk.state) c.of-before.ensures in
-    let made = c.in_ok-walk_on.ensures in
+    let made = c.in_ok-go_on.ensures in
     let kept = c.args.bench.now.kept in
     let n = c.args.walk.now.step in
     let sizes = c.sizes.ensures in
@@ -44,7 +44,7 @@ pub returns-clause-added : goal.returns-clause-added
 returns-clause-added g c =
     let s = machine_state c.args.bench.now.kept c.args.walk.now.step in
     let before : IsBefore s c.of-before.result = subst (λ (x : State). IsBefore x c.of-before.result) (c.machine.ensures ∙ c.requires.walk.state) c.of-before.ensures in
-    let made = c.in_ok-walk_on.ensures in
+    let made = c.in_ok-go_on.ensures in
     looked_added _ _ c.args.conditions.now c.step-n.ensures (c.timeline-2.ensures ∙ ap (λ (k : Kept). k.timeline) made.made.kept) (c.machine-3.ensures ∙ walked_state made.made made.walk made.step)
     made.observations made.touches (c.in_ok-rest.ensures s before (c.as_slice-bytes.ensures.value ∙ c.requires.bytes))
 
@@ -52,7 +52,7 @@ pub returns-then-rest-left-clause-added : goal.returns-then-rest-left-clause-add
 returns-then-rest-left-clause-added g c =
     let s = machine_state c.args.bench.now.kept c.args.walk.now.step in
     let before : IsBefore s c.of-before.result = subst (λ (x : State). IsBefore x c.of-before.result) (c.machine.ensures ∙ c.requires.walk.state) c.of-before.ensures in
-    let made = c.in_ok-walk_on.ensures in
+    let made = c.in_ok-go_on.ensures in
     looked_added _ _ c.args.conditions.now c.step-n.ensures (c.timeline-2.ensures ∙ ap (λ (k : Kept). k.timeline) made.made.kept) (c.machine-3.ensures ∙ walked_state made.made made.walk made.step)
     made.observations made.touches (c.in_ok-rest.ensures s before (c.as_slice-bytes.ensures.value ∙ c.requires.bytes))
 

@@ -5,10 +5,10 @@ use Rattle.sv8_trace.specs.Drafts.{IsDraft}
 use Rattle.sv8_trace.specs.Recording.{recorded}
 use Rattle.sv8_bench.specs.Kept.{Kept}
 use Rattle.sv8_bench.specs.Shown.{machine_state}
-use Rattle.sv8_bench.specs.Walks.{IsMade}
+use Rattle.sv8_bench.specs.Made.{IsMade}
 use Rattle.sv8_bench.specs.Workbench.{Workbench}
 use Rattle.sv8_bench.proofs.Queried.{with_record, run_further}
-use Rattle.sv8_bench.proofs.Walking.{state_fed, state_next, one_more, drafted_further, run_same}
+use Rattle.sv8_bench.proofs.Made.{state_fed, state_next, one_more, drafted_further, run_same}
 use Rattle.sv8_bench.proofs.bench.Bench.step_drafted.Goals as goal
 
 pub watch_step-requires : goal.watch_step-requires

@@ -1,2 +1,0 @@
-pub mod Ordinary
-pub mod Together

@@ -1,2 +1,0 @@
-pub mod Lockstep
-pub mod Together

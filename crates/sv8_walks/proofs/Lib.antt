@@ -1,0 +1,3 @@
+pub mod Ordinary
+pub mod Together
+pub mod Walking

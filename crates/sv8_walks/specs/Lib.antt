@@ -1,0 +1,3 @@
+pub mod Lockstep
+pub mod Together
+pub mod Walks
