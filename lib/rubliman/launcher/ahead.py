@@ -4,8 +4,9 @@ One `rt ci` of all crates gives most proofs one processor, also while others hav
 tests that each crate might have. So crates are asked for one by one, those with the longest way above them first, three
 at a time on four processors, since each begins and ends with seconds that use one. The one on the longest way has the
 processors first, and the others go on with what it leaves. Where a crate at work has a shorter way than one that
-becomes ready, the second does not wait for it. A crate with a far shorter way than the longest one leaves the processors
-to two others: what waits for it is far, and at the end of the longest way there are processors with nothing to do.
+becomes ready, the second does not wait for it. A crate with a far shorter way than the longest one leaves the
+processors to two others: what waits for it is far, and at the end of the longest way there are processors with nothing
+to do.
 
 A command takes some seconds before it proves anything, the more the more crates lie below. So the next crate is begun
 while the last of its libraries is under way: where commands share what they prove, its own then waits for that.
