@@ -6,9 +6,9 @@ ghost use Rattle.sv8_trace.specs.Recording.{last_point, recorded};
 
 use crate::recorded::{Small, copied, fresh, lengthen, source_of, watch_four};
 use std::alloc::{AllocError, Global};
+use sv8_evidence::{Sign, shows_none};
 use sv8_source::Source;
 use sv8_time::Timeline;
-use sv8_trace::Sign;
 
 /// A program that traps at step 2. Traps are disabled then, so error mode begins.
 const LINES: &[&[u8]] = &[b"nop", b"nop", b"ta 0"];
@@ -18,8 +18,8 @@ fn has_its_trap(trace: &Small) -> bool {
     if trace.recorded() < 4 {
         return false;
     }
-    let others = trace.shows_none(Sign::Trap, 0, 2) && trace.shows_none(Sign::Trap, 3, 4);
-    others && !trace.shows_none(Sign::Trap, 2, 3)
+    let others = shows_none(trace, Sign::Trap, 0, 2) && shows_none(trace, Sign::Trap, 3, 4);
+    others && !shows_none(trace, Sign::Trap, 2, 3)
 }
 
 /// Whether a copy of a recorded run has its trap.

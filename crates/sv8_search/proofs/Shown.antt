@@ -8,7 +8,7 @@ use Rattle.std.proofs.lemmas.Bool.Decides.{nat_tests}
 use Rattle.sv8_cpu.specs.State.{State}
 use Rattle.sv8_cpu.specs.Trapping.{may_have_trapped, may_have_trapped_of}
 use Rattle.sv8_step_laws.proofs.Common.{consoles_grow}
-use Rattle.sv8_trace.specs.declared.signs.Sign.TheVariants as sign
+use Rattle.sv8_evidence.specs.declared.signs.Sign.TheVariants as sign
 use Rattle.sv8_watch.specs.declared.condition.Condition.TheVariants as condition
 use Rattle.sv8_watch.specs.Happening.{happening, stands_at}
 use Rattle.sv8_watch.specs.Conditions.{meets}

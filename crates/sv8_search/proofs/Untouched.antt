@@ -18,12 +18,12 @@ use Rattle.sv8_reset.proofs.Runs.{footprint_is, state_is}
 use Rattle.sv8_trace.specs.Recording.{Recording, recorded, trace_of}
 use Rattle.sv8_notes.specs.Flags.{IsFlagged, IsFlaggedUnless}
 use Rattle.sv8_notes.specs.Touching.{touches_as}
-use Rattle.sv8_trace.specs.Touching.{NoneTouches}
-use Rattle.sv8_trace.specs.Showing.{NoneShows}
-use Rattle.sv8_trace.specs.Signs.{has_sign, shows}
-use Rattle.sv8_trace.specs.declared.signs.Sign.{Sign}
-use Rattle.sv8_trace.specs.declared.signs.Sign.TheVariants as sign
-use Rattle.sv8_trace.proofs.Common.{each_shows_none}
+use Rattle.sv8_evidence.specs.Touching.{NoneTouches}
+use Rattle.sv8_evidence.specs.Showing.{NoneShows}
+use Rattle.sv8_evidence.specs.Signs.{has_sign, shows}
+use Rattle.sv8_evidence.specs.declared.signs.Sign.{Sign}
+use Rattle.sv8_evidence.specs.declared.signs.Sign.TheVariants as sign
+use Rattle.sv8_evidence.proofs.Common.{each_shows_none}
 use Rattle.sv8_bench.specs.Shown.{machine_state}
 use Rattle.sv8_bench.specs.Workbench.{Workbench, run_of_kept, IsRun}
 use Rattle.sv8_search.specs.Touching.{NonePokes, pokes_at, IsUntouched, IsUnreached, ShowsNone}

@@ -4,9 +4,9 @@ use Rattle.sv8_model.specs.declared.touch.TouchKind.{TouchKind}
 use Rattle.sv8_model.specs.declared.touch.TouchKind.TheVariants.{Any}
 use Rattle.sv8_time.specs.Schedule.{Schedule, pokes_of_step}
 use Rattle.sv8_cpu.specs.Touching.{IsUntranslated, SparesBytes, pokes_any}
-use Rattle.sv8_trace.specs.declared.signs.Sign.{Sign}
+use Rattle.sv8_evidence.specs.declared.signs.Sign.{Sign}
 use Rattle.sv8_trace.specs.Recording.{recorded}
-use Rattle.sv8_trace.specs.Signs.{shows}
+use Rattle.sv8_evidence.specs.Signs.{shows}
 use Rattle.sv8_bench.specs.Shown.{machine_state}
 use Rattle.sv8_bench.specs.Workbench.{Workbench}
 

@@ -13,8 +13,8 @@ ghost use Rattle.sv8_search.specs.Search.{are_inside, is_inside, is_wanted, Meet
 
 use crate::touching;
 use sv8_bench::Bench;
+use sv8_evidence::Sign;
 use sv8_time::Timeline;
-use sv8_trace::Sign;
 use sv8_watch::{Condition, stands_at};
 
 /// Whether the record shows that no step of a range reaches an instruction at an address. It shows nothing of an address

@@ -14,8 +14,8 @@ use crate::evidence::{puts_none, show_none, takes_none};
 use crate::touching;
 use std::alloc::{AllocError, Global};
 use sv8_bench::Bench;
+use sv8_evidence::Sign;
 use sv8_time::Timeline;
-use sv8_trace::Sign;
 use sv8_watch::{Condition, stands_at};
 
 /// Whether a search has to look at each of some steps, which follow one another. No other one of them is wanted.

@@ -6,16 +6,17 @@ ghost use Rattle.sv8_time.specs.Words.{poked_bytes, bytes_of_words};
 ghost use Rattle.sv8_cpu.specs.Touching.{is_within, pokes_any};
 ghost use Rattle.sv8_trace.specs.Checkpoints.{IsCheckpoint};
 ghost use Rattle.sv8_trace.specs.Recording.{recorded};
-ghost use Rattle.sv8_trace.specs.Showing.{NoneShows};
+ghost use Rattle.sv8_evidence.specs.Showing.{NoneShows};
 ghost use Rattle.sv8_notes.specs.Flags.{IsFlagged, IsFlaggedUnless};
-ghost use Rattle.sv8_trace.specs.declared.signs.Sign.TheVariants as sign;
+ghost use Rattle.sv8_evidence.specs.declared.signs.Sign.TheVariants as sign;
 ghost use Rattle.sv8_bench.specs.Shown.{machine_state};
 ghost use Rattle.sv8_search.specs.Touching.{NonePokes, pokes_at, IsUntouched, IsUnreached, ShowsNone};
 
 use sv8_bench::Bench;
+use sv8_evidence::Sign;
 use sv8_phys::TouchKind;
 use sv8_time::{Timeline, WordPoke};
-use sv8_trace::{Checkpoint, Sign};
+use sv8_trace::Checkpoint;
 
 /// How many bytes an instruction has.
 const INSTRUCTION_SIZE: u32 = 4;
@@ -111,7 +112,7 @@ pub fn is_untouched<const NW: usize, const PAGES: usize, const K: u32>(
     if to > bench.recorded() {
         return false;
     }
-    trace.is_untouched(kind, address, count, from, to)
+    sv8_evidence::is_untouched(trace, kind, address, count, from, to)
         && !pokes_between(bench.timeline(), address, count, from, to)
 }
 
@@ -133,7 +134,7 @@ pub(crate) fn flag_touching<const NW: usize, const PAGES: usize, const K: u32>(
     bench.sizes();
     let _recorded = bench.recorded();
     let trace = bench.trace();
-    trace.flag_touching(kind, address, count, from, flags);
+    sv8_evidence::flag_touching(trace, kind, address, count, from, flags);
     flag_poking(bench.timeline(), address, count, from, flags);
 }
 
@@ -156,7 +157,7 @@ pub(crate) fn flag_reaching<const NW: usize, const PAGES: usize, const K: u32>(
     let _recorded = bench.recorded();
     let trace = bench.trace();
     let end = from + flags.len() as u32;
-    if trace.shows_none(Sign::Translation, from, end) {
+    if sv8_evidence::shows_none(trace, Sign::Translation, from, end) {
         flag_touching(
             bench,
             TouchKind::Any,
@@ -189,7 +190,7 @@ pub fn is_unreached<const NW: usize, const PAGES: usize, const K: u32>(
     let _recorded = bench.recorded();
     let trace = bench.trace();
     is_untouched(bench, TouchKind::Any, address, INSTRUCTION_SIZE, from, to)
-        && trace.shows_none(Sign::Translation, from, to)
+        && sv8_evidence::shows_none(trace, Sign::Translation, from, to)
 }
 
 /// Whether the steps from `from` on and below `to` are recorded, and the record has none of them with a sign. It makes no
@@ -211,7 +212,7 @@ pub fn shows_none<const NW: usize, const PAGES: usize, const K: u32>(
     if bench.recorded() < to {
         return false;
     }
-    trace.shows_none(sign, from, to)
+    sv8_evidence::shows_none(trace, sign, from, to)
 }
 
 /// Sets the flag of each step of one interval, from `from` on, that the record has with a sign. Flag number i is that of
@@ -233,7 +234,7 @@ pub fn flag_shown<const NW: usize, const PAGES: usize, const K: u32>(
     bench.sizes();
     let _recorded = bench.recorded();
     let trace = bench.trace();
-    trace.flag_shown(sign, from, flags);
+    sv8_evidence::flag_shown(trace, sign, from, flags);
 }
 
 /// What is read of the checkpoint of a step, where the step is a multiple of `K` and recorded; `None` elsewhere. It makes

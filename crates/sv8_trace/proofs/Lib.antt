@@ -14,4 +14,3 @@ pub mod Committing
 pub mod Editing
 pub mod SignLemmas
 pub mod Common
-pub mod Untouched

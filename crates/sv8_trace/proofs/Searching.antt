@@ -54,13 +54,13 @@ module _ (windows pages k : ℕ) (pos : 0 < k) (r : Recording) (test : Footprint
         let high = h.1 in
         (omega (arith, split, le, low), omega (arith, high, fits), at (start / k) offset notes (omega (arith, high, few)) is ∙ h.2, none_yet from offset before (omega (arith, high)) h.3)
 
--- the notes of an interval that stands in the list
-pub notes_of : (k start end : ℕ) (xs : List Interval) (r : Recording) (here d : Interval) → 0 < k → xs ≡ r.intervals → start < end → end ≤ k * length xs → here ≡ get_or xs (start / k) d
-    → here.notes ≡ (get_or r.intervals (start / k) no_interval).notes
-notes_of k start end xs r here d pos is h e get =
-    let w : start < length xs * k = omega (arith, h, e, mul_comm (length xs) k) in
-    let i : start / k < length xs = (div-lt_iff_lt-mul pos).1 w in
-    ap (λ (x : Interval). x.notes) (get ∙ get_or_default xs (start / k) d no_interval i ∙ ap (λ ys. get_or ys (start / k) no_interval) is)
+-- the interval of a recorded step, as it stands in the list
+pub interval_of : (k step : ℕ) (xs : List Interval) (r : Recording) (here d : Interval) → 0 < k → xs ≡ r.intervals → step < k * length r.intervals → here ≡ get_or xs (step / k) d
+    → here ≡ get_or r.intervals (step / k) no_interval
+interval_of k step xs r here d pos is h get =
+    let w : step < length r.intervals * k = omega (arith, h, mul_comm (length r.intervals) k) in
+    let i : step / k < length r.intervals = (div-lt_iff_lt-mul pos).1 w in
+    get ∙ ap (λ ys. get_or ys (step / k) d) is ∙ get_or_default r.intervals (step / k) d no_interval i
 
 -- ---- the first read of a change
 

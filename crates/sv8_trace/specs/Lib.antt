@@ -3,8 +3,6 @@ pub mod Recorder
 pub mod Recording
 pub mod Drafts
 pub mod Marks
-pub mod Touching
-pub mod Showing
 pub mod Patch
 pub mod Columns
 pub mod Prepared

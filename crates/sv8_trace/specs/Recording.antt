@@ -6,7 +6,7 @@ use Rattle.sv8_phys.specs.Contents.{empty_contents}
 use Rattle.sv8_time.specs.Schedule.{Schedule}
 use Rattle.sv8_history.specs.Trace as history
 use Rattle.sv8_history.specs.Growing.{extended}
-use Rattle.sv8_notes.specs.Steps.{no_steps, footprint_in}
+use Rattle.sv8_notes.specs.Steps.{Steps, no_steps, footprint_in}
 use Rattle.sv8_notes.specs.Kept.{kept_in}
 use Rattle.sv8_cpu.specs.State.{State}
 use Rattle.sv8_cpu.specs.Recorded.{machine, event_at, AreEvents}
@@ -40,7 +40,10 @@ trace_of windows pages k r = record {
   kept = λ n c. kept_in (n % k) c (slice_index_or r.intervals (n / k) no_interval).kept;
 }
 
--- the signs of interval i
+-- what the steps of interval i touch, and their signs
+abbrev pub notes_of : Recording → ℕ → Steps
+notes_of r i = (slice_index_or r.intervals i no_interval).notes
+
 abbrev pub signs_of : Recording → ℕ → Signs
 signs_of r i = (slice_index_or r.intervals i no_interval).signs
 

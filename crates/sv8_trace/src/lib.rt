@@ -18,6 +18,6 @@ pub use checkpoint::Checkpoint;
 pub use draft::Draft;
 pub use patch::{Cause, Patch};
 pub use prepared::Prepared;
-pub use signs::Sign;
+pub use signs::{Signs, TrapNote};
 pub use sv8_notes::{Cell, Content};
 pub use trace::{NO_END, Trace};

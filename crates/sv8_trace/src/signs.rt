@@ -1,31 +1,17 @@
 //! What the states before and after the steps of an interval show: of each step whether it led where a trap leads, and of all
 //! together whether addresses were translated.
 
-ghost use Rattle.std.specs.Prelude.{◌≡◌, ◌+◌, ◌≤◌, ◌==◌, ◌&&◌, ◌||◌, IfOk, OnOk};
-ghost use Rattle.std.specs.List.{list_any};
+ghost use Rattle.std.specs.Prelude.{◌≡◌, ◌≤◌, ◌||◌, IfOk, OnOk};
 ghost use Rattle.sv8_mmu.specs.Registers.{translates};
-ghost use Rattle.sv8_trace.specs.Signs.{has_sign, has_sign_between, is_note_between, is_note_of, may_be_of, no_signs, noted_type, with_end, with_trap};
-ghost use Rattle.sv8_notes.specs.Flags.{IsFlagged};
+ghost use Rattle.sv8_trace.specs.Signs.{no_signs, noted_type, with_end, with_trap};
 
 use std::alloc::{AllocError, Global};
 use std::marker::Model;
 use sv8_cpu::Machine;
-use sv8_notes::flag_step;
 
-/// What the states before and after a step may show.
-#[derive(Clone, Copy, PartialEq, Eq, Debug)]
-pub enum Sign {
-    /// Addresses are translated in the state before the step (Appendix H).
-    Translation,
-    /// The machine ran before the step, which led to error mode, or to the address in TBR, as each trap does (section 7.2).
-    Trap,
-    /// The same, and where it led to the address in TBR, this type of trap (tt) stands there.
-    TrapType(u8),
-}
-
-/// A step that led a machine that ran where a trap leads.
+/// A step that led a machine that ran to error mode, or to the address in TBR, as each trap does (section 7.2).
 #[derive(Clone, Copy)]
-pub(crate) struct TrapNote {
+pub struct TrapNote {
     /// The number of steps between the checkpoint and this one.
     pub offset: u32,
     /// The type of trap (tt) that stands in TBR after the step; `None` where the step led to error mode, by a trap of
@@ -33,75 +19,9 @@ pub(crate) struct TrapNote {
     pub trap_type: Option<u8>,
 }
 
-impl TrapNote {
-    /// Whether the trap may have been of a type.
-    fn may_be_of(&self, trap_type: u8) -> bool
-        ensures { result ≡ may_be_of trap_type self.now.trap_type }
-    {
-        match self.trap_type {
-            None => true,
-            Some(there) => there == trap_type,
-        }
-    }
-
-    /// Whether the trap has a sign.
-    fn has(&self, sign: Sign) -> bool
-        ensures { result ≡ is_note_of sign self.now }
-    {
-        match sign {
-            Sign::Translation => false,
-            Sign::Trap => true,
-            Sign::TrapType(trap_type) => self.may_be_of(trap_type),
-        }
-    }
-
-    /// Whether the trap has a sign, and is that of a step from one offset on and below another.
-    fn has_between(&self, sign: Sign, from: u32, end: u32) -> bool
-        ensures { result ≡ is_note_between sign from end self.now }
-    {
-        (from <= self.offset && self.offset < end) && self.has(sign)
-    }
-
-    /// Sets the flag of its step, if the trap has a sign. Flag number i is that of the step with the offset `from + i`.
-    fn flag(&self, sign: Sign, from: u32, flags: &mut [bool])
-        ensures { IsFlagged (λ i. self.now.offset == from + i && is_note_of sign self.now) flags.old flags.new }
-    {
-        if self.has(sign) {
-            flag_step(self.offset, from, flags);
-        }
-    }
-}
-
-/// Whether one of some traps has a sign, and is that of a step from one offset on and below another.
-fn any_has_between(traps: &[TrapNote], sign: Sign, from: u32, end: u32) -> bool
-    ensures { result ≡ list_any (is_note_between sign from end) traps.now }
-{
-    traps.iter().any(|trap| trap.has_between(sign, from, end))
-}
-
-/// Sets the flags of the steps of those traps that have a sign.
-fn flag_traps(traps: &[TrapNote], sign: Sign, from: u32, flags: &mut [bool])
-    ensures { IsFlagged (λ i. list_any (λ t. t.offset == from + i && is_note_of sign t) traps.now) flags.old flags.new }
-{
-    let mut rest = traps;
-    while let [trap, after @ ..] = rest {
-        trap.flag(sign, from, flags);
-        rest = after;
-    }
-}
-
-/// Sets all flags, if all are wanted.
-fn flag_all(wanted: bool, flags: &mut [bool])
-    ensures { IsFlagged (λ i. wanted) flags.old flags.new }
-{
-    if wanted {
-        flags.fill(true);
-    }
-}
-
 /// Which signs the steps of an interval have. Steps are named by their offset, the number of steps since the checkpoint.
 #[derive(Drop)]
-pub(crate) struct Signs {
+pub struct Signs {
     translation: bool,
     traps: Vec<TrapNote>,
 }
@@ -148,24 +68,18 @@ impl Signs {
         })
     }
 
-    /// Whether one of the steps from one offset on and below another has a sign.
-    pub(crate) fn has_between(&self, sign: Sign, from: u32, end: u32) -> bool
-        ensures { result ≡ has_sign_between sign from end self.now }
+    /// Whether addresses are translated in the state before one of the steps (Appendix H).
+    pub fn translation(&self) -> bool
+        ensures { result ≡ self.now.translation }
     {
-        match sign {
-            Sign::Translation => self.translation,
-            Sign::Trap | Sign::TrapType(_) => any_has_between(&self.traps, sign, from, end),
-        }
+        self.translation
     }
 
-    /// Sets the flag of each step that has a sign. Flag number i is that of the step with the offset `from + i`.
-    pub(crate) fn flag(&self, sign: Sign, from: u32, flags: &mut [bool])
-        ensures { IsFlagged (λ i. has_sign sign (from + i) self.now) flags.old flags.new }
+    /// The steps that led a machine that ran where a trap leads, in their order.
+    pub fn traps(&self) -> &[TrapNote]
+        ensures { result.now ≡ self.now.traps }
     {
-        match sign {
-            Sign::Translation => flag_all(self.translation, flags),
-            Sign::Trap | Sign::TrapType(_) => flag_traps(&self.traps, sign, from, flags),
-        }
+        &self.traps
     }
 
     /// Notes what the state before a step shows.

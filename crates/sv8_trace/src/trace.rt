@@ -11,11 +11,10 @@ ghost use Rattle.sv8_trace.specs.Recording.{fresh, last_point, recorded, trace_o
 mod copying;
 mod drafting;
 mod edits;
+mod intervals;
 mod placing;
 mod preparing;
 mod search;
-mod showing;
-mod touching;
 
 use crate::checkpoint::Checkpoint;
 use crate::finished::Finished;

@@ -14,8 +14,9 @@ use crate::trace::{NO_END, Trace};
 use sv8_notes::{Cell, Sought};
 
 impl<const NW: usize, const PAGES: usize, const K: u32> Trace<NW, PAGES, K> {
-    /// A step at which what is sought is done no more, nor at any later one that is recorded.
-    pub(crate) fn end_of(&self, sought: Sought) -> u32
+    /// A step from which on no recorded step does what is sought: the end of the last interval with a note of its word, where
+    /// it has one, and else of all that is recorded.
+    pub fn end_of(&self, sought: Sought) -> u32
         ensures end { result ≤ recorded K self.now }
         ensures none { (n : ℕ) → result ≤ n → n < recorded K self.now → is_met sought ((trace_of NW PAGES K self.now).notes n) ≡ false }
     {
@@ -41,15 +42,13 @@ impl<const NW: usize, const PAGES: usize, const K: u32> Trace<NW, PAGES, K> {
         requires { end ≤ recorded K self.now }
         ensures { IsFirstBelow (λ n. is_met sought ((trace_of NW PAGES K self.now).notes n)) from end result }
     {
+        self.sizes();
         let mut start = from;
         while start < end {
-            let index = (start / K) as usize;
-            let base = K * index as u32;
+            let base = K * (start / K);
             let stop = K.min(end - base);
-            let found = self.intervals[index]
-                .notes()
-                .first_from(sought, start % K, stop);
-            match found {
+            let notes = self.notes(start);
+            match notes.first_from(sought, start % K, stop) {
                 Some(offset) => return Some(base + offset),
                 None => start = base + stop,
             }

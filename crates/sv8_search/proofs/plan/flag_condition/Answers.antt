@@ -1,7 +1,7 @@
 use Rattle.std.proofs.Common.{◌≡◌, ◌∙◌, ◌+◌, inl, inr, false, ap, sym, subst, arith}
 use Rattle.sv8_time.specs.Schedule.{Schedule}
-use Rattle.sv8_trace.specs.Showing.{NoneShows}
-use Rattle.sv8_trace.specs.declared.signs.Sign.TheVariants as sign
+use Rattle.sv8_evidence.specs.Showing.{NoneShows}
+use Rattle.sv8_evidence.specs.declared.signs.Sign.TheVariants as sign
 use Rattle.sv8_watch.specs.declared.condition.Condition.{Condition}
 use Rattle.sv8_watch.specs.declared.condition.Condition.TheVariants as condition
 use Rattle.sv8_watch.specs.Happening.{stands_at}

@@ -1,6 +1,6 @@
 use Rattle.std.proofs.Common.{◌+◌, length, subst}
-use Rattle.sv8_trace.specs.Showing.{NoneShows}
-use Rattle.sv8_trace.specs.declared.signs.Sign.TheVariants as sign
+use Rattle.sv8_evidence.specs.Showing.{NoneShows}
+use Rattle.sv8_evidence.specs.declared.signs.Sign.TheVariants as sign
 use Rattle.sv8_search.proofs.Untouched.{unreached_flag, shown_by}
 use Rattle.sv8_search.proofs.touching.flag_reaching.Goals as goal
 

@@ -1,6 +1,6 @@
 use Rattle.std.proofs.Common.{◌+◌, subst}
 use Rattle.sv8_trace.specs.Recording.{Recording}
-use Rattle.sv8_trace.specs.Showing.{NoneShows}
+use Rattle.sv8_evidence.specs.Showing.{NoneShows}
 use Rattle.sv8_notes.specs.Flags.{IsFlaggedUnless}
 use Rattle.sv8_search.proofs.Untouched.{unflagged}
 use Rattle.sv8_search.proofs.touching.flag_shown.Goals as goal

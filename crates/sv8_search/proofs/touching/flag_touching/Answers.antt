@@ -1,6 +1,6 @@
 use Rattle.std.proofs.Common.{◌+◌, subst}
 use Rattle.sv8_notes.specs.Flags.{IsFlagged, IsFlaggedUnless}
-use Rattle.sv8_trace.specs.Touching.{NoneTouches}
+use Rattle.sv8_evidence.specs.Touching.{NoneTouches}
 use Rattle.sv8_search.specs.Touching.{pokes_at}
 use Rattle.sv8_search.proofs.Untouched.{of_bench, flagged_unless}
 use Rattle.sv8_search.proofs.touching.flag_touching.Goals as goal

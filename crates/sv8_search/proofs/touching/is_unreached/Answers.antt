@@ -1,6 +1,6 @@
 use Rattle.std.proofs.Common.{MatchBool, subst}
-use Rattle.sv8_trace.specs.Showing.{NoneShows}
-use Rattle.sv8_trace.specs.declared.signs.Sign.TheVariants as sign
+use Rattle.sv8_evidence.specs.Showing.{NoneShows}
+use Rattle.sv8_evidence.specs.declared.signs.Sign.TheVariants as sign
 use Rattle.sv8_search.proofs.Untouched.{answer_unreached}
 use Rattle.sv8_search.proofs.touching.is_unreached.Goals as goal
 

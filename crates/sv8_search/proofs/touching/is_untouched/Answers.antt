@@ -1,6 +1,6 @@
 use Rattle.std.proofs.Common.{◌≤◌, MatchBool, subst, arith}
 use Rattle.sv8_trace.specs.Recording.{recorded}
-use Rattle.sv8_trace.specs.Touching.{NoneTouches}
+use Rattle.sv8_evidence.specs.Touching.{NoneTouches}
 use Rattle.sv8_search.specs.Touching.{NonePokes}
 use Rattle.sv8_search.proofs.Untouched.{of_bench, answer_by_pokes, answer_by_touches}
 use Rattle.sv8_search.proofs.touching.is_untouched.Goals as goal

@@ -1,6 +1,6 @@
 use Rattle.std.proofs.Common.{◌≤◌, MatchBool, subst, arith}
 use Rattle.sv8_trace.specs.Recording.{recorded}
-use Rattle.sv8_trace.specs.Showing.{NoneShows}
+use Rattle.sv8_evidence.specs.Showing.{NoneShows}
 use Rattle.sv8_search.proofs.Untouched.{answer_shown}
 use Rattle.sv8_search.proofs.touching.shows_none.Goals as goal
 
