@@ -3,4 +3,3 @@ pub mod ImageWords
 pub mod Queried
 pub mod Alike
 pub mod Edited
-pub mod Made

@@ -1,5 +1,5 @@
 -- Queries: how the record grows, the steps behind its last checkpoint, and how many of both are made.
-use Rattle.std.proofs.Common.{◌≡◌, ◌∙◌, [], ◌∷◌, le-ltb, ℕ, zero, suc, ◌+◌, ◌-◌, ◌*◌, ◌/◌, ◌%◌, ◌<◌, ◌≤◌, ◌⊎◌, inl, inr, min, max, length, get_or, refl, sym, ap, arith, subst}
+use Rattle.std.proofs.Common.{◌≡◌, ◌∙◌, [], ◌∷◌, le-ltb, ℕ, zero, suc, ◌+◌, ◌-◌, ◌*◌, ◌/◌, ◌%◌, ◌<◌, ◌≤◌, ◌⊎◌, inl, inr, min, max, length, get_or, Result, Ok, Err, OnOk, OnErr, refl, sym, ap, arith, subst}
 use Rattle.std.proofs.lemmas.Bool.{cases_lt}
 use Rattle.std.proofs.Math.Nat.{div-lt_iff_lt-mul, le-div_iff_mul-le, mul_comm, mul-le-mul_left, add-zero, add-suc, mul-div_cancel_left, div-add-mod, div-le_of_le-mul}
 use Rattle.sv8_time.specs.Schedule.{Schedule, bytes_below}
@@ -145,6 +145,11 @@ fresh_is windows pages k pos run r e = rw e (record {
     start : (i : ℕ) → i ≡ 0 → 0 ≡ k * i
     start i none = rw none (omega arith)
 
+-- what follows where there was no error
+pub on_ok : {A E : Type 0} (result : Result A E) (P Q : Type 0) → OnOk result P → (P → Q) → OnOk result Q
+on_ok (Ok x) P Q h f = f h
+on_ok (Err e) P Q h f = tt
+
 -- ---- what the workbench has recorded
 
 module _ (k : ℕ) (pos : 0 < k) (kept : Kept) where
@@ -159,6 +164,12 @@ module _ (k : ℕ) (pos : 0 < k) (kept : Kept) where
     sound = run.sound;
     record_is = further (reset_state kept.windows kept.pages kept.source) run.events run.record_is;
   }
+
+  -- .. and one to which an interval was to be added
+  pub run_added : {A E : Type 0} (result : Result A E) (old new : Recording) (worked : ℕ) → IsRun k (record { kept = kept; recording = old; worked = worked })
+      → OnOk result (IsExtended kept.windows kept.pages k kept.timeline old new) → OnErr result (new ≡ old) → IsRun k (record { kept = kept; recording = new; worked = worked })
+  run_added (Ok x) old new worked run longer same = run_further old new worked worked run (extended_keeps kept.windows kept.pages k kept.timeline old new pos longer)
+  run_added (Err e) old new worked run longer same = subst (λ (r : Recording). IsRun k (record { kept = kept; recording = r; worked = worked })) (sym same) run
 
   module _ (recording : Recording) (worked : ℕ) (run : IsRun k (record { kept = kept; recording = recording; worked = worked })) where
     -- a checkpoint is the state of its step

@@ -3,5 +3,4 @@ pub mod Kept
 pub mod Shown
 pub mod Workbench
 pub mod Alike
-pub mod Made
 pub mod Edits

@@ -16,8 +16,8 @@ ghost use Rattle.sv8_bench.specs.Workbench.{IsRun, IsNew, IsEdited, IsSized};
 
 mod affected;
 mod copies;
-mod drafts;
 mod edits;
+mod intervals;
 mod patches;
 mod queries;
 

@@ -1,17 +1,15 @@
 //! Recorded runs of two pages of RAM, with a checkpoint every four steps, for the parts that refuse them memory.
 
-ghost use Rattle.std.specs.Prelude.{◌+◌, ◌≡◌, ◌≤◌, IfOk, OnOk};
+ghost use Rattle.std.specs.Prelude.{◌≡◌, ◌≤◌, IfOk};
 ghost use Rattle.sv8_time.specs.Schedule.{bytes_below};
-ghost use Rattle.sv8_trace.specs.Drafts.{IsDraft};
 ghost use Rattle.sv8_trace.specs.Recording.{last_point, recorded};
 
 use std::alloc::{AllocError, Global};
 use sv8_cpu::{Machine, Work};
-use sv8_phys::Watch;
 use sv8_reset::reset;
 use sv8_source::Source;
 use sv8_time::Timeline;
-use sv8_trace::{Draft, Trace};
+use sv8_trace::Trace;
 
 pub(crate) type Point = Machine<8, 2>;
 
@@ -82,42 +80,4 @@ pub(crate) fn lengthen(
         Ok(()) => Ok(work.done()),
         Err(fault) => Err(fault),
     }
-}
-
-/// Makes the next step of a draft, and watches it.
-fn watched(
-    alloc: Global,
-    trace: &mut Small,
-    draft: &mut Draft<8, 2>,
-    timeline: &Timeline,
-    work: &mut Work,
-) -> Result<(), AllocError>
-    requires limit { timeline.now.limit ≡ 8192 }
-    requires draft { IsDraft 8 2 4 timeline.now trace.old draft.old }
-    requires delivered { draft.old.state.memory.taken ≤ bytes_below (recorded 4 trace.old + draft.old.count) timeline.now.inputs }
-    ensures draft { OnOk result (IsDraft 8 2 4 timeline.now trace.new draft.new) }
-    ensures delivered { OnOk result (draft.new.state.memory.taken ≤ bytes_below (recorded 4 trace.new + draft.new.count) timeline.now.inputs) }
-{
-    if 1_000 < trace.recorded() {
-        return Err(AllocError);
-    }
-    trace.watch_step(alloc, draft, timeline, &mut Watch::new(alloc), work)
-}
-
-/// Records the next four steps one at a time, each watched, and counts them.
-pub(crate) fn watch_four(
-    alloc: Global,
-    trace: &mut Small,
-    timeline: &Timeline,
-) -> Result<u64, AllocError>
-    requires limit { timeline.now.limit ≡ 8192 }
-    requires delivered { (last_point trace.old).memory.taken ≤ bytes_below (recorded 4 trace.old) timeline.now.inputs }
-{
-    let mut work = Work::new();
-    let mut draft = trace.draft(alloc)?;
-    watched(alloc, trace, &mut draft, timeline, &mut work)?;
-    watched(alloc, trace, &mut draft, timeline, &mut work)?;
-    watched(alloc, trace, &mut draft, timeline, &mut work)?;
-    watched(alloc, trace, &mut draft, timeline, &mut work)?;
-    Ok(work.done())
 }

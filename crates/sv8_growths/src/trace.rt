@@ -7,7 +7,7 @@ ghost use Rattle.sv8_time.specs.Schedule.{bytes_below};
 ghost use Rattle.sv8_trace.specs.Patch.{IsPatch};
 ghost use Rattle.sv8_trace.specs.Recording.{last_point, recorded};
 
-use crate::recorded::{Point, Small, copied, fresh, lengthen, source_of, watch_four};
+use crate::recorded::{Point, Small, copied, fresh, lengthen, source_of};
 use std::alloc::{AllocError, Global};
 use sv8_model::Refused;
 use sv8_source::Source;
@@ -371,21 +371,6 @@ fn are_kept(alloc: Global, trace: &mut Small, timeline: &Timeline) -> bool
     fresh && first && second && third && fourth && leave_a_copy(alloc, trace)
 }
 
-/// Whether four watched steps are recorded, or none where memory was refused.
-fn are_watched(alloc: Global, trace: &mut Small, timeline: &Timeline) -> bool
-    requires limit { timeline.now.limit ≡ 8192 }
-    requires delivered { (last_point trace.old).memory.taken ≤ bytes_below (recorded 4 trace.old) timeline.now.inputs }
-{
-    let after = Due {
-        recorded: 4,
-        ..FIRST
-    };
-    match watch_four(alloc, trace, timeline) {
-        Ok(made) => made == 4 && is_as(alloc, trace, after),
-        Err(_) => is_as(alloc, trace, FIRST),
-    }
-}
-
 /// Whether each call is as it should be, of a run of which nothing is recorded.
 fn is_kept(alloc: Global, source: &Source, timeline: &Timeline) -> Result<bool, AllocError>
     requires limit { timeline.now.limit ≡ 8192 }
@@ -394,20 +379,11 @@ fn is_kept(alloc: Global, source: &Source, timeline: &Timeline) -> Result<bool, 
     Ok(are_kept(alloc, &mut trace, timeline))
 }
 
-/// Whether watched steps are recorded as they should be, of such a run.
-fn is_watched(alloc: Global, source: &Source, timeline: &Timeline) -> Result<bool, AllocError>
-    requires limit { timeline.now.limit ≡ 8192 }
-{
-    let mut trace = fresh(alloc, source, timeline)?;
-    Ok(are_watched(alloc, &mut trace, timeline))
-}
-
 pub fn keeps(alloc: Global) -> Result<bool, AllocError> {
     let source = source_of(alloc, LINES)?;
     let mut timeline = Timeline::new(alloc, 8_192);
     if schedule(alloc, &mut timeline).is_err() {
         return Err(AllocError);
     }
-    let kept = is_kept(alloc, &source, &timeline)?;
-    Ok(kept && is_watched(alloc, &source, &timeline)?)
+    is_kept(alloc, &source, &timeline)
 }

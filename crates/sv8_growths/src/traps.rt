@@ -4,7 +4,7 @@ ghost use Rattle.std.specs.Prelude.{◌≡◌, ◌≤◌};
 ghost use Rattle.sv8_time.specs.Schedule.{bytes_below};
 ghost use Rattle.sv8_trace.specs.Recording.{last_point, recorded};
 
-use crate::recorded::{Small, copied, fresh, lengthen, source_of, watch_four};
+use crate::recorded::{Small, copied, fresh, lengthen, source_of};
 use std::alloc::{AllocError, Global};
 use sv8_evidence::{Sign, shows_none};
 use sv8_source::Source;
@@ -42,17 +42,6 @@ fn is_noted(alloc: Global, trace: &mut Small, timeline: &Timeline) -> bool
     made == Ok(4) && has_its_trap(trace) && is_noted_in_a_copy(alloc, trace)
 }
 
-/// Whether it is noted where each step is watched, or nothing is recorded where memory was refused.
-fn is_noted_where_watched(alloc: Global, trace: &mut Small, timeline: &Timeline) -> bool
-    requires limit { timeline.now.limit ≡ 8192 }
-    requires delivered { (last_point trace.old).memory.taken ≤ bytes_below (recorded 4 trace.old) timeline.now.inputs }
-{
-    match watch_four(alloc, trace, timeline) {
-        Ok(made) => made == 4 && has_its_trap(trace),
-        Err(_) => trace.recorded() == 0,
-    }
-}
-
 fn notes_recorded(alloc: Global, source: &Source, timeline: &Timeline) -> Result<bool, AllocError>
     requires limit { timeline.now.limit ≡ 8192 }
 {
@@ -60,16 +49,8 @@ fn notes_recorded(alloc: Global, source: &Source, timeline: &Timeline) -> Result
     Ok(is_noted(alloc, &mut trace, timeline))
 }
 
-fn notes_watched(alloc: Global, source: &Source, timeline: &Timeline) -> Result<bool, AllocError>
-    requires limit { timeline.now.limit ≡ 8192 }
-{
-    let mut trace = fresh(alloc, source, timeline)?;
-    Ok(is_noted_where_watched(alloc, &mut trace, timeline))
-}
-
 pub fn keeps(alloc: Global) -> Result<bool, AllocError> {
     let source = source_of(alloc, LINES)?;
     let timeline = Timeline::new(alloc, 8_192);
-    let noted = notes_recorded(alloc, &source, &timeline)?;
-    Ok(noted && notes_watched(alloc, &source, &timeline)?)
+    notes_recorded(alloc, &source, &timeline)
 }

@@ -11,7 +11,7 @@ use Rattle.sv8_cpu.specs.Run.{step, steps, footprint, observed}
 use Rattle.sv8_history.specs.Growing.{restored}
 use Rattle.sv8_bench.specs.Kept.{Kept}
 use Rattle.sv8_bench.specs.Shown.{machine_state}
-use Rattle.sv8_bench.specs.Made.{IsMade}
+use Rattle.sv8_walks.specs.Made.{IsMade}
 use Rattle.sv8_walks.specs.Walks.{IsWalk, state_in}
 use Rattle.sv8_walks.specs.declared.walk.Walk.{Walk}
 use Rattle.sv8_bench.specs.Workbench.{Workbench, checkpoints, IsGivenUp}

@@ -6,7 +6,7 @@ use Rattle.sv8_history.specs.Growing.{restored}
 use Rattle.sv8_trace.specs.Recorder.{counted_by, RaisedUpTo}
 use Rattle.sv8_search.specs.Search.{checkpoint_of, sought_steps, IsSought, IsPassedOrSearched, IsAbandoned, IsStart}
 use Rattle.sv8_bench.specs.Workbench.{Workbench, checkpoints}
-use Rattle.sv8_bench.proofs.Made.{in_interval as interval_of}
+use Rattle.sv8_walks.proofs.Made.{in_interval as interval_of}
 use Rattle.sv8_bench.proofs.Queried.{raised_more}
 
 -- the interval of a step

@@ -2,7 +2,7 @@
 use Rattle.std.proofs.Common.{◌≡◌, ◌∙◌, ◌⊎◌, inl, inr, ℕ, ◌+◌, ◌-◌, ◌/◌, ◌<◌, ◌≤◌, Result, Ok, Err, OnErr, length, refl, sym, ap, subst, arith}
 use Rattle.sv8_cpu.specs.Work.{counted}
 use Rattle.sv8_trace.specs.Recorder.{counted_by, RaisedUpTo}
-use Rattle.sv8_bench.specs.Made.{IsMade, IsUnmade}
+use Rattle.sv8_walks.specs.Made.{IsMade, IsUnmade}
 use Rattle.sv8_bench.specs.Workbench.{Workbench, checkpoints}
 use Rattle.sv8_bench.proofs.Queried.{counted_more, raised_more}
 use Rattle.sv8_search.specs.Search.{IsTried, IsWalked, IsStopped}

@@ -11,7 +11,7 @@ ghost use Rattle.sv8_watch.specs.Conditions.{is_met, meets, meets_any};
 ghost use Rattle.sv8_watch.specs.Happening.{happened};
 ghost use Rattle.sv8_watch.specs.Watched.{IsBefore, IsStepFrom, happening_of};
 ghost use Rattle.sv8_bench.specs.Shown.{machine_state};
-ghost use Rattle.sv8_bench.specs.Made.{IsMade};
+ghost use Rattle.sv8_walks.specs.Made.{IsMade};
 ghost use Rattle.sv8_walks.specs.Walks.{IsWalk};
 ghost use Rattle.sv8_search.specs.Plans.{IsPlan};
 ghost use Rattle.sv8_search.specs.Search.{olds_of, old_count, olds_count, is_inside, are_inside, any_met, found_at, found_if, is_wanted, wanted_found, rising, looked_to, sought_to, steps_refusal, steps_told, IsSearched, IsAdded, IsSought, IsTried, IsWalked, IsStopped, IsAbandoned};

@@ -5,7 +5,6 @@ pub mod Below
 pub mod Recorded
 pub mod Searching
 pub mod Extending
-pub mod Drafting
 pub mod Growing
 pub mod Marking
 pub mod Spreading

@@ -1,7 +1,6 @@
 pub mod Signs
 pub mod Recorder
 pub mod Recording
-pub mod Drafts
 pub mod Marks
 pub mod Patch
 pub mod Columns

@@ -10,7 +10,7 @@ use sv8_notes::{KeptList, Notes};
 /// What is kept of the steps from a checkpoint to the next one: what each touches, what stood in cells before events set
 /// them, and which signs the steps have.
 #[derive(Drop)]
-pub(crate) struct Interval {
+pub struct Interval {
     pub notes: Notes,
     pub kept: KeptList,
     pub signs: Signs,
@@ -18,7 +18,7 @@ pub(crate) struct Interval {
 
 impl Interval {
     /// Of no steps.
-    pub(crate) fn new(alloc: Global) -> Interval
+    pub fn new(alloc: Global) -> Interval
         ensures { result ≡ no_interval }
     {
         Interval {
@@ -29,7 +29,7 @@ impl Interval {
     }
 
     /// Lets all go; the memory stays.
-    pub(crate) fn clear(&mut self)
+    pub fn clear(&mut self)
         ensures { self.new ≡ no_interval }
     {
         self.notes.clear();
@@ -42,7 +42,7 @@ impl Interval {
     /// # Errors
     ///
     /// `AllocError` where that memory cannot be had.
-    pub(crate) fn copy(&self) -> Result<Interval, AllocError>
+    pub fn copy(&self) -> Result<Interval, AllocError>
         ensures { IfOk result (λ i. i ≡ self.now) }
     {
         Ok(Interval {

@@ -4,7 +4,6 @@
 #![tactic(auto)]
 
 mod checkpoint;
-mod draft;
 mod finished;
 mod interval;
 mod patch;
@@ -15,9 +14,10 @@ mod signs;
 mod trace;
 
 pub use checkpoint::Checkpoint;
-pub use draft::Draft;
+pub use interval::Interval;
 pub use patch::{Cause, Patch};
 pub use prepared::Prepared;
+pub use recorder::record_watched;
 pub use signs::{Signs, TrapNote};
 pub use sv8_notes::{Cell, Content};
 pub use trace::{NO_END, Trace};

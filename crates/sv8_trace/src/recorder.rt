@@ -207,13 +207,18 @@ fn record_step<const NW: usize, const PAGES: usize>(
     Ok(())
 }
 
-/// The same, where the machine stands, and `watch` has the notes of the step.
-pub(crate) fn record_watched<const NW: usize, const PAGES: usize>(
+/// Makes step n and records it, as the step with this offset in an interval under way. `watch` has afterwards what the step
+/// touches, and what an observer sees of it. `told` is a place for notes of the step. `work` counts it.
+///
+/// # Errors
+///
+/// `AllocError` where memory for the step or its notes cannot be had. What the machine and the interval are then is not said.
+pub fn record_watched<const NW: usize, const PAGES: usize>(
     machine: &mut Machine<NW, PAGES>,
     timeline: &Timeline,
     n: u32,
     offset: u32,
-    notes: &mut StepNotes,
+    told: &mut StepTouches,
     interval: &mut Interval,
     watch: &mut Watch,
     work: &mut Work,
@@ -237,7 +242,7 @@ pub(crate) fn record_watched<const NW: usize, const PAGES: usize>(
     keep_below(&mut interval.kept, machine, timeline, n, offset)?;
     machine.watch(n, timeline, watch, work)?;
     interval.signs.note_after(offset, ran, machine)?;
-    record_notes(interval, watch.touches(), &mut notes.told, offset)?;
+    record_notes(interval, watch.touches(), told, offset)?;
     Ok(())
 }
 

@@ -1,15 +1,14 @@
 //! The recorded run.
 
-ghost use Rattle.std.specs.Prelude.{◌≡◌, ◌+◌, ◌*◌, ◌<◌, ◌≤◌, ◌/◌, ◌++◌, ◌∷◌, [], length, IfOk, OnOk, OnErr};
-ghost use Rattle.sv8_time.specs.Schedule.{bytes_below};
+ghost use Rattle.std.specs.Prelude.{◌≡◌, ◌+◌, ◌*◌, ◌<◌, ◌≤◌, ◌/◌, length, IfOk, OnOk, OnErr};
+ghost use Rattle.sv8_time.specs.Schedule.{Schedule, bytes_below};
 ghost use Rattle.sv8_phys.specs.Memory.{ram_size};
 ghost use Rattle.sv8_history.specs.Growing.{restored};
 ghost use Rattle.sv8_trace.specs.Checkpoints.{IsCheckpoint};
-ghost use Rattle.sv8_trace.specs.Recorder.{counted_by, RaisedUpTo};
+ghost use Rattle.sv8_trace.specs.Recorder.{counted_by, steps_on, IsRecorded, RaisedUpTo};
 ghost use Rattle.sv8_trace.specs.Recording.{fresh, last_point, recorded, trace_of, IsExtended};
 
 mod copying;
-mod drafting;
 mod edits;
 mod intervals;
 mod placing;
@@ -159,16 +158,23 @@ impl<const NW: usize, const PAGES: usize, const K: u32> Trace<NW, PAGES, K> {
         Ok(())
     }
 
-    /// Adds a checkpoint and the interval in front of it.
-    fn add(
+    /// Adds a checkpoint and the interval in front of it, where these are the machine that the next `K` steps lead to from the
+    /// last checkpoint, and what is recorded of these steps.
+    ///
+    /// # Errors
+    ///
+    /// `AllocError` where memory for it cannot be had. The trace is then as it was.
+    pub fn add(
         &mut self,
         alloc: Global,
         machine: Machine<NW, PAGES>,
         interval: Interval,
     ) -> Result<(), AllocError>
         requires room { recorded K self.old + K ≤ 1000000 }
-        ensures points { OnOk result (self.new.points ≡ self.old.points ++ machine.entry ∷ []) }
-        ensures intervals { OnOk result (self.new.intervals ≡ self.old.intervals ++ interval ∷ []) }
+        ensures longer { OnOk result (length self.new.intervals ≡ length self.old.intervals + 1) }
+        ensures last { OnOk result (last_point self.new ≡ machine.entry) }
+        ensures extended { OnOk result ((schedule : Schedule) → machine.entry ≡ steps_on NW PAGES schedule (recorded K self.old) (last_point self.old) K
+            → IsRecorded NW PAGES schedule (recorded K self.old) (last_point self.old) K interval → IsExtended NW PAGES K schedule self.old self.new) }
         ensures refused { OnErr result (self.new ≡ self.old) }
     {
         let count = self.intervals.len() as u32 + 1;

@@ -1,3 +1,5 @@
+pub mod Made
+pub mod Drafting
 pub mod Ordinary
 pub mod Together
 pub mod Walking

@@ -9,7 +9,7 @@ use Rattle.sv8_trace.specs.Recorder.{counted_by}
 use Rattle.sv8_bench.specs.Kept.{Kept}
 use Rattle.sv8_bench.specs.Shown.{machine_state}
 use Rattle.sv8_bench.proofs.Queried.{full}
-use Rattle.sv8_bench.proofs.Made.{state_fed, state_next}
+use Rattle.sv8_walks.proofs.Made.{state_fed, state_next}
 use Rattle.sv8_walks.specs.Together.{AreAlikeBetween, AreInLockstep}
 
 -- what follows in both cases

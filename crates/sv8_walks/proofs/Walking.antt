@@ -5,7 +5,7 @@ use Rattle.sv8_cpu.specs.State.{State}
 use Rattle.sv8_cpu.specs.Work.{counted}
 use Rattle.sv8_trace.specs.Recorder.{counted_by, RaisedUpTo}
 use Rattle.sv8_trace.specs.Recording.{recorded}
-use Rattle.sv8_bench.specs.Made.{IsMade}
+use Rattle.sv8_walks.specs.Made.{IsMade}
 use Rattle.sv8_bench.specs.Workbench.{Workbench, checkpoints}
 use Rattle.sv8_bench.proofs.Queried.{full}
 use Rattle.sv8_walks.specs.Walks.{IsPlaced}

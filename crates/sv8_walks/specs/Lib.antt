@@ -1,3 +1,5 @@
+pub mod Drafts
+pub mod Made
 pub mod Lockstep
 pub mod Together
 pub mod Walks

@@ -5,9 +5,11 @@
 //! walks.
 #![tactic(auto)]
 
+mod draft;
 mod lockstep;
 mod machines;
 mod walk;
 
+pub use draft::Draft;
 pub use lockstep::walk_in_lockstep;
 pub use walk::{Place, Walk};

@@ -4,7 +4,7 @@ ghost use Rattle.std.specs.Prelude.{◌≡◌, ◌+◌, ◌-◌, ◌/◌, ◌<�
 ghost use Rattle.sv8_cpu.specs.Sameness.{IsSameProcessor};
 ghost use Rattle.sv8_trace.specs.Recorder.{counted_by, RaisedUpTo};
 ghost use Rattle.sv8_trace.specs.Recording.{recorded};
-ghost use Rattle.sv8_bench.specs.Made.{IsMade};
+ghost use Rattle.sv8_walks.specs.Made.{IsMade};
 ghost use Rattle.sv8_walks.specs.Walks.{IsWalk, state_in};
 ghost use Rattle.sv8_bench.specs.Workbench.{checkpoints};
 ghost use Rattle.sv8_walks.specs.Together.{AreAlikeBetween, AreInLockstep};

@@ -4,16 +4,16 @@ ghost use Rattle.std.specs.Prelude.{◌≡◌, ◌+◌, ◌-◌, ◌/◌, ◌%�
 ghost use Rattle.sv8_cpu.specs.Run.{footprint, observed};
 ghost use Rattle.sv8_trace.specs.Recorder.{counted_by, RaisedUpTo};
 ghost use Rattle.sv8_trace.specs.Recording.{recorded};
-ghost use Rattle.sv8_bench.specs.Made.{IsMade, IsUnmade};
+ghost use Rattle.sv8_walks.specs.Made.{IsMade, IsUnmade};
 ghost use Rattle.sv8_bench.specs.Shown.{machine_state};
 ghost use Rattle.sv8_bench.specs.Workbench.{checkpoints, IsAnswered, IsGivenUp};
 ghost use Rattle.sv8_walks.specs.Walks.{state_in, IsReady, IsWalk};
 
+use crate::draft::Draft;
 use std::alloc::AllocError;
 use sv8_bench::{Bench, LAST_STEP};
 use sv8_cpu::{Machine, Work};
 use sv8_phys::Watch;
-use sv8_trace::Draft;
 
 /// Where a walk stands.
 #[derive(Drop)]
@@ -207,8 +207,8 @@ impl<const NW: usize, const PAGES: usize> Walk<NW, PAGES> {
                 if self.step < recorded || !has_room {
                     return Ok(());
                 }
-                let draft = bench.trace().draft(bench.alloc())?;
-                self.place = Place::Drafted(draft);
+                let machine = self.machine().snapshot(bench.alloc())?;
+                self.place = Place::Drafted(Draft::new(bench.alloc(), machine));
             }
             Place::Drafted(draft) => {
                 if has_room {
@@ -260,7 +260,7 @@ impl<const NW: usize, const PAGES: usize> Walk<NW, PAGES> {
             Place::Restored(machine) => {
                 step_restored::<NW, PAGES, K, SEEN, SITE>(bench, machine, step, watch)?;
             }
-            Place::Drafted(draft) => bench.step_drafted(draft, step, watch)?,
+            Place::Drafted(draft) => draft.step(bench, step, watch)?,
         }
         self.step = step + 1;
         Ok(())

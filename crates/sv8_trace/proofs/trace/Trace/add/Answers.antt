@@ -1,6 +1,7 @@
-use Rattle.std.proofs.Common.{rules, vec_len, ◌≡◌, ◌*◌, ap, length, arith}
+use Rattle.std.proofs.Common.{rules, vec_len, ◌≡◌, ◌*◌, ◌+◌, ◌++◌, ◌∷◌, [], ◌∙◌, ap, refl, length, arith}
 use Rattle.sv8_notes.proofs.Common.{longer}
 use Rattle.sv8_trace.specs.Recording.{Recording}
+use Rattle.sv8_trace.proofs.Extending.{extended_is, last_new}
 use Rattle.sv8_trace.proofs.Growing.{popped}
 use Rattle.sv8_trace.proofs.Marking.{marked_still, marked_more}
 use Rattle.sv8_trace.proofs.trace.Trace.add.Goals as goal
@@ -36,3 +37,22 @@ pub invariant_of-self-in_err-push : goal.invariant_of-self-in_err-push
 invariant_of-self-in_err-push g c =
     let inv = c.self.invariant in
     rw c.in_err-push.ensures.items (inv.0, inv.1, inv.2, inv.3, inv.4, inv.5, inv.6, inv.7, marked_still c.self.inside.marks c.mark_words.new.marks c.mark_words.ensures.grows c.self.inside.intervals.items inv.8)
+
+pub returns-in-Ok-clause-last : goal.returns-in-Ok-clause-last
+returns-in-Ok-clause-last g c =
+    let inside = c.self.inside in
+    let old : Recording = record { points = inside.points; intervals = inside.intervals.items } in
+    let new : Recording = record { points = c.push-2.new.self; intervals = c.push.new.self.items } in
+    last_new g.row.K old new c.args.machine c.in_ok-finished.finished (λ s n. s ≡ c.args.machine) c.self.invariant.5 c.in-Ok.ensures.pushed c.in_ok-push.ensures.items refl
+
+pub returns-in-Ok-clause-extended : goal.returns-in-Ok-clause-extended
+returns-in-Ok-clause-extended g c = λ schedule state steps.
+    let inv = c.self.invariant in
+    let old = c.args.self.now in
+    let m = c.args.machine in
+    let new : Recording = record { points = c.push-2.new.self; intervals = c.push.new.self.items } in
+    let points = ap (λ (r : Recording). r.points) c.self.view_is in
+    let intervals = ap (λ (r : Recording). r.intervals) c.self.view_is in
+    let long : length old.points ≡ length old.intervals + 1 = omega (arith, ap length points, ap length intervals, inv.5) in
+    let added = c.in_ok-push.ensures.items ∙ ap (λ i. c.self.inside.intervals.items ++ i ∷ []) c.in_ok-finished.ensures ∙ ap (λ is. is ++ c.args.interval ∷ []) intervals in
+    extended_is g.row.NW g.row.PAGES g.row.K inv.3 schedule old new m c.args.interval long (c.in-Ok.ensures.pushed ∙ ap (λ ps. ps ++ m ∷ []) points) added state steps

@@ -4,17 +4,13 @@ use Rattle.sv8_time.specs.Schedule.{Schedule}
 use Rattle.sv8_cpu.specs.State.{State}
 use Rattle.sv8_trace.specs.declared.interval.Interval.{Interval}
 use Rattle.sv8_trace.specs.Recorder.{steps_on, IsRecorded}
-use Rattle.sv8_trace.specs.Recording.{Recording, last_point, recorded, no_interval}
+use Rattle.sv8_trace.specs.Recording.{Recording, last_point, recorded}
 
 pub record Drafted : Type 0 where
   pub state : State
   -- what is recorded of the steps since the last checkpoint, and how many these are
   pub interval : Interval
   pub count : ℕ
-
--- of no steps
-abbrev pub no_draft : Recording → Drafted
-no_draft r = record { state = last_point r; interval = no_interval; count = 0 }
 
 -- it has the steps since the last checkpoint, fewer than would make the next
 pub record IsDraft (windows pages k : ℕ) (schedule : Schedule) (r : Recording) (d : Drafted) : Type 0 where
