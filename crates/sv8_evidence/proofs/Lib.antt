@@ -1,3 +1,4 @@
+pub mod NotesInRange
 pub mod SignLemmas
 pub mod Untouched
 pub mod Common

@@ -12,9 +12,9 @@ use Rattle.sv8_notes.specs.declared.notes.Sought.TheVariants.{Touch}
 use Rattle.sv8_notes.specs.Steps.{Steps, has_word, footprint_in}
 use Rattle.sv8_notes.specs.Sought.{is_met}
 use Rattle.sv8_notes.specs.Touching.{touches_any, touches_as}
-use Rattle.sv8_notes.proofs.Common.{none_in, some_in}
 use Rattle.sv8_trace.specs.Recording.{Recording, no_interval, trace_of}
 use Rattle.sv8_evidence.specs.Touching.{NoneTouches}
+use Rattle.sv8_evidence.proofs.NotesInRange.{none_in, some_in}
 use Rattle.sv8_trace.proofs.Searching.{at, none_here}
 
 -- ---- the intervals

@@ -6,6 +6,5 @@ pub mod Told
 pub mod Firsts
 pub mod RunsOfWords
 pub mod Marking
-pub mod NotesInRange
 pub mod RunLists
 pub mod Common

@@ -56,13 +56,20 @@ parenthesized_front (Mark mark.OpenParen ∷ inner) = do
   Some (e.0, rest)
 parenthesized_front _ = None
 
-unfoldable pub imm_front : List Token → Option (Imm × List Token)
-imm_front (Percent percent.Low ∷ inner) = do
-  e ← parenthesized_front inner
+-- the low bits of an expression in parentheses, and an expression
+abbrev pub low_front : List Token → Option (Imm × List Token)
+low_front ts = do
+  e ← parenthesized_front ts
   Some (imm.Low e.0, e.1)
-imm_front ts = do
+
+abbrev pub value_front : List Token → Option (Imm × List Token)
+value_front ts = do
   e ← expr_front ts
   Some (imm.Value e.0, e.1)
+
+unfoldable pub imm_front : List Token → Option (Imm × List Token)
+imm_front (Percent percent.Low ∷ inner) = low_front inner
+imm_front ts = value_front ts
 
 unfoldable pub source_front : List Token → Option (RegOrImm × List Token)
 source_front (Percent (percent.Register r) ∷ rest) = Some (source.Register r, rest)

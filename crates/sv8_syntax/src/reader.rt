@@ -1,12 +1,37 @@
 //! Operands, each from all of its tokens; a function named front reads the front and gives the rest.
 
-ghost use Rattle.std.specs.Prelude.{◌≡◌, option_map};
+ghost use Rattle.std.specs.Prelude.{◌≡◌, ◌∷◌, Some, option_map};
 ghost use Rattle.sv8_syntax.specs.Token.{views};
+ghost use Rattle.sv8_syntax.specs.declared.token.Mark.TheVariants as mark;
+ghost use Rattle.sv8_syntax.specs.Token as token;
 ghost use Rattle.sv8_syntax.specs.Operand.{expr_view, imm_view, source_view, address_view, operand_view};
-ghost use Rattle.sv8_syntax.specs.Reading.{expr_front, behind_paren, parenthesized_front, imm_front, source_front, ended, behind_immediate, address_front, closed, plain_operand, high_operand, bracketed_operand, marked_operand, operand_of};
+ghost use Rattle.sv8_syntax.specs.Reading.{expr_front, behind_paren, parenthesized_front, low_front, value_front, imm_front, source_front, ended, behind_immediate, address_front, closed, plain_operand, high_operand, bracketed_operand, marked_operand, operand_of};
 
 use crate::operand::{Address, ExprRef, ImmRef, Operand, RegOrImmRef};
 use crate::token::{Mark, Percent, Token};
+
+#[tactic(auto, unfolding(crate::specs::Reading::expr_front))]
+fn behind_minus<'t, 'a>(tokens: &'t [Token<'a>]) -> Option<(ExprRef<'a>, &'t [Token<'a>])>
+    ensures { option_map (λ x. (expr_view x.0, views x.1.now)) result ≡ expr_front (token.Mark mark.Minus ∷ views tokens.now) }
+{
+    match tokens {
+        [Token::Number(n), rest @ ..] => Some((ExprRef::Minus(*n), rest)),
+        _ => None,
+    }
+}
+
+#[tactic(auto, unfolding(crate::specs::Reading::expr_front))]
+fn behind_word<'t, 'a>(word: &'a [u8], tokens: &'t [Token<'a>]) -> (ExprRef<'a>, &'t [Token<'a>])
+    ensures { Some (expr_view result.0, views result.1.now) ≡ expr_front (token.Word word.now ∷ views tokens.now) }
+{
+    match tokens {
+        [Token::Mark(Mark::Plus), Token::Number(n), rest @ ..] => (ExprRef::Plus(word, *n), rest),
+        [Token::Mark(Mark::Minus), Token::Number(n), rest @ ..] => {
+            (ExprRef::Less(word, *n), rest)
+        }
+        _ => (ExprRef::Name(word), tokens),
+    }
+}
 
 #[tactic(auto, unfolding(crate::specs::Reading::expr_front))]
 fn expr_front<'t, 'a>(tokens: &'t [Token<'a>]) -> Option<(ExprRef<'a>, &'t [Token<'a>])>
@@ -14,22 +39,8 @@ fn expr_front<'t, 'a>(tokens: &'t [Token<'a>]) -> Option<(ExprRef<'a>, &'t [Toke
 {
     match tokens {
         [Token::Number(n), rest @ ..] => Some((ExprRef::Number(*n), rest)),
-        [Token::Mark(Mark::Minus), Token::Number(n), rest @ ..] => {
-            Some((ExprRef::Minus(*n), rest))
-        }
-        [
-            Token::Word(w),
-            Token::Mark(Mark::Plus),
-            Token::Number(n),
-            rest @ ..,
-        ] => Some((ExprRef::Plus(w, *n), rest)),
-        [
-            Token::Word(w),
-            Token::Mark(Mark::Minus),
-            Token::Number(n),
-            rest @ ..,
-        ] => Some((ExprRef::Less(w, *n), rest)),
-        [Token::Word(w), rest @ ..] => Some((ExprRef::Name(w), rest)),
+        [Token::Mark(Mark::Minus), rest @ ..] => behind_minus(rest),
+        [Token::Word(w), rest @ ..] => Some(behind_word(w, rest)),
         _ => None,
     }
 }
@@ -55,16 +66,27 @@ fn parenthesized_front<'t, 'a>(tokens: &'t [Token<'a>]) -> Option<(ExprRef<'a>, 
     Some((value, rest))
 }
 
+fn low_front<'t, 'a>(tokens: &'t [Token<'a>]) -> Option<(ImmRef<'a>, &'t [Token<'a>])>
+    ensures { option_map (λ x. (imm_view x.0, views x.1.now)) result ≡ low_front (views tokens.now) }
+{
+    let (value, rest) = parenthesized_front(tokens)?;
+    Some((ImmRef::Low(value), rest))
+}
+
+fn value_front<'t, 'a>(tokens: &'t [Token<'a>]) -> Option<(ImmRef<'a>, &'t [Token<'a>])>
+    ensures { option_map (λ x. (imm_view x.0, views x.1.now)) result ≡ value_front (views tokens.now) }
+{
+    let (value, rest) = expr_front(tokens)?;
+    Some((ImmRef::Value(value), rest))
+}
+
 #[tactic(auto, unfolding(crate::specs::Reading::imm_front))]
 fn imm_front<'t, 'a>(tokens: &'t [Token<'a>]) -> Option<(ImmRef<'a>, &'t [Token<'a>])>
     ensures { option_map (λ x. (imm_view x.0, views x.1.now)) result ≡ imm_front (views tokens.now) }
 {
-    if let [Token::Percent(Percent::Low), inner @ ..] = tokens {
-        let (value, rest) = parenthesized_front(inner)?;
-        Some((ImmRef::Low(value), rest))
-    } else {
-        let (value, rest) = expr_front(tokens)?;
-        Some((ImmRef::Value(value), rest))
+    match tokens {
+        [Token::Percent(Percent::Low), inner @ ..] => low_front(inner),
+        _ => value_front(tokens),
     }
 }
 

@@ -9,7 +9,7 @@ use Rattle.sv8_model.specs.declared.touch.TouchKind.TheVariants.{Any, Data}
 use Rattle.sv8_model.specs.Cells.{ram_byte}
 use Rattle.sv8_notes.specs.declared.notes.WordNote.{WordNote}
 use Rattle.sv8_notes.specs.Steps.{Steps, is_word_of, has_word, footprint_in}
-use Rattle.sv8_notes.proofs.Gaining.{or_groups}
+use Rattle.sv8_notes.proofs.Common.{or_groups}
 use Rattle.sv8_notes.specs.Touching.{is_from_to, is_note_in, are_notes_in, fetches_of, touches_any, touches_as}
 
 both : (a b : Bool) → a ≡ true → b ≡ true → (a && b) ≡ true
