@@ -145,11 +145,6 @@ fresh_is windows pages k pos run r e = rw e (record {
     start : (i : ℕ) → i ≡ 0 → 0 ≡ k * i
     start i none = rw none (omega arith)
 
--- what follows where there was no error
-pub on_ok : {A E : Type 0} (result : Result A E) (P Q : Type 0) → OnOk result P → (P → Q) → OnOk result Q
-on_ok (Ok x) P Q h f = f h
-on_ok (Err e) P Q h f = tt
-
 -- ---- what the workbench has recorded
 
 module _ (k : ℕ) (pos : 0 < k) (kept : Kept) where

@@ -1,6 +1,6 @@
 //! The recorded run.
 
-ghost use Rattle.std.specs.Prelude.{◌≡◌, ◌+◌, ◌*◌, ◌<◌, ◌≤◌, ◌/◌, length, IfOk, OnOk, OnErr};
+ghost use Rattle.std.specs.Prelude.{◌≡◌, ◌+◌, ◌*◌, ◌<◌, ◌≤◌, ◌/◌, ◌++◌, ◌∷◌, [], length, IfOk, OnOk, OnErr};
 ghost use Rattle.sv8_time.specs.Schedule.{Schedule, bytes_below};
 ghost use Rattle.sv8_phys.specs.Memory.{ram_size};
 ghost use Rattle.sv8_history.specs.Growing.{restored};
@@ -158,8 +158,8 @@ impl<const NW: usize, const PAGES: usize, const K: u32> Trace<NW, PAGES, K> {
         Ok(())
     }
 
-    /// Adds a checkpoint and the interval in front of it, where these are the machine that the next `K` steps lead to from the
-    /// last checkpoint, and what is recorded of these steps.
+    /// Adds a checkpoint and the interval in front of it. The record goes on with the run where these are the machine that the
+    /// next `K` steps lead to from the last checkpoint, and what is recorded of these steps.
     ///
     /// # Errors
     ///
@@ -171,6 +171,8 @@ impl<const NW: usize, const PAGES: usize, const K: u32> Trace<NW, PAGES, K> {
         interval: Interval,
     ) -> Result<(), AllocError>
         requires room { recorded K self.old + K ≤ 1000000 }
+        ensures points { OnOk result (self.new.points ≡ self.old.points ++ machine.entry ∷ []) }
+        ensures intervals { OnOk result (self.new.intervals ≡ self.old.intervals ++ interval ∷ []) }
         ensures longer { OnOk result (length self.new.intervals ≡ length self.old.intervals + 1) }
         ensures last { OnOk result (last_point self.new ≡ machine.entry) }
         ensures extended { OnOk result ((schedule : Schedule) → machine.entry ≡ steps_on NW PAGES schedule (recorded K self.old) (last_point self.old) K
