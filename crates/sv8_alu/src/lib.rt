@@ -9,7 +9,6 @@ mod addition;
 mod bitwise;
 mod division;
 mod families;
-mod laws;
 mod multiplication;
 mod words;
 
@@ -17,7 +16,6 @@ pub use addition::{add, sub, tagged_add, tagged_sub};
 pub use bitwise::{logic, shift};
 pub use division::{signed_divide, unsigned_divide};
 pub use families::{divide, mul, mulscc, tagged};
-pub use laws::{worked_bits, worked_products, worked_quotients, worked_sums};
 pub use multiplication::{multiply_step, signed_multiply, unsigned_multiply};
 
 /// The integer condition codes, the icc field of the PSR. Section 4.2.

@@ -1,11 +1,6 @@
 pub mod Keys
 pub mod Gathering
 pub mod Sizes
-pub mod Decodes
 pub mod UsedNames
 pub mod InOrder
-pub mod Encodes
-pub mod Ranges
-pub mod Fields
-pub mod OnLiterals
 pub mod Common

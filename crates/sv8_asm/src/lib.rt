@@ -8,7 +8,6 @@
 
 mod code;
 mod instruction;
-pub mod laws;
 mod marks;
 mod operand;
 mod size;

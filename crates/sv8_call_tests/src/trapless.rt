@@ -6,8 +6,8 @@ use std::test::Fail;
 use sv8_bench::BenchFault;
 use sv8_evidence::Sign;
 use sv8_model::Refused;
-use sv8_phys::Watch;
 use sv8_search::{checkpoint, flag_shown, shows_none};
+use sv8_touches::Watch;
 use sv8_walks::Walk;
 
 /// A program that takes a trap in step 4, whose handler goes back in steps 5 and 6. Its first line is `wr %g0, 0xa0, %psr`,

@@ -5,8 +5,8 @@ use std::alloc::{AllocError, Global};
 use std::test::Fail;
 use sv8_bench::BenchFault;
 use sv8_model::Refused;
-use sv8_phys::Watch;
 use sv8_search::is_unreached;
+use sv8_touches::Watch;
 use sv8_walks::Walk;
 
 /// A program that turns translation on in step 7, the last one of its interval, and off in step 8. One entry, at 400

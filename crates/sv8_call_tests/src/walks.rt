@@ -5,7 +5,7 @@ ghost use Rattle.std.specs.Prelude.{◌<◌};
 use std::alloc::{AllocError, Global};
 use std::test::Fail;
 use sv8_bench::Bench;
-use sv8_phys::Watch;
+use sv8_touches::Watch;
 use sv8_walks::{Walk, walk_in_lockstep};
 
 /// A machine with one page of RAM, and a checkpoint every 256 steps.

@@ -2,7 +2,7 @@
 
 ghost use Rattle.std.specs.Prelude.{◌≡◌, ◌+◌, ◌<◌, ◌≤◌, ◌/◌, [], IfOk, OnOk, OnErr};
 ghost use Rattle.sv8_model.specs.Does.{noting, keeping};
-ghost use Rattle.sv8_phys.specs.Notes.{told};
+ghost use Rattle.sv8_touches.specs.Told.{told};
 ghost use Rattle.sv8_cpu.specs.Run.{seen, step, footprint, observed};
 ghost use Rattle.sv8_time.specs.Schedule.{bytes_below};
 ghost use Rattle.sv8_trap.specs.Table.{taken};
@@ -17,8 +17,9 @@ use crate::work::Work;
 use std::alloc::{AllocError, Global};
 use std::marker::Model;
 use sv8_memory::{Feed, Memory};
-use sv8_phys::{NoTouches, Phys, StepTouches, Touches};
+use sv8_phys::{NoTouches, Phys, Touches};
 use sv8_time::Timeline;
+use sv8_touches::StepTouches;
 use sv8_trap::Processor;
 
 /// Step n: its events, and then what it does. All that it touches, and what is to be seen of it, is noted as it comes.

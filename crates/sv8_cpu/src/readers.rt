@@ -20,9 +20,10 @@ use crate::parts::Parts;
 use std::alloc::{AllocError, Global};
 use sv8_mmu::{Mmu, Place, place_of};
 use sv8_model::Level;
-use sv8_phys::{OutputPlace, Page, StepTouches, Timer};
+use sv8_phys::{OutputPlace, Page, Timer};
 use sv8_regs::Regs;
 use sv8_time::Timeline;
+use sv8_touches::StepTouches;
 
 impl<const NW: usize, const PAGES: usize> Machine<NW, PAGES> {
     /// The registers of the integer unit (chapter 4).

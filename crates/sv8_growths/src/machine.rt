@@ -5,10 +5,11 @@ ghost use Rattle.std.specs.Prelude.{◌≡◌};
 
 use std::alloc::{AllocError, Global};
 use sv8_cpu::{Machine, Work};
-use sv8_phys::{NoTouches, Watch};
+use sv8_phys::NoTouches;
 use sv8_reset::reset;
 use sv8_source::Source;
 use sv8_time::Timeline;
+use sv8_touches::Watch;
 
 type Small = Machine<8, 2>;
 

@@ -2,7 +2,8 @@
 //! leaves the memory as it was, each other one does what it should, and notes that could not be told are still there.
 
 use std::alloc::{AllocError, Global};
-use sv8_phys::{Observation, Phys, Size, StepTouches, Touch, Touches};
+use sv8_phys::{Observation, Phys, Size, Touch, Touches};
+use sv8_touches::StepTouches;
 
 /// Memory of 66 pages.
 type Memory = Phys<66>;

@@ -4,7 +4,7 @@
 use std::alloc::{AllocError, Global};
 use sv8_bench::{Bench, BenchFault};
 use sv8_model::Refused;
-use sv8_phys::Watch;
+use sv8_touches::Watch;
 use sv8_walks::{Walk, walk_in_lockstep};
 
 type Small = Bench<8, 2, 256>;

@@ -3,9 +3,13 @@ use Rattle.std.proofs.Common.{◌≡◌, ℕ, zero, suc, ◌+◌, ◌*◌, ◌%�
 use Rattle.std.proofs.lemmas.Bool.Decides.{nat_tests}
 use Rattle.std.proofs.lemmas.Int.{ints}
 use Rattle.std.proofs.Math.Nat.{mod-eq_of_lt}
-use Rattle.std.proofs.lemmas.Nat.{pow-add, mod_low, pow_pos}
-use Rattle.sv8_model.specs.Words.{signed}
+use Rattle.std.proofs.lemmas.Nat.{pow-add, mod_below, mod_low, pow_pos}
+use Rattle.sv8_model.specs.Words.{field, signed}
 use Rattle.sv8_isa.specs.Encoding.{signed_bits}
+
+pub field_below : (w high low : ℕ) → field w high low < 2 ^ (high - low + 1)
+unfolding field
+field_below w high low = mod_below _ _ (pow_pos (high - low + 1))
 
 pub signed_low : (v k : ℕ) → v < 2 ^ (k - 1) → signed v k ≡ pos v
 unfolding signed

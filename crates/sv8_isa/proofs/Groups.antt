@@ -4,7 +4,7 @@ use Rattle.std.proofs.lemmas.Bool.Decides.{nat_tests}
 use Rattle.sv8_model.specs.Words.{field}
 use Rattle.sv8_isa.specs.declared.instr.Group.TheVariants as group
 use Rattle.sv8_isa.specs.Table.{group_of}
-use Rattle.sv8_isa.proofs.Back.{field_below}
+use Rattle.sv8_isa.proofs.FieldLemmas.{field_below}
 
 pub format_2 : (w : ℕ) → group_of w ≡ group.Format2 → field w 31 30 ≡ 0
 unfolding group_of

@@ -3,4 +3,3 @@ pub mod Operands
 pub mod Registers
 pub mod Table
 pub mod Encoding
-pub mod Laws

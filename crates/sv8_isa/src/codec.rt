@@ -1,6 +1,6 @@
 //! From words to instructions, and back.
 
-ghost use Rattle.std.specs.Prelude.{◌≡◌, ◌≢◌, ◌<◌, ◌≤◌, false, IfSome};
+ghost use Rattle.std.specs.Prelude.{◌≡◌, ◌≢◌, ◌<◌, ◌≤◌, false};
 ghost use Rattle.sv8_isa.specs.Accesses.{makes_access};
 ghost use Rattle.sv8_isa.specs.Encoding.{encoding};
 ghost use Rattle.sv8_isa.specs.Registers.{HasRegisters};
@@ -431,14 +431,15 @@ macro_rules! encode_rows {
 
 /// The word of an instruction, with its reserved bits 0.
 ///
+/// That the word means the instruction again is the law `encodings_decode` of `sv8_assembler_laws`.
+///
 /// # Errors
 ///
 /// `None` where a field is out of range, where the word of an `Fp` or `Cp` is no such
 /// instruction, and for `AltImm` and `Illegal`.
-#[tactic(auto, using(crate::proofs::Forth::decoded), unfolding(crate::specs::Encoding::encoding))]
+#[tactic(auto, unfolding(crate::specs::Encoding::encoding))]
 pub fn encode(instr: &Instr) -> Option<u32>
-    ensures value { result ≡ encoding instr.now }
-    ensures decodes { IfSome result (λ w. meaning w ≡ instr.now) }
+    ensures { result ≡ encoding instr.now }
 {
     opcodes!(encode_rows!(instr))
 }

@@ -4,7 +4,6 @@
 
 mod codec;
 mod instr;
-pub mod laws;
 mod word;
 
 pub use codec::{

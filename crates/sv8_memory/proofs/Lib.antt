@@ -3,4 +3,3 @@ pub mod Poking
 pub mod Late
 pub mod Known
 pub mod Pages
-pub mod ServedPlaces

@@ -1,7 +1,6 @@
 pub mod Units
 pub mod Access
 pub mod Events
-pub mod DeviceLaws
 pub mod WordPokes
 pub mod Feeding
 pub mod View

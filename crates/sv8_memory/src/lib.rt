@@ -6,7 +6,6 @@ mod at_once;
 mod events;
 mod feed;
 mod in_place;
-pub mod laws;
 mod locating;
 mod memory;
 mod physical;

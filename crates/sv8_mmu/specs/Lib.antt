@@ -8,6 +8,4 @@ pub mod Answers
 pub mod Probe
 pub mod Kept
 pub mod Plain
-pub mod Examples
 pub mod Place
-pub mod Laws

@@ -5,7 +5,6 @@ mod access_type;
 mod buffer;
 mod fault_type;
 mod faulting;
-pub mod laws;
 mod memo;
 mod place;
 mod probing;

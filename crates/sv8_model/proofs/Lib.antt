@@ -5,4 +5,5 @@ pub mod Footprints
 pub mod Frames
 pub mod Staying
 pub mod CellLaws
+pub mod Bits
 pub mod Common

@@ -6,7 +6,7 @@ use Rattle.sv8_model.specs.declared.touch.Touch.TheVariants.{Read, Write, Levels
 use Rattle.sv8_model.specs.Outside.{word_address}
 use Rattle.sv8_model.specs.Footprint.{is_read_of, is_write_of, is_touch_of, reads_input}
 use Rattle.sv8_model.specs.Cells.{Cell, ram_byte, waiting_bytes, pending_level, is_read, is_written}
-use Rattle.sv8_phys.specs.Notes.{told}
+use Rattle.sv8_touches.specs.Told.{told}
 use Rattle.sv8_notes.specs.Touched.{is_touched, is_touched_by, is_told_written}
 use Rattle.sv8_notes.specs.Steps.{Steps, Gains, are_of}
 use Rattle.sv8_notes.proofs.Gaining.{or_none, any_append, gains_like, gains_then, read_append, written_append}

@@ -7,8 +7,8 @@ use Rattle.sv8_model.specs.Outside.{word_address}
 use Rattle.sv8_model.specs.Levels.{timer_level}
 use Rattle.sv8_model.specs.Footprint.{is_read_of, is_write_of, is_input, asks, is_expiry}
 use Rattle.sv8_model.specs.Cells.{Cell, ram_byte, waiting_bytes, pending_level, is_read, is_written}
-use Rattle.sv8_phys.specs.Notes.{told}
-use Rattle.sv8_phys.proofs.Common.{footprint_told, writes_told}
+use Rattle.sv8_touches.specs.Told.{told}
+use Rattle.sv8_touches.proofs.Common.{footprint_told, writes_told}
 use Rattle.sv8_notes.specs.Touched.{is_touched, is_touched_by, is_told_written}
 
 four : (a b c d : Bool) → ((a || b) || (c || d)) ≡ ((a || c) || (b || d))

@@ -11,7 +11,7 @@ ghost use Rattle.sv8_notes.specs.Steps.{Gains, IsAllData, IsFirstBelow, footprin
 ghost use Rattle.sv8_notes.specs.Sought.{is_met, sought_word};
 ghost use Rattle.sv8_notes.specs.Touching.{is_from_to, is_note_in, are_notes_in, touches_any};
 ghost use Rattle.sv8_notes.specs.WordRuns.{words_of};
-ghost use Rattle.sv8_phys.specs.Notes.{told};
+ghost use Rattle.sv8_touches.specs.Told.{told};
 
 use crate::cell::Cell;
 use crate::flags::flag_step;

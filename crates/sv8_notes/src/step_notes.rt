@@ -7,7 +7,8 @@ ghost use Rattle.sv8_notes.specs.Cells.{cell_of};
 
 use crate::cell::Cell;
 use std::alloc::Global;
-use sv8_phys::{StepTouches, Touch};
+use sv8_phys::Touch;
+use sv8_touches::StepTouches;
 
 /// The interrupt level of the timer.
 pub(crate) const TIMER_LEVEL: u32 = 10;

@@ -8,6 +8,7 @@ use std::alloc::{AllocError, Global};
 use std::test::Fail;
 use sv8_phys::*;
 use sv8_time::Timeline;
+use sv8_touches::StepTouches;
 
 /// A memory of two pages.
 fn blank(alloc: Global) -> Result<Phys<2>, Fail> {

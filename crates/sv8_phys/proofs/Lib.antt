@@ -7,9 +7,6 @@ pub mod Handles
 pub mod BlockLemmas
 pub mod PageLemmas
 pub mod Difference
-pub mod Bits
-pub mod Telling
-pub mod ToldLaws
 pub mod PendingWord
 pub mod PendingLevels
 pub mod ChunkLemmas
@@ -17,5 +14,3 @@ pub mod PieceLemmas
 pub mod Access
 pub mod Console
 pub mod Calls
-pub mod OnLiterals
-pub mod Common

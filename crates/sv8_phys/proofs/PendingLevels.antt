@@ -12,7 +12,7 @@ use Rattle.sv8_model.proofs.Common.{length-masked, get_or-masked, length-unmaske
 use Rattle.std.proofs.lemmas.Nat.{and_le_l}
 use Rattle.sv8_phys.specs.Pending.{levels_of_word, AreLevels}
 use Rattle.sv8_phys.proofs.PendingWord.{word_of_bits}
-use Rattle.sv8_phys.proofs.Bits.{bit-or, bit-and}
+use Rattle.sv8_model.proofs.Bits.{bit-or, bit-and}
 
 pub level_count : (word : ℕ) → length (levels_of_word word) ≡ 16
 unfolding levels_of_word

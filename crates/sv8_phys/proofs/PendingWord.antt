@@ -9,7 +9,7 @@ use Rattle.sv8_model.specs.Words.{bit, digit}
 use Rattle.sv8_model.specs.Levels.{bits_from, levels_word}
 use Rattle.sv8_phys.specs.Pending.{levels_of_word}
 use Rattle.sv8_phys.specs.Laws.{BitsArePending}
-use Rattle.sv8_phys.proofs.Bits.{bit-zero}
+use Rattle.sv8_model.proofs.Bits.{bit-zero}
 
 -- the word that has a bit for each condition of a list, the lowest for the first
 packed : List Bool → ℕ

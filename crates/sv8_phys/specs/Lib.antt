@@ -12,4 +12,3 @@ pub mod Notes
 pub mod Growths
 pub mod Calls
 pub mod Laws
-pub mod Examples

@@ -7,24 +7,19 @@ mod directory;
 mod fault;
 mod half_page;
 mod halves;
-pub mod laws;
 mod levels;
 mod output;
 mod page;
 mod phys;
 mod ram;
-mod step_touches;
 mod timer;
-mod watch;
 mod zeros;
 
 pub use fault::BusError;
 pub use output::OutputPlace;
 pub use page::Page;
 pub use phys::{INPUT, OUTPUT, PENDING, Phys, TIMER_COUNT, TIMER_RELOAD, WAITING};
-pub use step_touches::{StepTouches, tell_all};
 pub use sv8_model::{
     AccessKind, Arrivals, NoTouches, Observation, Size, Touch, TouchKind, Touches,
 };
 pub use timer::Timer;
-pub use watch::Watch;

@@ -16,7 +16,7 @@ use std::alloc::{AllocError, Global};
 use sv8_bench::{Bench, BenchFault, LAST_STEP, STEP_TOO_LARGE};
 use sv8_cpu::Machine;
 use sv8_model::Refused;
-use sv8_phys::Watch;
+use sv8_touches::Watch;
 use sv8_walks::{Walk, walk_in_lockstep};
 
 /// The sites of the steps of both runs (see `Walk::pass`).

@@ -2,7 +2,7 @@
 
 use crate::plan::Plan;
 use std::alloc::Global;
-use sv8_phys::Watch;
+use sv8_touches::Watch;
 
 /// Places for what a search sees and plans. What stands there between two searches means nothing.
 #[derive(Drop)]

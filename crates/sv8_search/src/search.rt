@@ -25,8 +25,8 @@ use std::alloc::AllocError;
 use sv8_bench::{BAD_ADDRESS, Bench, BenchFault, LAST_STEP, STEP_TOO_LARGE};
 use sv8_cpu::Machine;
 use sv8_model::Refused;
-use sv8_phys::Watch;
 use sv8_time::Timeline;
+use sv8_touches::Watch;
 use sv8_walks::Walk;
 use sv8_watch::{Before, Condition, MadeStep};
 

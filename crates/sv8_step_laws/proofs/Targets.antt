@@ -4,7 +4,7 @@ use Rattle.std.proofs.lemmas.Bool.{cases_Bool}
 use Rattle.sv8_isa.specs.declared.instr.Instr.{Instr}
 use Rattle.sv8_isa.specs.declared.instr.Instr.TheVariants as row
 use Rattle.sv8_isa.specs.Table.{Row, fits, table, instr_at, meaning}
-use Rattle.sv8_isa.proofs.Back.{field_below}
+use Rattle.sv8_isa.proofs.FieldLemmas.{field_below}
 use Rattle.sv8_time.specs.Order.{Each}
 
 -- rd is below 32, where the instruction writes a register of that number

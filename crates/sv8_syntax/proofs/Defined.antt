@@ -15,13 +15,19 @@ use Rattle.sv8_syntax.specs.declared.statement.Statement.{Statement}
 use Rattle.sv8_syntax.specs.declared.statement.Statement.TheVariants as statement
 use Rattle.sv8_syntax.specs.declared.statement.Stmt.{Stmt}
 use Rattle.sv8_syntax.specs.Operand.{Operand}
-use Rattle.sv8_syntax.specs.Token.{Token, Local}
+use Rattle.sv8_syntax.specs.declared.token.Mark.TheVariants as mark
+use Rattle.sv8_syntax.specs.declared.statement.Label.{Label}
+use Rattle.sv8_syntax.specs.declared.statement.Label.TheVariants as label
+use Rattle.sv8_syntax.specs.Token.{Token, Word, Mark, Local}
 use Rattle.sv8_syntax.specs.Spelling.{is_digit, is_reference, Spells, label_text, IsCutInto, cut_token}
 use Rattle.sv8_syntax.specs.Lexing.{◌>>=◌}
 use Rattle.sv8_syntax.specs.Taking.{register_in, expr_in, number_in, text_in, name_of, name_in, is_signed, signed_in, exprs_in}
 use Rattle.sv8_syntax.specs.Forms.{instruction_of, set_of, motion_of, data_of, ascii_of, equ_of, directive_of, directive_in, directive_or_instruction, form_of}
-use Rattle.sv8_syntax.specs.Names.{IsConstant, IsDefinition, Defines}
-use Rattle.sv8_syntax.specs.Grammar.{IsStatement, blank, stated, stated_annulled, IsLine, unlabelled, labelled, numbered, ReadsAs}
+use Rattle.sv8_syntax.specs.Names.{IsLabel, IsConstant, IsDefinition, Defines}
+use Rattle.sv8_syntax.specs.Grammar.{line}
+use Rattle.sv8_syntax.specs.Mnemonics.{shape_named}
+use Rattle.sv8_syntax.specs.Outcome.{Gives}
+use Rattle.sv8_syntax.specs.Reading.{operands_of, parts_of, shaped, behind_annul, flagged, statement_of, label_front, line_of}
 use Rattle.sv8_syntax.proofs.Steps.{bind_some, some_is, test_true}
 use Rattle.sv8_syntax.proofs.Words.{and_true}
 
@@ -101,10 +107,21 @@ form-defines : (s : Shape) (os : List Operand) (b : Statement) → form_of s os 
 unfolding form_of
 form-defines s os b h = either-defines (directive_in s) s os b h
 
-statement-defines : (ts : List Token) (b : Option Statement) → IsStatement ts b → IfSome b IsDefinition
-statement-defines _ _ blank = tt
-statement-defines _ _ (stated name s os b row form) = form-defines s os b form
-statement-defines _ _ (stated_annulled name s t os b row flag form) = form-defines t os b form
+shaped-defines : (s : Shape) (ts : List Token) (b : Statement) → shaped s ts ≡ Some b → IsDefinition b
+unfolding shaped
+shaped-defines s ts b h =
+    let x = bind_some (operands_of (parts_of ts)) (form_of s) b h in
+    form-defines s x.0 b x.2
+
+statement-defines : (ts : List Token) (b : Option Statement) → statement_of ts ≡ Some b → IfSome b IsDefinition
+unfolding statement_of
+statement-defines [] b h = subst (λ (c : Option Statement). IfSome c IsDefinition) (some_is None b h) tt
+statement-defines (Word name ∷ ts) b h =
+    let s = bind_some (shape_named name) (λ s. flagged s ts (behind_annul ts) >>= λ x. shaped x.0 x.1 >>= λ c. Some (Some c)) b h in
+    let x = bind_some (flagged s.0 ts (behind_annul ts)) (λ x. shaped x.0 x.1 >>= λ c. Some (Some c)) b s.2 in
+    let y = bind_some (shaped x.0.0 x.0.1) (λ c. Some (Some c)) b x.2 in
+    subst (λ (c : Option Statement). IfSome c IsDefinition) (some_is (Some y.0) b y.2) (shaped-defines x.0.0 x.0.1 y.0 y.1)
+statement-defines _ b h = absurd cc
 
 -- ---- labels
 
@@ -125,14 +142,22 @@ spelled-digit _ _ _ = tt
 cut-digit : (text : List ℕ) (d : ℕ) (ts : List Token) → IsCutInto text (Local d ∷ ts) → d < 10
 cut-digit _ d ts (cut_token gap text rest t us pass spelled ends more) = spelled-digit t text spelled
 
-line-defines : (text : List ℕ) (ts : List Token) (s : Stmt) → IsCutInto text ts → IsLine ts s → Defines s
-line-defines text _ _ cut (unlabelled ts b d) = (tt, statement-defines ts b d)
-line-defines text _ _ cut (labelled name ts b other d) = (other, statement-defines ts b d)
-line-defines text _ _ cut (numbered d ts b k) = (cut-digit text d ts cut, statement-defines ts b k)
+label-defines : (text : List ℕ) (ts : List Token) → IsCutInto text ts → IfSome (label_front ts).0 IsLabel
+unfolding label_front
+label-defines text (Word name ∷ Mark mark.Colon ∷ ts) cut =
+    let front : Bool → Option Label × List Token = λ v. cond v (None, Word name ∷ Mark mark.Colon ∷ ts) (Some (label.Name name), ts) in
+    let P : Bool → Type 0 = λ v. is_reference name ≡ v → IfSome (front v).0 IsLabel in
+    let all : (v : Bool) → P v = λ v. elim v as P [ true ↦ λ e. tt | false ↦ λ e. e ] in
+    all (is_reference name) refl
+label-defines text (Local d ∷ ts) cut = cut-digit text d ts cut
+label-defines text ts cut = tt
 
-pub reads-defines : (text : List ℕ) (s : Stmt) → ReadsAs text s → Defines s
-reads-defines text s r = line-defines text r.tokens s r.cut r.parsed
+pub line-defines : (text : List ℕ) (ts : List Token) (s : Stmt) → IsCutInto text ts → line_of ts ≡ Some s → Defines s
+unfolding line_of
+line-defines text ts s cut h =
+    let x = bind_some (statement_of (label_front ts).1) (λ b. Some (line (label_front ts).0 b)) s h in
+    subst Defines (some_is (line (label_front ts).0 x.0) s x.2) (label-defines text ts cut, statement-defines (label_front ts).1 x.0 x.1)
 
-pub found-defines : (text : List ℕ) (r : Result Stmt (Refused LineFault)) → IfOk r (λ s. ReadsAs text s) → IfOk r (λ s. Defines s)
-found-defines text (Ok s) h = reads-defines text s h
-found-defines text (Err e) h = tt
+pub given-defines : (text : List ℕ) (ts : List Token) (r : Result Stmt (Refused LineFault)) → IsCutInto text ts → Gives (λ (s : Stmt). s) r (line_of ts) → IfOk r (λ s. Defines s)
+given-defines text ts (Ok s) cut h = line-defines text ts s cut h
+given-defines text ts (Err e) cut h = tt

@@ -5,8 +5,5 @@ pub mod Cut
 pub mod Tokens
 pub mod Parts
 pub mod Split
-pub mod Read
-pub mod Written
 pub mod Lines
 pub mod Defined
-pub mod OnLiterals

@@ -15,4 +15,3 @@ pub mod Names
 pub mod Grammar
 pub mod Reading
 pub mod Outcome
-pub mod Worked

@@ -10,7 +10,6 @@ mod fault;
 mod form;
 mod format3;
 mod instruction;
-pub mod laws;
 mod lexer;
 mod line;
 mod mnemonic;

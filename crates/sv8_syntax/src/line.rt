@@ -1,12 +1,12 @@
 //! A line's text to its statement.
 
-ghost use Rattle.std.specs.Prelude.{◌≡◌, option_map, ◌≤◌, ◌+◌, length, ◌<◌, ◌∷◌, IfSome, IfOk, IfErr, IsTrue, ◌↔◌, MatchResult, Ok, Err};
+ghost use Rattle.std.specs.Prelude.{◌≡◌, option_map, ◌≤◌, ◌+◌, length, ◌<◌, ◌∷◌, IfSome, IfOk, IsTrue, ◌↔◌, MatchResult, Ok, Err};
 ghost use Rattle.sv8_model.specs.Refused.{ByFault};
 ghost use Rattle.sv8_syntax.specs.Token.{views};
 ghost use Rattle.sv8_syntax.specs.Operand.{operand_views};
 ghost use Rattle.sv8_syntax.specs.Spelling.{AllPass};
 ghost use Rattle.sv8_syntax.specs.Names.{Defines};
-ghost use Rattle.sv8_syntax.specs.Grammar.{ReadsAs, IsFault, is_text_byte};
+ghost use Rattle.sv8_syntax.specs.Grammar.{is_text_byte};
 ghost use Rattle.sv8_syntax.specs.Outcome.{Gives, part_len, parts_behind};
 ghost use Rattle.sv8_syntax.specs.Reading.{parts, parts_of, operands_of, shaped, behind_annul, flagged, statement_of, label_front, line_of, reading};
 
@@ -174,12 +174,10 @@ fn is_text(text: &[u8]) -> bool
 /// The statement of a line of assembler text, which comes without its line feed (Appendix A).
 ///
 /// The errors are `LineTooLong`, `NotAscii` and `Syntax`, the first of them that applies, and
-/// `OutOfMemory` for any text. Values out of range and names that nothing defines are found later.
+/// `OutOfMemory` for any text. Values out of range and names that nothing defines are found later. That `reading` is the
+/// grammar (`ReadsAs`), and its faults the least ones (`IsFault`), is the law `reading_is_the_grammar` of
+/// `sv8_assembler_laws`.
 pub fn parse_line(alloc: Global, text: &[u8]) -> Result<Stmt, Refused<LineFault>>
-    // What is read is a line with this statement.
-    ensures found { IfOk result (λ s. ReadsAs text.now s) }
-    // Any other outcome is a fault of the text, the least one, or want of memory.
-    ensures fault { IfErr result (ByFault (IsFault text.now)) }
     // A name that the line defines is no reference to a local label, and a label's digit is below 10.
     ensures defines { IfOk result (λ s. Defines s) }
     // The outcome rests on the text alone, unless memory ran out.

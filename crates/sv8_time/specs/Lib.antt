@@ -4,5 +4,4 @@ pub mod Words
 pub mod Marks
 pub mod Inputs
 pub mod Timeline
-pub mod Examples
 pub mod Edits

@@ -6,7 +6,6 @@ mod block;
 mod edit;
 mod fault;
 mod inputs;
-mod laws;
 mod marks;
 mod order;
 mod ordered;
@@ -19,7 +18,6 @@ mod words;
 
 pub use edit::{InputBytes, TimelineEdit};
 pub use fault::TimeFault;
-pub use laws::{worked_nexts, worked_pokes, worked_reads, worked_refusals};
 pub use requests::Request;
 pub use timeline::{Events, LAST_STEP, MOST_BYTES, MOST_EVENTS, Timeline};
 pub use words::WordPoke;

@@ -8,7 +8,7 @@ use Rattle.sv8_history.specs.Machine.{Footprint, SameFootprint}
 use Rattle.sv8_history.specs.Trace.{some_from}
 use Rattle.sv8_history.proofs.Common.{none_from}
 use Rattle.sv8_time.specs.Schedule.{Schedule}
-use Rattle.sv8_phys.specs.Notes.{told}
+use Rattle.sv8_touches.specs.Told.{told}
 use Rattle.sv8_notes.specs.Kept.{kept_in}
 use Rattle.sv8_notes.specs.Touched.{is_touched}
 use Rattle.sv8_notes.specs.Steps.{no_steps, footprint_in, reads_in, writes_in, data_in, are_of, is_among}

@@ -7,7 +7,7 @@ use Rattle.sv8_history.specs.Trace.{some_from}
 use Rattle.sv8_time.specs.Schedule.{Schedule}
 use Rattle.sv8_time.specs.declared.words.WordPoke.{WordPoke}
 use Rattle.sv8_time.specs.declared.requests.Request.{Request}
-use Rattle.sv8_phys.specs.Notes.{told}
+use Rattle.sv8_touches.specs.Told.{told}
 use Rattle.sv8_notes.specs.declared.cell.Cell.TheVariants as cell
 use Rattle.sv8_notes.specs.declared.cell.Content.TheVariants as content
 use Rattle.sv8_notes.specs.declared.kept.Kept.{Kept}

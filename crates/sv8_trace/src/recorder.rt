@@ -5,7 +5,7 @@ ghost use Rattle.sv8_model.specs.Cells as model;
 ghost use Rattle.sv8_model.specs.Footprint.{data_touches};
 ghost use Rattle.sv8_time.specs.Schedule.{bytes_below};
 ghost use Rattle.sv8_phys.specs.Memory.{ram_size};
-ghost use Rattle.sv8_phys.specs.Notes.{told};
+ghost use Rattle.sv8_touches.specs.Told.{told};
 ghost use Rattle.sv8_notes.specs.Kept.{kept_in};
 ghost use Rattle.sv8_notes.specs.Touched.{is_touched};
 ghost use Rattle.sv8_notes.specs.Steps.{Gains};
@@ -19,8 +19,9 @@ use crate::interval::Interval;
 use std::alloc::AllocError;
 use sv8_cpu::{Machine, Work};
 use sv8_notes::{Cell, Content, KeptList, StepNotes};
-use sv8_phys::{StepTouches, Touch, Watch, tell_all};
+use sv8_phys::Touch;
 use sv8_time::{Request, Timeline, WordPoke};
+use sv8_touches::{StepTouches, Watch, tell_all};
 
 /// Keeps what stands in a byte, if it is about to be poked.
 fn keep_byte<const NW: usize, const PAGES: usize>(

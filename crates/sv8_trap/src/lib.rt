@@ -3,11 +3,9 @@
 #![tactic(auto)]
 
 mod entry;
-mod laws;
 mod processor;
 mod table;
 
 pub use entry::highest_level;
-pub use laws::{the_first_is_taken, worked_interrupts, worked_table, worked_traps};
 pub use processor::Processor;
 pub use table::{Row, Trap, select};

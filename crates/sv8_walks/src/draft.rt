@@ -13,7 +13,7 @@ use std::alloc::{AllocError, Global};
 use std::marker::Model;
 use sv8_bench::Bench;
 use sv8_cpu::{Machine, Work};
-use sv8_phys::{StepTouches, Watch};
+use sv8_touches::{StepTouches, Watch};
 use sv8_trace::{Interval, record_watched};
 
 /// A machine beyond the last checkpoint of a workbench's run, with what is recorded of the steps since.

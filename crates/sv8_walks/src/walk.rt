@@ -13,7 +13,7 @@ use crate::draft::Draft;
 use std::alloc::AllocError;
 use sv8_bench::{Bench, LAST_STEP};
 use sv8_cpu::{Machine, Work};
-use sv8_phys::Watch;
+use sv8_touches::Watch;
 
 /// Where a walk stands.
 #[derive(Drop)]

@@ -9,8 +9,9 @@ ghost use Rattle.sv8_watch.specs.Conditions.{overlap, loads, stores, accesses, i
 use crate::happening::{Access, Outcome};
 use crate::watched::{Before, MadeStep, access_in};
 use sv8_cpu::Machine;
-use sv8_phys::{AccessKind, OutputPlace, Touch, Watch};
+use sv8_phys::{AccessKind, OutputPlace, Touch};
 use sv8_time::Timeline;
+use sv8_touches::Watch;
 
 /// A condition on a step. Addresses of memory are physical; `count` bytes from `address` on are meant.
 #[derive(Clone, Copy, PartialEq, Eq, Debug)]

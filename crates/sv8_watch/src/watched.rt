@@ -9,8 +9,9 @@ ghost use Rattle.sv8_watch.specs.Watched.{IsBefore, happening_of};
 
 use crate::happening::{Access, Fetch, Happening, Outcome};
 use sv8_cpu::Machine;
-use sv8_phys::{Observation, OutputPlace, Touch, Watch};
+use sv8_phys::{Observation, OutputPlace, Touch};
 use sv8_time::Timeline;
+use sv8_touches::Watch;
 
 /// What is kept of a machine while its step is made.
 #[derive(Clone, Copy)]

@@ -1,6 +1,6 @@
 use Rattle.std.proofs.Common.{rules, ◌≡◌, ap, ◌∙◌, cond, subst, None}
 use Rattle.sv8_model.specs.Footprint.{data_touches}
-use Rattle.sv8_phys.specs.Notes.{told}
+use Rattle.sv8_touches.specs.Told.{told}
 use Rattle.sv8_notes.specs.Kept.{kept_in}
 use Rattle.sv8_notes.specs.Steps.{Steps, Gains}
 use Rattle.sv8_notes.specs.Touched.{is_touched}

@@ -1,6 +1,6 @@
 use Rattle.std.proofs.Common.{rules, ◌≡◌, ◌++◌, ap, ◌∙◌, cond, None}
 use Rattle.sv8_model.specs.Does.{Notes}
-use Rattle.sv8_phys.specs.Notes.{told}
+use Rattle.sv8_touches.specs.Told.{told}
 use Rattle.sv8_notes.specs.Kept.{kept_in}
 use Rattle.sv8_notes.specs.Touched.{is_touched}
 use Rattle.sv8_cpu.specs.Run.{footprint}

@@ -2,7 +2,7 @@ use Rattle.std.proofs.Common.{[], ◌∷◌, ap, ap₂, sym, subst, ◌∙◌, n
 use Rattle.std.specs.Prelude.{if◌then◌else◌}
 use Rattle.sv8_model.specs.declared.touch.Touch.TheVariants.{Read, Write}
 use Rattle.sv8_model.specs.Footprint.{behind_fetch}
-use Rattle.sv8_phys.specs.Notes.{told}
+use Rattle.sv8_touches.specs.Told.{told}
 use Rattle.sv8_notes.specs.Steps.{Gains}
 use Rattle.sv8_notes.proofs.Gaining.{gains_then}
 use Rattle.sv8_notes.proofs.Told.{told_load, told_store}

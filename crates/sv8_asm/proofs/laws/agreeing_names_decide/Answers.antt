@@ -1,5 +1,0 @@
-use Rattle.sv8_asm.proofs.UsedNames.{agreeing_names_decide}
-use Rattle.sv8_asm.proofs.laws.agreeing_names_decide.Goals as goal
-
-pub returns : goal.returns
-returns c = agreeing_names_decide

@@ -1,0 +1,4 @@
+pub mod Choice
+pub mod Placing
+pub mod ServedPlaces
+pub mod OnLiterals

@@ -1,5 +1,0 @@
-use Rattle.sv8_phys.proofs.PendingWord.{bits_pending}
-use Rattle.sv8_phys.proofs.laws.bits_are_pending.Goals as goal
-
-pub returns : goal.returns
-returns c = bits_pending

@@ -1,5 +1,0 @@
-use Rattle.sv8_phys.proofs.Difference.{differences_are_least}
-use Rattle.sv8_phys.proofs.laws.differences_are_least.Goals as goal
-
-pub returns : goal.returns
-returns c = differences_are_least

@@ -1,5 +1,0 @@
-use Rattle.sv8_phys.proofs.ToldLaws.{footprint_told}
-use Rattle.sv8_phys.proofs.laws.footprint_is_told.Goals as goal
-
-pub returns : goal.returns
-returns c = footprint_told

@@ -1,5 +1,0 @@
-use Rattle.sv8_phys.proofs.PieceLemmas.{pieces_are_output}
-use Rattle.sv8_phys.proofs.laws.pieces_are_the_output.Goals as goal
-
-pub returns : goal.returns
-returns c = pieces_are_output

@@ -1,5 +1,0 @@
-use Rattle.sv8_source.proofs.Lowest.{least_fault_is_named}
-use Rattle.sv8_source.proofs.laws.least_fault_is_named.Goals as goal
-
-pub returns : goal.returns
-returns c = least_fault_is_named

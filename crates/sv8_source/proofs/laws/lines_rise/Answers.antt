@@ -1,5 +1,0 @@
-use Rattle.sv8_source.proofs.SourceLaws.{lines_rise}
-use Rattle.sv8_source.proofs.laws.lines_rise.Goals as goal
-
-pub returns : goal.returns
-returns c = lines_rise

@@ -1,5 +1,0 @@
-use Rattle.sv8_source.proofs.Lowest.{lowest_line_is_named}
-use Rattle.sv8_source.proofs.laws.lowest_line_is_named.Goals as goal
-
-pub returns : goal.returns
-returns c = lowest_line_is_named

@@ -1,5 +1,0 @@
-use Rattle.sv8_source.proofs.SourceLaws.{texts_are_lines}
-use Rattle.sv8_source.proofs.laws.texts_are_lines.Goals as goal
-
-pub returns : goal.returns
-returns c = texts_are_lines
