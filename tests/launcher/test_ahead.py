@@ -42,7 +42,7 @@ class Ahead(InRepository):
         return shown.getvalue()
 
     def test_how_many_side_by_side(self) -> None:
-        for cores, memory, due in ((1, 64, 0), (2, 64, 0), (4, 24, 3), (4, 12, 2), (4, 8, 0), (8, 24, 3), (16, 64, 4)):
+        for cores, memory, due in ((1, 64, 0), (2, 64, 0), (4, 24, 4), (4, 12, 2), (4, 8, 0), (8, 24, 4), (32, 64, 8)):
             with self.subTest(cores=cores, memory=memory):
                 self.assertEqual(ahead.lanes(cores, memory * GIB), due)
         self.assertGreater(ahead.free_memory(), 0)
@@ -79,6 +79,15 @@ class Ahead(InRepository):
         waits = f"case $2 in low | long) sleep 0.5; touch {ended} ;; side) [ -e {ended} ] || exit 1 ;; esac; {SAYS}"
         self.prove(waits, lanes=3, text=text)
         self.assertEqual(sorted(self.all_calls()), ["ci high", "ci long", "ci low", "ci side"])
+
+    def test_a_crate_with_a_shorter_way_has_one_job(self) -> None:
+        # The way of `low` has 10 minutes, and that of `high` 6 of the 6 that are left by then; that of `side` has 2.
+        jobs = self.room / "jobs"
+        self.prove(f'echo "$2 ${{RT_JOBS:-any}}" >>{jobs}; {SAYS}', lanes=1)
+        self.assertEqual(jobs.read_text().split("\n"), ["low any", "high any", "side any", ""])
+        jobs.unlink()
+        self.prove(f'echo "$2 ${{RT_JOBS:-any}}" >>{jobs}; [ "$2" = low ] && sleep 1; {SAYS}', lanes=2)
+        self.assertEqual(sorted(jobs.read_text().splitlines()), ["high any", "low any", "side 1"])
 
     def test_tests_hold_no_other_crate_back(self) -> None:
         # `low` is proved, and its tests wait for `high`, which can only come once `low` counts as proved.

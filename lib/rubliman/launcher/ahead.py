@@ -1,12 +1,12 @@
 """Proves crates side by side, each by a command of its own (`ways` says which), once something is to be proved.
 
 One `rt ci` of all crates gives most proofs one processor, also while others have nothing to do: it counts with the
-tests that each crate might have. So crates are asked for one by one, those with the longest way above them first, three
-at a time on four processors, since each begins and ends with seconds that use one. The one on the longest way has the
-processors first, and the others go on with what it leaves. Where a crate at work has a shorter way than one that
-becomes ready, the second does not wait for it. A crate with a far shorter way than the longest one leaves the
-processors to two others: what waits for it is far, and at the end of the longest way there are processors with nothing
-to do.
+tests that each crate might have. So crates are asked for one by one, those with the longest way above them first, four
+at a time on four processors. The one on the longest way has the processors first and two jobs, as have those whose way
+is nearly as long. The others have one job, which takes less processor time, and go on with what is left. Where a crate
+at work has a shorter way than one that becomes ready, the second does not wait for it. A crate with a far shorter way
+than the longest one leaves the processors to two others: what waits for it is far, and at the end of the longest way
+there are processors with nothing to do.
 
 A command takes some seconds before it proves anything, the more the more crates lie below. So the next crate is begun
 while the last of its libraries is under way: where commands share what they prove, its own then waits for that.
@@ -43,13 +43,15 @@ _NICENESS, _NICEST = 10, 19
 _BEGUN_SECONDS = 20
 # While two crates are at work, one whose way is a smaller part of the longest way than this can wait.
 _NEAR = 0.4
+# One whose way is a smaller part of it than this has one job: a second one takes up to a fifth more processor time.
+_NEARLY_AS_LONG = 0.85
 # A command counts the memory that is free when it begins, and with less it may give its crate one job.
 _AMPLE_BYTES = 16 << 30
 
 
 def lanes(cores: int, memory: int) -> int:
     """How many crates are proved side by side; 0 where `rt ci` of all is as quick, or memory holds no two checks."""
-    number = min(max(3, cores // 4), memory // _CHECK_BYTES)
+    number = min(max(4, cores // 4), memory // _CHECK_BYTES)
     return number if cores >= 4 and number >= 2 else 0
 
 
@@ -85,7 +87,7 @@ class Ahead:
     """The crates that are left, and those that are under way."""
 
     def __init__(
-        self, tasks: Iterable[Task], way: Way, environment: dict[str, str], progress: Progress, jobs: int = 1
+        self, tasks: Iterable[Task], way: Way, environment: dict[str, str], progress: Progress, jobs: int = 2
     ) -> None:
         self._tasks = list(tasks)
         self._way, self._environment, self._progress, self._jobs = way, environment, progress, jobs
@@ -150,8 +152,12 @@ class Ahead:
 
     def _can_wait(self, crate: str) -> bool:
         """Whether a crate leaves the processors to those at work, since what waits for it is far."""
-        longest = max(self._ways[it] for it in [*self._left, *(it.crate for it in self._under_way)])
-        return len(self._at_work()) >= 2 and self._ways[crate] < _NEAR * longest
+        return len(self._at_work()) >= 2 and self._part_of_longest(crate) < _NEAR
+
+    def _part_of_longest(self, crate: str) -> float:
+        """The way of a crate, as a part of the longest one that is left."""
+        longest = max(self._ways[it] for it in [crate, *self._left, *(it.crate for it in self._under_way)])
+        return self._ways[crate] / longest if longest else 1.0
 
     def _following(self) -> str | None:
         """The crate that comes next, where it lacks libraries that are being proved, and no other crate waits so."""
@@ -167,7 +173,7 @@ class Ahead:
     def _of(self, crate: str) -> _Begun:
         """The proof of a crate that is left, begun."""
         self._left.remove(crate)
-        words, folder = self._way.begin(crate, self._jobs)
+        words, folder = self._way.begin(crate, self._jobs if self._part_of_longest(crate) >= _NEARLY_AS_LONG else 1)
         others = (it.crate for it in self._under_way if it.crate not in self._below[crate])
         longer = sum(self._order.index(it) < self._order.index(crate) for it in others)
         if longer:

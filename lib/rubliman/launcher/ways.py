@@ -44,8 +44,8 @@ class ByName:
         self._rt, self._copy = rt, copy
 
     def begin(self, crate: str, jobs: int) -> tuple[list[str], Path]:
-        """The toolchain chooses the jobs itself."""
-        return [self._rt, "ci", crate], self._copy
+        """The toolchain chooses the jobs itself, where it is not to be one."""
+        return [*(["env", "RT_JOBS=1"] if jobs == 1 else []), self._rt, "ci", crate], self._copy
 
     def is_proved(self, crate: str, said: bytes) -> bool:
         """Its tests may still be under way, and no other crate waits for those."""
