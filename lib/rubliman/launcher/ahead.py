@@ -1,12 +1,12 @@
 """Proves crates side by side, each by a command of its own (`ways` says which), once something is to be proved.
 
 One `rt ci` of all crates gives most proofs one processor, also while others have nothing to do: it counts with the
-tests that each crate might have. So crates are asked for one by one, those with the longest way above them first, four
-at a time on four processors. The one on the longest way has the processors first and two jobs, as have those whose way
-is nearly as long. The others have one job, which takes less processor time, and go on with what is left. Where a crate
-at work has a shorter way than one that becomes ready, the second does not wait for it. A crate with a far shorter way
-than the longest one leaves the processors to two others: what waits for it is far, and at the end of the longest way
-there are processors with nothing to do.
+tests that each crate might have. So crates are asked for one by one, those with the longest way above them first, three
+at a time on four processors. The one on the longest way has two jobs, and the processors first. The others have one job
+each, which takes less processor time than two, and go on with what is left. Where a crate at work has a shorter way
+than one that becomes ready, the second does not wait for it. A crate with a far shorter way than the longest one leaves
+the processors to two others: what waits for it is far, and at the end of the longest way there are processors with
+nothing to do.
 
 A command takes some seconds before it proves anything, the more the more crates lie below. So the next crate is begun
 while the last of its libraries is under way: where commands share what they prove, its own then waits for that.
@@ -43,15 +43,13 @@ _NICENESS, _NICEST = 10, 19
 _BEGUN_SECONDS = 20
 # While two crates are at work, one whose way is a smaller part of the longest way than this can wait.
 _NEAR = 0.4
-# One whose way is a smaller part of it than this has one job: a second one takes up to a fifth more processor time.
-_NEARLY_AS_LONG = 0.85
 # A command counts the memory that is free when it begins, and with less it may give its crate one job.
 _AMPLE_BYTES = 16 << 30
 
 
 def lanes(cores: int, memory: int) -> int:
     """How many crates are proved side by side; 0 where `rt ci` of all is as quick, or memory holds no two checks."""
-    number = min(max(4, cores // 4), memory // _CHECK_BYTES)
+    number = min(max(3, cores // 4), memory // _CHECK_BYTES)
     return number if cores >= 4 and number >= 2 else 0
 
 
@@ -173,7 +171,7 @@ class Ahead:
     def _of(self, crate: str) -> _Begun:
         """The proof of a crate that is left, begun."""
         self._left.remove(crate)
-        words, folder = self._way.begin(crate, self._jobs if self._part_of_longest(crate) >= _NEARLY_AS_LONG else 1)
+        words, folder = self._way.begin(crate, self._jobs if self._part_of_longest(crate) >= 1 else 1)
         others = (it.crate for it in self._under_way if it.crate not in self._below[crate])
         longer = sum(self._order.index(it) < self._order.index(crate) for it in others)
         if longer:
