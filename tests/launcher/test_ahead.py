@@ -89,6 +89,13 @@ class Ahead(InRepository):
         self.prove(f'echo "$2 ${{RT_JOBS:-any}}" >>{jobs}; [ "$2" = low ] && sleep 1; {SAYS}', lanes=2)
         self.assertEqual(sorted(jobs.read_text().splitlines()), ["high any", "low any", "side 1"])
 
+    def test_a_crate_has_two_jobs_while_the_command_of_its_library_ends(self) -> None:
+        # `low` is proved, and its command goes on until `high` is begun; the way of `low` is longer, since it leads there.
+        jobs = self.room / "jobs"
+        ends = f'[ "$2" = low ] && until grep -q "ci high" {self.log}; do sleep 0.1; done; true'
+        self.prove(f'echo "$2 ${{RT_JOBS:-any}}" >>{jobs}; {SAYS}; {ends}')
+        self.assertEqual(sorted(jobs.read_text().splitlines()), ["high any", "low any", "side 1"])
+
     def test_tests_hold_no_other_crate_back(self) -> None:
         # `low` is proved, and its tests wait for `high`, which can only come once `low` counts as proved.
         tests = f'[ "$2" = low ] && until grep -q "ci high" {self.log}; do sleep 0.1; done; true'

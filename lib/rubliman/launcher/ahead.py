@@ -153,9 +153,14 @@ class Ahead:
         return len(self._at_work()) >= 2 and self._part_of_longest(crate) < _NEAR
 
     def _part_of_longest(self, crate: str) -> float:
-        """The way of a crate, as a part of the longest one that is left."""
-        longest = max(self._ways[it] for it in [crate, *self._left, *(it.crate for it in self._under_way)])
+        """The way of a crate, as a part of the longest one of it and of those that it does not wait for."""
+        others = {*self._left, *(it.crate for it in self._under_way)} - self._proved - self._all_below(crate)
+        longest = max(self._ways[it] for it in {crate, *others})
         return self._ways[crate] / longest if longest else 1.0
+
+    def _all_below(self, crate: str) -> set[str]:
+        """The crates that a crate stands on, and those that these stand on."""
+        return self._below[crate].union(*(self._all_below(it) for it in self._below[crate]))
 
     def _following(self) -> str | None:
         """The crate that comes next, where it lacks libraries that are being proved, and no other crate waits so."""
