@@ -90,7 +90,7 @@ class Ahead(InRepository):
         self.assertEqual(sorted(jobs.read_text().splitlines()), ["high any", "low any", "side 1"])
 
     def test_a_crate_has_two_jobs_while_the_command_of_its_library_ends(self) -> None:
-        # `low` is proved, and its command goes on until `high` is begun; the way of `low` is longer, since it leads there.
+        # `low` is proved, and its command goes on until `high` is begun. The way of `low` is longer, as it leads there.
         jobs = self.room / "jobs"
         ends = f'[ "$2" = low ] && until grep -q "ci high" {self.log}; do sleep 0.1; done; true'
         self.prove(f'echo "$2 ${{RT_JOBS:-any}}" >>{jobs}; {SAYS}; {ends}')
