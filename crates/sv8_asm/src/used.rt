@@ -90,7 +90,8 @@ fn any_has(exprs: &[Expr], name: &[u8]) -> bool
 
 /// Whether a line's statement uses a name, or a reference to a local label as `1f` or `1b`: whether one of its expressions has it.
 ///
-/// What a statement places at a location rests on the values of these names alone (`laws::used_names_decide`). Takes no memory.
+/// What a statement places at a location rests on the values of these names alone (law `used_names_decide` of
+/// `sv8_assembler_laws`). Takes no memory.
 #[tactic(auto, unfolding(crate::specs::Uses::uses))]
 pub fn uses(stmt: &Stmt, name: &[u8]) -> bool
     ensures { result ≡ uses stmt.now name.now }
@@ -138,7 +139,7 @@ fn all_agree(exprs: &[Expr], names: &Symbols, line: u32, others: &Symbols, other
 
 /// Whether every name that a line's statement uses stands for the same in two tables of names, each asked in a line of its own.
 ///
-/// Where it does, the statement places the same bytes at one location, or has the same fault (`laws::agreeing_names_decide`). So
+/// Where it does, the statement places the same bytes at one location, or has the same fault (law `agreeing_names_decide`). So
 /// a statement is visited once, whatever number of names has changed. Takes no memory.
 #[tactic(auto, unfolding(crate::specs::Uses::agree))]
 pub fn agree(stmt: &Stmt, names: &Symbols, line: u32, others: &Symbols, other: u32) -> bool
