@@ -20,8 +20,8 @@ use Rattle.sv8_cpu.proofs.Common.{framed}
 use Rattle.sv8_reset.specs.Reset.{run_of}
 use Rattle.sv8_reset.proofs.Runs.{state_is}
 use Rattle.sv8_bench.specs.Alike.{AreAlikeUpTo}
-use Rattle.sv8_bench.specs.Kept.{Kept}
-use Rattle.sv8_bench.specs.Shown.{machine_state}
+use Rattle.sv8_workbench.specs.Kept.{Kept}
+use Rattle.sv8_workbench.specs.Shown.{machine_state}
 
 -- ---- processors
 

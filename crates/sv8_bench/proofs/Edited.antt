@@ -25,7 +25,7 @@ use Rattle.sv8_trace.specs.Recording.{Recording, signs_of, recorded, trace_of}
 use Rattle.sv8_trace.specs.Prepared.{prepared_trace, IsPlaced, Near, Preparation}
 use Rattle.sv8_trace.specs.Signs.{signs_among}
 use Rattle.sv8_trace.proofs.Common.{near_agrees, agrees_along, signs_alike}
-use Rattle.sv8_bench.specs.Kept.{Kept}
+use Rattle.sv8_workbench.specs.Kept.{Kept}
 use Rattle.sv8_bench.specs.Edits.{IsReadyFor, IsCommitted}
 use Rattle.sv8_bench.specs.Alike.{StaysAlike}
 use Rattle.sv8_bench.specs.Workbench.{Workbench, IsRecordOf, IsRun, IsEdited}

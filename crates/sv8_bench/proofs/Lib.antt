@@ -1,5 +1,4 @@
 pub mod ShownWords
-pub mod ImageWords
 pub mod Queried
 pub mod Alike
 pub mod Edited

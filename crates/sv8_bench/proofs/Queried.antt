@@ -19,8 +19,8 @@ use Rattle.sv8_trace.specs.Recorder.{steps_on, counted_by, RaisedUpTo}
 use Rattle.sv8_trace.specs.Recording.{Recording, fresh, blank, signs_of, last_point, recorded, trace_of, IsExtended}
 use Rattle.sv8_trace.specs.Signs.{signs_among}
 use Rattle.sv8_trace.proofs.Common.{signs_alike}
-use Rattle.sv8_bench.specs.Kept.{Kept}
-use Rattle.sv8_bench.specs.Shown.{machine_state}
+use Rattle.sv8_workbench.specs.Kept.{Kept}
+use Rattle.sv8_workbench.specs.Shown.{machine_state}
 use Rattle.sv8_bench.specs.Workbench.{Workbench, run_of_kept, IsRecordOf, IsRun, IsGivenUp}
 
 -- ---- counts

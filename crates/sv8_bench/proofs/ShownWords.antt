@@ -2,9 +2,9 @@
 use Rattle.std.proofs.Common.{◌≡◌, ◌∙◌, ℕ, ◌+◌, ◌*◌, ◌/◌, ◌≤◌, true, max, length, List, [], ◌∷◌, ◌++◌, refl, sym, ap, arith}
 use Rattle.std.proofs.lemmas.List.FromFn.{map-range_with_len_more, length-map-range_with_len}
 use Rattle.std.proofs.lemmas.Bool.Decides.{nat_tests}
-use Rattle.sv8_bench.specs.Faults.{are_words}
+use Rattle.sv8_workbench.specs.Faults.{are_words}
 use Rattle.sv8_model.specs.Outside.{word_of}
-use Rattle.sv8_bench.specs.Shown.{words_in}
+use Rattle.sv8_workbench.specs.Shown.{words_in}
 
 pub no_words : (ram : List ℕ) (address : ℕ) → [] ≡ words_in ram address 0
 unfolding words_in

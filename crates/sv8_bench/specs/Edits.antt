@@ -1,6 +1,5 @@
 -- Edits of a workbench: what one of the timeline comes to, and how one is prepared.
 use Rattle.std.specs.Prelude.{◌≡◌, ℕ, Result, Option, Some, None, option_map, OnOk, OnErr, IfErr}
-use Rattle.std.specs.List.{All}
 use Rattle.sv8_model.specs.declared.refused.Refused.{Refused}
 use Rattle.sv8_model.specs.Refused.{IsRefused}
 use Rattle.sv8_history.specs.Patches.{edited}
@@ -9,15 +8,12 @@ use Rattle.sv8_time.specs.declared.edit.TimelineEdit.{TimelineEdit}
 use Rattle.sv8_time.specs.Edits.{timeline_fault, with_edit}
 use Rattle.sv8_cpu.specs.Recorded.{machine}
 use Rattle.sv8_edits.specs.Changes.{RunChange, cells, input, edit_change}
-use Rattle.sv8_trace.specs.Patch.{changes_of, IsPatch}
 use Rattle.sv8_trace.specs.Prepared.{Preparation, Near, prepared_trace, IsPreparedFor, IsPlaced}
 use Rattle.sv8_trace.specs.Recording.{Recording, trace_of}
 use Rattle.sv8_bench.specs.Alike.{StaysAlike}
-use Rattle.sv8_bench.specs.declared.bench.affected.Affected.{Affected}
-use Rattle.sv8_bench.specs.declared.bench.affected.Affected.TheVariants.{Cells, Input}
-use Rattle.sv8_bench.specs.declared.fault.BenchFault.{BenchFault}
-use Rattle.sv8_bench.specs.declared.fault.BenchFault.TheVariants.{Time}
-use Rattle.sv8_bench.specs.Kept.{with_timeline}
+use Rattle.sv8_workbench.specs.declared.fault.BenchFault.{BenchFault}
+use Rattle.sv8_workbench.specs.declared.fault.BenchFault.TheVariants.{Time}
+use Rattle.sv8_workbench.specs.Kept.{with_timeline}
 use Rattle.sv8_bench.specs.Workbench.{Workbench, IsEdited}
 
 -- AN EDIT OF THE TIMELINE is made, or it is refused, for its fault or for want of memory, and the workbench is as it was. What stays recorded has the
@@ -29,18 +25,6 @@ pub record IsTimelineEdit {A : Type 0} (k : ℕ) (edit : TimelineEdit) (old new 
   pub refused : IfErr result (IsRefused (option_map Time (timeline_fault edit old.kept.timeline)))
   pub unchanged : OnErr result (new ≡ old)
   pub alike : StaysAlike k old new
-
--- ---- what is affected
-
--- the change of the run that it stands for
-abbrev pub change_of : (windows pages : ℕ) → Affected → RunChange windows pages
-change_of windows pages (Cells patches) = cells (changes_of windows pages patches.items)
-change_of windows pages (Input step) = input step
-
--- its patches are of cells of the machine
-abbrev pub AreOfMachine : ℕ → Affected → Type 0
-AreOfMachine pages (Cells patches) = All (IsPatch pages) patches.items
-AreOfMachine pages (Input step) = Unit {0}
 
 -- ---- what is prepared, for a change of a recorded run
 

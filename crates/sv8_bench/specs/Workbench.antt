@@ -13,7 +13,7 @@ use Rattle.sv8_trace.specs.Recorder.{counted_by, RaisedUpTo}
 use Rattle.sv8_trace.specs.Recording.{Recording, signs_of, trace_of}
 use Rattle.sv8_trace.specs.Signs.{signs_among}
 use Rattle.sv8_edits.specs.Changes.{RunChange, cells, input}
-use Rattle.sv8_bench.specs.Kept.{Kept, empty}
+use Rattle.sv8_workbench.specs.Kept.{Kept, empty}
 
 pub record Workbench : Type 0 where
   pub kept : Kept

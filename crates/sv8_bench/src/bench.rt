@@ -10,29 +10,28 @@ ghost use Rattle.sv8_edits.specs.Changes.{source_change};
 ghost use Rattle.sv8_cpu.specs.Work.{counted};
 ghost use Rattle.sv8_trace.specs.Recording.{recorded};
 ghost use Rattle.sv8_bench.specs.Alike.{StaysAlike};
-ghost use Rattle.sv8_bench.specs.Faults.{edit_refusal};
-ghost use Rattle.sv8_bench.specs.Kept.{edited};
+ghost use Rattle.sv8_workbench.specs.Faults.{edit_refusal};
+ghost use Rattle.sv8_workbench.specs.Kept.{edited};
 ghost use Rattle.sv8_bench.specs.Workbench.{IsRun, IsNew, IsEdited, IsSized};
 
 mod affected;
 mod copies;
 mod edits;
 mod intervals;
-mod patches;
 mod queries;
 
-use crate::bench::affected::{Affected, commit, prepare};
-use crate::bench::patches::image_patches;
+use crate::bench::affected::{commit, prepare};
 pub use crate::bench::queries::LAST_STEP;
-use crate::fault::{BenchFault, of_source};
 use std::alloc::{AllocError, Global};
 use std::marker::Model;
 use sv8_cpu::Work;
+use sv8_edits::{Affected, image_patches};
 use sv8_model::Refused;
 use sv8_reset::reset;
 use sv8_source::{DefinedName, Listed, Source};
 use sv8_time::Timeline;
 use sv8_trace::Trace;
+use sv8_workbench::{BenchFault, of_source};
 
 /// A workbench over a machine with `NW` register windows (2 to 32), `PAGES` pages of 4,096 bytes of RAM
 /// (1 to 65,536), and a checkpoint every `K` steps (1 to 1,000,000).

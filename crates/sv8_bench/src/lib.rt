@@ -2,12 +2,9 @@
 #![tactic(auto)]
 
 mod bench;
-mod fault;
-mod shown;
 
 pub use bench::{Bench, LAST_STEP};
-pub use fault::{BAD_ADDRESS, BenchFault, NO_SUCH_LINE, STEP_TOO_LARGE};
-pub use shown::Shown;
 pub use sv8_cpu::Mmu;
 pub use sv8_phys::Timer;
 pub use sv8_source::{DefinedName, Listed, NameKind};
+pub use sv8_workbench::{BAD_ADDRESS, BenchFault, NO_SUCH_LINE, STEP_TOO_LARGE, Shown};

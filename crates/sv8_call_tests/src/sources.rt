@@ -39,11 +39,6 @@ fn commits(alloc: Global, source: &mut Source, lines: &[Vec<u8>]) -> bool {
     }
 }
 
-/// Whether the image is read.
-fn reads_image(alloc: Global, source: &Source) -> bool {
-    source.image(alloc, 16).is_ok()
-}
-
 /// Whether lines in front are too many.
 fn has_no_room(alloc: Global, source: &Source, lines: &[Vec<u8>]) -> bool {
     match source.plan(alloc, 1, 0, lines) {
@@ -58,7 +53,6 @@ fn takes_edits(alloc: Global, source: &mut Source, text: &[Vec<u8>], line: &[Vec
         && replaces(alloc, source, 4, 3, line)
         && replaces(alloc, source, 2, 2, line)
         && commits(alloc, source, line)
-        && reads_image(alloc, source)
 }
 
 #[test]

@@ -7,3 +7,4 @@ pub mod Touching
 pub mod Trapping
 pub mod Work
 pub mod Whole
+pub mod Patches

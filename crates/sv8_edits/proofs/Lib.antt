@@ -6,6 +6,7 @@ pub mod EditedRequests
 pub mod EditedPokes
 pub mod EditedWords
 pub mod EditedImage
+pub mod ImageWords
 pub mod Standing
 pub mod Places
 pub mod EditedTimelines

@@ -107,21 +107,13 @@ fn lines(alloc: Global, texts: &[&[u8]]) -> Result<Vec<Vec<u8>>, AllocError> {
     Ok(lines)
 }
 
-/// Whether the image of a source has these words, by word and as bytes. The bytes are unknown where no memory is left for them.
-fn has_image(alloc: Global, source: &Source, due: [u32; 5]) -> bool {
+/// Whether the image of a source has these words.
+fn has_image(source: &Source, due: [u32; 5]) -> bool {
     let mut holds = true;
     for index in 0..5u32 {
         holds = holds && due.get(index as usize).copied() == Some(source.image_word(4 * index));
     }
-    let bytes = match source.image(alloc, 20) {
-        Ok(bytes) => Some(bytes),
-        Err(_) => source.image(alloc, 20).ok(),
-    };
     holds
-        && match bytes {
-            Some(bytes) => bytes.len() == 20 && bytes.get(3).copied() == Some((due[0] % 256) as u8),
-            None => false,
-        }
 }
 
 /// Whether lines become others, at the second try where memory was refused at the first; the source was then as before.
@@ -136,12 +128,11 @@ fn is_replaced(
     let replaced = match source.replace(alloc, range.0, range.1, lines) {
         Ok(_) => true,
         Err(Refused::OutOfMemory) => {
-            has_image(alloc, source, before)
-                && source.replace(alloc, range.0, range.1, lines).is_ok()
+            has_image(source, before) && source.replace(alloc, range.0, range.1, lines).is_ok()
         }
         Err(_) => false,
     };
-    replaced && has_image(alloc, source, after)
+    replaced && has_image(source, after)
 }
 
 /// Whether a plan changes nothing until it is committed, and then does.
@@ -150,11 +141,11 @@ fn is_planned(alloc: Global, source: &mut Source, lines: &[Vec<u8>]) -> bool {
         Ok(plan) => Some(plan),
         Err(_) => source.plan(alloc, 2, 2, lines).ok(),
     };
-    has_image(alloc, source, BEFORE)
+    has_image(source, BEFORE)
         && match planned {
             Some(plan) => {
                 source.commit(plan);
-                has_image(alloc, source, AFTER)
+                has_image(source, AFTER)
             }
             None => false,
         }
@@ -163,13 +154,13 @@ fn is_planned(alloc: Global, source: &mut Source, lines: &[Vec<u8>]) -> bool {
 /// Whether a copy has the same image, at the second try where memory was refused at the first.
 fn is_copied(alloc: Global, source: &Source, due: [u32; 5]) -> bool {
     let copied = match source.copy(alloc) {
-        Ok(copy) => has_image(alloc, &copy, due),
+        Ok(copy) => has_image(&copy, due),
         Err(_) => match source.copy(alloc) {
-            Ok(copy) => has_image(alloc, &copy, due),
+            Ok(copy) => has_image(&copy, due),
             Err(_) => false,
         },
     };
-    copied && has_image(alloc, source, due)
+    copied && has_image(source, due)
 }
 
 /// Whether names are `start` at 0 and `end`.

@@ -4,7 +4,7 @@
 ghost use Rattle.std.specs.Prelude.{◌≡◌, ◌<◌, ◌≤◌};
 ghost use Rattle.std.specs.List.{All};
 ghost use Rattle.sv8_time.specs.Schedule.{bytes_below};
-ghost use Rattle.sv8_trace.specs.Patch.{IsPatch};
+ghost use Rattle.sv8_cpu.specs.Patches.{IsPatch};
 ghost use Rattle.sv8_trace.specs.Recording.{last_point, recorded};
 
 use crate::recorded::{Point, Small, copied, fresh, lengthen, source_of};

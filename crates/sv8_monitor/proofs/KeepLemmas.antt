@@ -1,10 +1,10 @@
 -- Questions change nothing that is kept.
 use Rattle.std.proofs.Common.{◌≡◌, ℕ, Bool, List, Option, Some, None, Result, refl}
-use Rattle.sv8_bench.specs.declared.fault.BenchFault.{BenchFault}
-use Rattle.sv8_bench.specs.Kept.{Kept}
+use Rattle.sv8_workbench.specs.declared.fault.BenchFault.{BenchFault}
+use Rattle.sv8_workbench.specs.Kept.{Kept}
 use Rattle.sv8_commands.specs.declared.command.Query.TheVariants.{Listing, Regs, Mem, Out}
-use Rattle.sv8_shell.specs.Outcome.{told, unless_refused, Answers, due, lacking}
-use Rattle.sv8_shell.specs.Put.{Replies}
+use Rattle.sv8_answers.specs.Outcome.{told, unless_refused, Answers, due, lacking}
+use Rattle.sv8_answers.specs.Put.{Replies}
 use Rattle.sv8_monitor.specs.declared.question.Query.{Query}
 use Rattle.sv8_monitor.specs.declared.question.Query.TheVariants.{Workbench, Steps, Windows, Where, Lines, Names, Events}
 use Rattle.sv8_monitor.specs.Answers.{query_outcome}

@@ -4,8 +4,8 @@ use Rattle.std.proofs.lemmas.Bool.{false≢true}
 use Rattle.sv8_session.specs.Language.{takes_lines}
 use Rattle.sv8_session.specs.Put.{Replies}
 use Rattle.sv8_commands.specs.Order as workbench_order
-use Rattle.sv8_shell.specs.Put as outcomes
-use Rattle.sv8_shell.specs.Session as workbench
+use Rattle.sv8_answers.specs.Put as outcomes
+use Rattle.sv8_answers.specs.Session as workbench
 use Rattle.sv8_monitor.specs.declared.question.Question.{Question}
 use Rattle.sv8_monitor.specs.declared.question.Question.TheVariants.{Differ}
 use Rattle.sv8_monitor.specs.Answers.{differ_outcome}

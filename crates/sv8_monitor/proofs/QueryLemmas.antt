@@ -3,7 +3,7 @@ use Rattle.std.proofs.Common.{◌≡◌, ℕ, ◌+◌, ◌-◌, ◌<◌, ◌≤�
 use Rattle.sv8_time.specs.Schedule.{Schedule}
 use Rattle.sv8_source.specs.Listing.{ListedLine}
 use Rattle.sv8_commands.specs.Text.{numbered_text}
-use Rattle.sv8_shell.specs.Text.{listing_line}
+use Rattle.sv8_answers.specs.Text.{listing_line}
 use Rattle.sv8_monitor.specs.Events.{events_text}
 
 -- ---- events

@@ -6,10 +6,10 @@ use Rattle.sv8_session.specs.declared.begun.Begun.TheVariants.{Nothing, Bad, Tak
 use Rattle.sv8_session.specs.Script as script
 use Rattle.sv8_session.specs.Script.{Stage, idle, taking, over, Step, step, step_of_begun, step_of_line, step_of_more, step_of_taking, orders_from, stage_from, orders_at_end, all_lines, text_of}
 use Rattle.sv8_session.specs.Session.{none, more}
-use Rattle.sv8_bench.specs.Kept.{Kept}
+use Rattle.sv8_workbench.specs.Kept.{Kept}
 use Rattle.sv8_commands.specs.Words.{words_of}
 use Rattle.sv8_commands.specs.Order as workbench_order
-use Rattle.sv8_shell.specs.Session as workbench
+use Rattle.sv8_answers.specs.Session as workbench
 use Rattle.sv8_monitor.specs.Questions.{question_of}
 use Rattle.sv8_monitor.specs.Session.{Both, Order, shell, begins, order, language, Session}
 use Rattle.sv8_monitor.specs.Laws.{AsksNothing, NoneAsks, AreAnsweredAlike}

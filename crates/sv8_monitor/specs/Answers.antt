@@ -4,15 +4,15 @@ use Rattle.sv8_mmu.specs.Place.{place_of}
 use Rattle.sv8_source.specs.Listing.{listing}
 use Rattle.sv8_source.specs.Names.{names}
 use Rattle.sv8_source.specs.declared.fault.SourceFault.TheVariants.{NoSuchLine}
-use Rattle.sv8_bench.specs.declared.fault.BenchFault.{BenchFault}
-use Rattle.sv8_bench.specs.declared.fault.BenchFault.TheVariants.{Source}
-use Rattle.sv8_bench.specs.Faults.{step_refusal}
-use Rattle.sv8_bench.specs.Kept.{Kept}
-use Rattle.sv8_bench.specs.Shown.{machine_state}
-use Rattle.sv8_shell.specs.Outcome.{Outcome, told, unless_refused}
+use Rattle.sv8_workbench.specs.declared.fault.BenchFault.{BenchFault}
+use Rattle.sv8_workbench.specs.declared.fault.BenchFault.TheVariants.{Source}
+use Rattle.sv8_workbench.specs.Faults.{step_refusal}
+use Rattle.sv8_workbench.specs.Kept.{Kept}
+use Rattle.sv8_workbench.specs.Shown.{machine_state}
+use Rattle.sv8_answers.specs.Outcome.{Outcome, told, unless_refused}
 use Rattle.sv8_commands.specs.Text.{numbered_text}
-use Rattle.sv8_shell.specs.Commands as shell
-use Rattle.sv8_shell.specs.Text.{listing_line}
+use Rattle.sv8_answers.specs.Commands as shell
+use Rattle.sv8_answers.specs.Text.{listing_line}
 use Rattle.sv8_monitor.specs.declared.question.Query.{Query}
 use Rattle.sv8_monitor.specs.declared.question.Query.TheVariants.{Workbench, Steps, Windows, Where, Lines, Names, Events}
 use Rattle.sv8_search.specs.Search.{found_at, steps_refusal, steps_told}

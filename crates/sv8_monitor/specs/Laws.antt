@@ -3,8 +3,8 @@ use Rattle.std.specs.Prelude.{◌≡◌, ◌↔◌, ℕ, List, [], ◌∷◌, ma
 use Rattle.sv8_session.specs.Script.{Stage, idle, taking, over, step, all_lines, text_of}
 use Rattle.sv8_commands.specs.Words.{words_of}
 use Rattle.sv8_commands.specs.Order as workbench_order
-use Rattle.sv8_shell.specs.Session as workbench
-use Rattle.sv8_shell.specs.Script as workbench_script
+use Rattle.sv8_answers.specs.Session as workbench
+use Rattle.sv8_answers.specs.Script as workbench_script
 use Rattle.sv8_monitor.specs.Questions.{question_of}
 use Rattle.sv8_monitor.specs.Session.{Both, Order, shell, Session, orders_in, orders_of}
 

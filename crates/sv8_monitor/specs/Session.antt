@@ -3,10 +3,10 @@ use Rattle.std.specs.Prelude.{◌≡◌, ◌⊎◌, ℕ, List, ◌++◌, Option,
 use Rattle.sv8_model.specs.declared.refused.Refused.{Refused}
 use Rattle.sv8_model.specs.declared.refused.Refused.TheVariants.{OutOfMemory}
 use Rattle.sv8_model.specs.Refused.{IsRefused}
-use Rattle.sv8_bench.specs.declared.fault.BenchFault.{BenchFault}
-use Rattle.sv8_shell.specs.Refusal.{refusal_of}
+use Rattle.sv8_workbench.specs.declared.fault.BenchFault.{BenchFault}
+use Rattle.sv8_answers.specs.Refusal.{refusal_of}
 use Rattle.sv8_commands.specs.Text.{ok_line, refusal_line}
-use Rattle.sv8_bench.specs.Kept.{Kept, empty}
+use Rattle.sv8_workbench.specs.Kept.{Kept, empty}
 use Rattle.sv8_session.specs.declared.begun.Begun.{Begun}
 use Rattle.sv8_session.specs.declared.begun.Begun.TheVariants.{Takes}
 use Rattle.sv8_session.specs.Language.{Language}
@@ -15,8 +15,8 @@ use Rattle.sv8_session.specs.Run as session_run
 use Rattle.sv8_session.specs.Script as script
 use Rattle.sv8_commands.specs.Words.{words_of}
 use Rattle.sv8_commands.specs.Order as shell_order
-use Rattle.sv8_shell.specs.Outcome.{Outcome, Answers}
-use Rattle.sv8_shell.specs.Session as shell_session
+use Rattle.sv8_answers.specs.Outcome.{Outcome, Answers}
+use Rattle.sv8_answers.specs.Session as shell_session
 use Rattle.sv8_monitor.specs.declared.question.Question.{Question}
 use Rattle.sv8_monitor.specs.declared.question.Question.TheVariants.{Now, Before, Keep, Part, Differ}
 use Rattle.sv8_monitor.specs.Questions.{question_of}

@@ -3,7 +3,7 @@
 ghost use Rattle.std.specs.Prelude.{◌≡◌, ◌+◌, ◌-◌, ◌<◌, ◌≤◌, ◌++◌, map, true};
 ghost use Rattle.sv8_source.specs.View.{named_of};
 ghost use Rattle.sv8_session.specs.Put.{Puts};
-ghost use Rattle.sv8_shell.specs.Put.{Replies};
+ghost use Rattle.sv8_answers.specs.Put.{Replies};
 ghost use Rattle.sv8_commands.specs.Text.{ok_line};
 ghost use Rattle.sv8_monitor.specs.Answers.{are_lines, lines_told, query_outcome};
 ghost use Rattle.sv8_monitor.specs.Events.{events_text};
@@ -17,6 +17,7 @@ use crate::piece::tell_pieces;
 use crate::question::Query;
 use crate::window_lines::put_windows;
 use std::io::Write;
+use sv8_answers::refusal_of;
 use sv8_bench::{Bench, DefinedName, LAST_STEP, NO_SUCH_LINE, STEP_TOO_LARGE};
 use sv8_commands::put::{WriteFault, accept, done, refuse};
 use sv8_commands::text::Text;
@@ -25,7 +26,6 @@ use sv8_model::Refused;
 use sv8_regs::Regs;
 use sv8_search::steps;
 use sv8_shell::listing::add_lines;
-use sv8_shell::refusal::refusal_of;
 use sv8_time::Timeline;
 
 /// Answers a question of a workbench.

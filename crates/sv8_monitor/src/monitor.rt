@@ -5,8 +5,8 @@ ghost use Rattle.sv8_session.specs.Gathers.{texts};
 ghost use Rattle.sv8_session.specs.Put.{Puts, Replies};
 ghost use Rattle.sv8_trace.specs.Recording.{recorded};
 ghost use Rattle.sv8_bench.specs.Alike.{AreAlikeUpTo};
-ghost use Rattle.sv8_shell.specs.Put as outcomes;
-ghost use Rattle.sv8_shell.specs.Session as workbench;
+ghost use Rattle.sv8_answers.specs.Put as outcomes;
+ghost use Rattle.sv8_answers.specs.Session as workbench;
 ghost use Rattle.sv8_commands.specs.Text.{ok_line};
 ghost use Rattle.sv8_monitor.specs.Answers.{differ_outcome};
 ghost use Rattle.sv8_monitor.specs.Session.{Both, Order, ask, kept_of, language, new_pair, shell};
@@ -20,13 +20,13 @@ use crate::question::{Question, parse_question};
 use std::alloc::{AllocError, Global};
 use std::io::Write;
 use std::marker::Model;
+use sv8_answers::refusal_of;
 use sv8_bench::{Bench, LAST_STEP};
 use sv8_commands::put::{WriteFault, accept, done, refuse};
 use sv8_commands::text::Text;
 use sv8_model::Refused;
 use sv8_search::{differ, part};
 use sv8_session::{Begun, Commands};
-use sv8_shell::refusal::refusal_of;
 use sv8_shell::{Effect, Shell, answer_line};
 
 /// A workbench that is edited, and the one that was kept of it.

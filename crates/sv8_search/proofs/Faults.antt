@@ -5,9 +5,9 @@ use Rattle.sv8_model.specs.declared.refused.Refused.{Refused}
 use Rattle.sv8_model.specs.declared.refused.Refused.TheVariants.{OutOfMemory, By}
 use Rattle.sv8_model.specs.Refused.{IsRefused}
 use Rattle.sv8_time.specs.declared.fault.TimeFault.TheVariants.{StepTooLarge}
-use Rattle.sv8_bench.specs.declared.fault.BenchFault.{BenchFault}
-use Rattle.sv8_bench.specs.declared.fault.BenchFault.TheVariants.{Time}
-use Rattle.sv8_bench.specs.Faults.{step_refusal}
+use Rattle.sv8_workbench.specs.declared.fault.BenchFault.{BenchFault}
+use Rattle.sv8_workbench.specs.declared.fault.BenchFault.TheVariants.{Time}
+use Rattle.sv8_workbench.specs.Faults.{step_refusal}
 use Rattle.sv8_search.specs.Comparing.{range_refusal}
 
 pub range-right : (from to : ℕ) → from ≤ 1000000 → to ≤ 1000000 → range_refusal from to ≡ None

@@ -6,8 +6,8 @@ use Rattle.sv8_trap.specs.Processor.{Processor}
 use Rattle.sv8_cpu.specs.State.{State}
 use Rattle.sv8_cpu.specs.Sameness.{IsSameProcessor}
 use Rattle.sv8_bench.specs.Alike.{AreAlikeUpTo}
-use Rattle.sv8_bench.specs.Kept.{Kept}
-use Rattle.sv8_bench.specs.Shown.{machine_state}
+use Rattle.sv8_workbench.specs.Kept.{Kept}
+use Rattle.sv8_workbench.specs.Shown.{machine_state}
 use Rattle.sv8_walks.specs.Walks.{state_in}
 use Rattle.sv8_bench.specs.Workbench.{Workbench}
 use Rattle.sv8_search.specs.declared.compare.Both.{Both}

@@ -11,8 +11,8 @@ use Rattle.sv8_watch.specs.declared.span.Span.{Span}
 use Rattle.sv8_watch.specs.Conditions.{meets, meets_any}
 use Rattle.sv8_watch.specs.Touching.{some_bytes, word_span, span_of, kind_of}
 use Rattle.sv8_watch.proofs.Sparing.{spared_steps_miss, spared_pcs_miss}
-use Rattle.sv8_bench.specs.Kept.{Kept}
-use Rattle.sv8_bench.specs.Shown.{machine_state}
+use Rattle.sv8_workbench.specs.Kept.{Kept}
+use Rattle.sv8_workbench.specs.Shown.{machine_state}
 use Rattle.sv8_search.specs.Touching.{IsUntouched, IsUnreached}
 use Rattle.sv8_bench.specs.Workbench.{Workbench}
 use Rattle.sv8_search.specs.Search.{is_inside, is_wanted, rising}

@@ -1,6 +1,6 @@
 -- Steps of a rising search that are passed over: none of them is wanted, so what is left to tell is what was left before them.
 use Rattle.std.proofs.Common.{◌≡◌, ◌∙◌, ℕ, zero, suc, ◌+◌, ◌-◌, ◌<◌, ◌≤◌, Bool, false, List, ◌++◌, map, refl, sym, ap, subst, arith}
-use Rattle.sv8_bench.specs.Kept.{Kept}
+use Rattle.sv8_workbench.specs.Kept.{Kept}
 use Rattle.sv8_watch.specs.declared.condition.Condition.{Condition}
 use Rattle.sv8_search.specs.declared.found.Found.{Found}
 use Rattle.sv8_search.specs.Search.{found_at, is_wanted, rising, looked_to}

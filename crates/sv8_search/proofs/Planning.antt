@@ -4,8 +4,8 @@ use Rattle.std.proofs.Math.Nat.{suc-mod, mod_self, mod-eq_of_lt}
 use Rattle.std.proofs.lemmas.Bool.{or_parts, MatchBool-at_false}
 use Rattle.sv8_phys.specs.Memory.{ram_size}
 use Rattle.sv8_notes.specs.Flags.{IsFlagged, IsFlaggedUnless}
-use Rattle.sv8_bench.specs.Kept.{Kept}
-use Rattle.sv8_bench.specs.Shown.{machine_state}
+use Rattle.sv8_workbench.specs.Kept.{Kept}
+use Rattle.sv8_workbench.specs.Shown.{machine_state}
 use Rattle.sv8_search.specs.Touching.{IsUntouched, IsUnreached}
 use Rattle.sv8_bench.specs.Workbench.{Workbench, checkpoints}
 use Rattle.sv8_watch.specs.declared.condition.Condition.{Condition}

@@ -9,8 +9,8 @@ use Rattle.sv8_time.specs.Schedule.{Schedule}
 use Rattle.sv8_cpu.specs.State.{State}
 use Rattle.sv8_cpu.specs.Run.{step, steps, footprint, observed}
 use Rattle.sv8_history.specs.Growing.{restored}
-use Rattle.sv8_bench.specs.Kept.{Kept}
-use Rattle.sv8_bench.specs.Shown.{machine_state}
+use Rattle.sv8_workbench.specs.Kept.{Kept}
+use Rattle.sv8_workbench.specs.Shown.{machine_state}
 use Rattle.sv8_walks.specs.Made.{IsMade}
 use Rattle.sv8_walks.specs.Walks.{IsWalk, state_in}
 use Rattle.sv8_walks.specs.declared.walk.Walk.{Walk}

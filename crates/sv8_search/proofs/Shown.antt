@@ -15,8 +15,8 @@ use Rattle.sv8_watch.specs.Conditions.{meets}
 use Rattle.sv8_watch.specs.Quiet.{TakesNoTrap}
 use Rattle.sv8_watch.proofs.Running.{running_steps_miss}
 use Rattle.sv8_watch.proofs.Quiet.{trapless_steps_miss, other_types_miss, quiet_steps_miss}
-use Rattle.sv8_bench.specs.Kept.{Kept}
-use Rattle.sv8_bench.specs.Shown.{machine_state}
+use Rattle.sv8_workbench.specs.Kept.{Kept}
+use Rattle.sv8_workbench.specs.Shown.{machine_state}
 use Rattle.sv8_search.specs.Touching.{ShowsNone}
 use Rattle.sv8_bench.specs.Workbench.{Workbench}
 use Rattle.sv8_search.specs.Search.{MeetsNone, meets_at}

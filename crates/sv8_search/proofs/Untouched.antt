@@ -24,7 +24,7 @@ use Rattle.sv8_evidence.specs.Signs.{has_sign, shows}
 use Rattle.sv8_evidence.specs.declared.signs.Sign.{Sign}
 use Rattle.sv8_evidence.specs.declared.signs.Sign.TheVariants as sign
 use Rattle.sv8_evidence.proofs.Common.{each_shows_none}
-use Rattle.sv8_bench.specs.Shown.{machine_state}
+use Rattle.sv8_workbench.specs.Shown.{machine_state}
 use Rattle.sv8_bench.specs.Workbench.{Workbench, run_of_kept, IsRun}
 use Rattle.sv8_search.specs.Touching.{NonePokes, pokes_at, IsUntouched, IsUnreached, ShowsNone}
 

@@ -5,10 +5,10 @@ use Rattle.sv8_regs.specs.Current.{other_windows}
 use Rattle.sv8_cpu.specs.Sameness.{IsSameProcessor}
 use Rattle.sv8_cpu.specs.State.{State}
 use Rattle.sv8_time.specs.declared.fault.TimeFault.TheVariants.{StepTooLarge}
-use Rattle.sv8_bench.specs.declared.fault.BenchFault.{BenchFault}
-use Rattle.sv8_bench.specs.declared.fault.BenchFault.TheVariants.{Time}
-use Rattle.sv8_bench.specs.Kept.{Kept}
-use Rattle.sv8_bench.specs.Shown.{machine_state}
+use Rattle.sv8_workbench.specs.declared.fault.BenchFault.{BenchFault}
+use Rattle.sv8_workbench.specs.declared.fault.BenchFault.TheVariants.{Time}
+use Rattle.sv8_workbench.specs.Kept.{Kept}
+use Rattle.sv8_workbench.specs.Shown.{machine_state}
 use Rattle.sv8_walks.specs.Walks.{IsWalk}
 use Rattle.sv8_bench.specs.Workbench.{Workbench}
 use Rattle.sv8_search.specs.declared.compare.Both.{Both}

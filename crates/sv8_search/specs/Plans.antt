@@ -1,7 +1,7 @@
 -- Which steps a search has to look at, by flags of steps that follow one another.
 use Rattle.std.specs.Prelude.{◌≡◌, ℕ, ◌+◌, ◌/◌, ◌<◌, ◌≤◌, Bool, false, List, length, slice_index_or}
 use Rattle.std.specs.List.{list_any}
-use Rattle.sv8_bench.specs.Kept.{Kept}
+use Rattle.sv8_workbench.specs.Kept.{Kept}
 use Rattle.sv8_bench.specs.Workbench.{Workbench, checkpoints}
 use Rattle.sv8_watch.specs.declared.condition.Condition.{Condition}
 use Rattle.sv8_search.specs.Search.{is_wanted, meets_at}

@@ -7,11 +7,11 @@ use Rattle.sv8_cpu.specs.Work.{counted}
 use Rattle.sv8_history.specs.Growing.{restored}
 use Rattle.sv8_trace.specs.Recorder.{counted_by, RaisedUpTo}
 use Rattle.sv8_time.specs.declared.fault.TimeFault.TheVariants.{BadAddress}
-use Rattle.sv8_bench.specs.declared.fault.BenchFault.{BenchFault}
-use Rattle.sv8_bench.specs.declared.fault.BenchFault.TheVariants.{Time}
-use Rattle.sv8_bench.specs.Faults.{step_refusal}
-use Rattle.sv8_bench.specs.Kept.{Kept}
-use Rattle.sv8_bench.specs.Shown.{machine_state}
+use Rattle.sv8_workbench.specs.declared.fault.BenchFault.{BenchFault}
+use Rattle.sv8_workbench.specs.declared.fault.BenchFault.TheVariants.{Time}
+use Rattle.sv8_workbench.specs.Faults.{step_refusal}
+use Rattle.sv8_workbench.specs.Kept.{Kept}
+use Rattle.sv8_workbench.specs.Shown.{machine_state}
 use Rattle.sv8_bench.specs.Workbench.{Workbench, checkpoints}
 use Rattle.sv8_watch.specs.declared.condition.Condition.{Condition}
 use Rattle.sv8_watch.specs.declared.condition.Condition.TheVariants.{Pc, Load, Store, Touch, Change, Trap, TrapType, Error, Input, Output, Event, Every}

@@ -7,7 +7,7 @@ use Rattle.sv8_cpu.specs.Touching.{IsUntranslated, SparesBytes, pokes_any}
 use Rattle.sv8_evidence.specs.declared.signs.Sign.{Sign}
 use Rattle.sv8_trace.specs.Recording.{recorded}
 use Rattle.sv8_evidence.specs.Signs.{shows}
-use Rattle.sv8_bench.specs.Shown.{machine_state}
+use Rattle.sv8_workbench.specs.Shown.{machine_state}
 use Rattle.sv8_bench.specs.Workbench.{Workbench}
 
 -- the events of a step poke one of so many bytes from an address on

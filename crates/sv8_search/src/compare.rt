@@ -4,7 +4,7 @@ ghost use Rattle.std.specs.Prelude.{◌≡◌, MatchBool, true, ℕ, ◌+◌, �
 ghost use Rattle.sv8_model.specs.Refused.{IsRefused};
 ghost use Rattle.sv8_phys.specs.Memory.{ram_size};
 ghost use Rattle.sv8_bench.specs.Alike.{AreAlikeUpTo};
-ghost use Rattle.sv8_bench.specs.Shown.{machine_state};
+ghost use Rattle.sv8_workbench.specs.Shown.{machine_state};
 ghost use Rattle.sv8_bench.specs.Workbench.{checkpoints, IsAnswered, IsGivenUp};
 ghost use Rattle.sv8_cpu.specs.Sameness.{IsSameProcessor};
 ghost use Rattle.sv8_walks.specs.Walks.{state_in};

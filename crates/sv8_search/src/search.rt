@@ -10,7 +10,7 @@ ghost use Rattle.sv8_watch.specs.declared.condition.Condition.TheVariants as con
 ghost use Rattle.sv8_watch.specs.Conditions.{is_met, meets, meets_any};
 ghost use Rattle.sv8_watch.specs.Happening.{happened};
 ghost use Rattle.sv8_watch.specs.Watched.{IsBefore, IsStepFrom, happening_of};
-ghost use Rattle.sv8_bench.specs.Shown.{machine_state};
+ghost use Rattle.sv8_workbench.specs.Shown.{machine_state};
 ghost use Rattle.sv8_walks.specs.Made.{IsMade};
 ghost use Rattle.sv8_walks.specs.Walks.{IsWalk};
 ghost use Rattle.sv8_search.specs.Plans.{IsPlan};

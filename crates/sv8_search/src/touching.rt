@@ -9,7 +9,7 @@ ghost use Rattle.sv8_trace.specs.Recording.{recorded};
 ghost use Rattle.sv8_evidence.specs.Showing.{NoneShows};
 ghost use Rattle.sv8_notes.specs.Flags.{IsFlagged, IsFlaggedUnless};
 ghost use Rattle.sv8_evidence.specs.declared.signs.Sign.TheVariants as sign;
-ghost use Rattle.sv8_bench.specs.Shown.{machine_state};
+ghost use Rattle.sv8_workbench.specs.Shown.{machine_state};
 ghost use Rattle.sv8_search.specs.Touching.{NonePokes, pokes_at, IsUntouched, IsUnreached, ShowsNone};
 
 use sv8_bench::Bench;

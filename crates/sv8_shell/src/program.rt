@@ -16,9 +16,9 @@ pub struct Sparc8;
 
 impl Program for Sparc8 {
     ghost use Rattle.std.specs.Prelude.{codes};
-    ghost use Rattle.sv8_bench.specs.Kept.{Kept, empty};
+    ghost use Rattle.sv8_workbench.specs.Kept.{Kept, empty};
     ghost use Rattle.sv8_commands.specs.Order.{Order};
-    ghost use Rattle.sv8_shell.specs.Session.{language};
+    ghost use Rattle.sv8_answers.specs.Session.{language};
 
     ghost Kept = { Kept };
 

@@ -1,7 +1,6 @@
 //! What the two passes make of a text, and what is read in it.
 
-ghost use Rattle.std.specs.Prelude.{◌≡◌, ℕ, ◌+◌, ◌^◌, ◌≤◌, ◌<◌, [], ◌∷◌, ◌++◌, length, map, IfSome, IfOk, OnOk, option_map};
-ghost use Rattle.std.specs.List.{range_with_len};
+ghost use Rattle.std.specs.Prelude.{◌≡◌, ℕ, ◌+◌, ◌^◌, ◌≤◌, ◌<◌, [], ◌∷◌, ◌++◌, length, IfSome, IfOk, OnOk, option_map};
 ghost use Rattle.sv8_source.specs.Edits.{Sound, with_line_between};
 ghost use Rattle.sv8_source.specs.Kept.{table, code_bytes};
 ghost use Rattle.sv8_source.specs.Layout.{start};
@@ -9,7 +8,6 @@ ghost use Rattle.sv8_source.specs.Listing.{shown, shown_all, numbered};
 ghost use Rattle.sv8_source.specs.View.{shown_of};
 ghost use Rattle.sv8_source.specs.Image.{byte_at, word_at};
 
-use crate::contents::contents;
 use crate::laid::Placed;
 use crate::places::{byte_in, bytes_at, bytes_in, lines_near, place_at, place_in, start_of};
 use crate::source::Listed;
@@ -316,13 +314,5 @@ impl Assembled {
         }
         let next = start_of(places, count);
         next
-    }
-
-    /// The first bytes of the image, so many.
-    pub fn image(&self, alloc: Global, size: usize) -> Result<Vec<u8>, AllocError>
-        ensures { IfOk result (λ v. v.items ≡ map (byte_at (shown self.now.layout.places self.now.code)) (range_with_len 0 size)) }
-    {
-        let bytes = contents(alloc, &self.places, &self.code, size)?;
-        Ok(bytes)
     }
 }

@@ -6,7 +6,7 @@ ghost use Rattle.sv8_source.specs.Text.{texts, replaced, is_range, edit_fault, f
 ghost use Rattle.sv8_source.specs.Listing.{listing, numbered};
 ghost use Rattle.sv8_source.specs.Names.{names};
 ghost use Rattle.sv8_source.specs.View.{shown_of, named_of};
-ghost use Rattle.sv8_source.specs.Image.{image_word, image_bytes, changes};
+ghost use Rattle.sv8_source.specs.Image.{image_word, changes};
 
 use crate::assembled::Assembled;
 use crate::changes::changes_between;
@@ -266,20 +266,6 @@ impl Source {
         ensures { option_map shown_of result ≡ numbered (listing self.now) number }
     {
         self.parts.line(number)
-    }
-
-    /// The first `size` bytes of the image, as memory holds them before a program runs. Where no line places a byte it
-    /// is 0, also at and above the limit.
-    ///
-    /// # Errors
-    ///
-    /// Want of memory.
-    #[tactic(auto, unfolding(crate::specs::Listing::listing, crate::specs::Image::image_byte))]
-    pub fn image(&self, alloc: Global, size: usize) -> Result<Vec<u8>, AllocError>
-        ensures { IfOk result (λ v. v.items ≡ image_bytes self.now size) }
-    {
-        let bytes = self.parts.image(alloc, size)?;
-        Ok(bytes)
     }
 
     /// The four bytes of the image from an address on, the first the most significant. Where no line places a byte it is

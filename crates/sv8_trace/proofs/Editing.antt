@@ -13,8 +13,9 @@ use Rattle.sv8_notes.specs.Steps.{has_word}
 use Rattle.sv8_notes.specs.declared.cell.Cell as code
 use Rattle.sv8_notes.specs.declared.cell.Cell.TheVariants as cell
 use Rattle.sv8_cpu.specs.Recorded.{machine}
-use Rattle.sv8_trace.specs.declared.patch.Patch.{Patch}
-use Rattle.sv8_trace.specs.Patch.{change_of, changes_of, AreOfOneWord, AreReadAlike, BeginAlike}
+use Rattle.sv8_notes.specs.declared.patch.Patch.{Patch}
+use Rattle.sv8_cpu.specs.Patches.{change_of, changes_of}
+use Rattle.sv8_trace.specs.Patch.{AreOfOneWord, AreReadAlike, BeginAlike}
 use Rattle.sv8_trace.specs.Recording.{Recording, no_interval, trace_of}
 use Rattle.sv8_trace.specs.Prepared.{Near}
 

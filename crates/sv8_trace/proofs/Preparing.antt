@@ -17,8 +17,8 @@ use Rattle.sv8_cpu.specs.State.{State}
 use Rattle.sv8_cpu.specs.Recorded.{machine, put}
 use Rattle.sv8_trace.specs.declared.prepared.Staged.{Staged}
 use Rattle.sv8_trace.specs.declared.interval.Interval.{Interval}
-use Rattle.sv8_trace.specs.declared.patch.Patch.{Patch}
-use Rattle.sv8_trace.specs.Patch.{change_of, changes_of}
+use Rattle.sv8_notes.specs.declared.patch.Patch.{Patch}
+use Rattle.sv8_cpu.specs.Patches.{change_of, changes_of}
 use Rattle.sv8_trace.specs.Recording.{Recording, blank, no_interval, trace_of}
 use Rattle.sv8_trace.specs.Columns.{AreFull, IsWhole, item, put_from, placed_pages, placed_levels}
 use Rattle.sv8_trace.specs.Prepared.{placed, list_at, prepared_trace, IsPreparedFor, Near}

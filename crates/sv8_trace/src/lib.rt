@@ -6,7 +6,6 @@
 mod checkpoint;
 mod finished;
 mod interval;
-mod patch;
 mod points;
 mod prepared;
 mod recorder;
@@ -15,9 +14,8 @@ mod trace;
 
 pub use checkpoint::Checkpoint;
 pub use interval::Interval;
-pub use patch::{Cause, Patch};
 pub use prepared::Prepared;
 pub use recorder::record_watched;
 pub use signs::{Signs, TrapNote};
-pub use sv8_notes::{Cell, Content};
-pub use trace::{NO_END, Trace};
+pub use sv8_notes::{Cause, Cell, Content, NO_END, Patch};
+pub use trace::Trace;

@@ -26,9 +26,6 @@ use sv8_cpu::{Machine, Work};
 use sv8_notes::{Marks, StepNotes};
 use sv8_time::Timeline;
 
-/// In place of a step: there is no end.
-pub const NO_END: u32 = u32::MAX;
-
 /// The recorded run of a machine with `NW` register windows (2 to 32) and `PAGES` pages of RAM (1 to 65,536): a checkpoint of every
 /// `K`th step (1 to 1,000,000) from step 0 on, and of the steps between what each touched.
 pub struct Trace<const NW: usize, const PAGES: usize, const K: u32> {

@@ -6,8 +6,8 @@ use Rattle.sv8_cpu.specs.State.{State}
 use Rattle.sv8_cpu.specs.Run.{step}
 use Rattle.sv8_cpu.specs.Sameness.{IsSameProcessor}
 use Rattle.sv8_trace.specs.Recorder.{counted_by}
-use Rattle.sv8_bench.specs.Kept.{Kept}
-use Rattle.sv8_bench.specs.Shown.{machine_state}
+use Rattle.sv8_workbench.specs.Kept.{Kept}
+use Rattle.sv8_workbench.specs.Shown.{machine_state}
 use Rattle.sv8_bench.proofs.Queried.{full}
 use Rattle.sv8_walks.proofs.Made.{state_fed, state_next}
 use Rattle.sv8_walks.specs.Together.{AreAlikeBetween, AreInLockstep}

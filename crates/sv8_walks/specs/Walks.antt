@@ -3,7 +3,7 @@ use Rattle.std.specs.Prelude.{◌≡◌, ℕ, ◌+◌, ◌<◌, ◌≤◌, ◌�
 use Rattle.sv8_cpu.specs.State.{State}
 use Rattle.sv8_walks.specs.Drafts.{IsDraft}
 use Rattle.sv8_trace.specs.Recording.{recorded}
-use Rattle.sv8_bench.specs.Shown.{machine_state}
+use Rattle.sv8_workbench.specs.Shown.{machine_state}
 use Rattle.sv8_walks.specs.Made.{HasRoom}
 use Rattle.sv8_bench.specs.Workbench.{Workbench}
 use Rattle.sv8_walks.specs.declared.walk.Place.{Place}

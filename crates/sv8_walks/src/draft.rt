@@ -4,7 +4,7 @@ ghost use Rattle.std.specs.Prelude.{◌≡◌, ◌+◌, ◌<◌, ◌≤◌, OnOk
 ghost use Rattle.sv8_cpu.specs.Run.{footprint, observed};
 ghost use Rattle.sv8_trace.specs.Recorder.{steps_on, IsRecorded};
 ghost use Rattle.sv8_trace.specs.Recording.{last_point, no_interval, recorded};
-ghost use Rattle.sv8_bench.specs.Shown.{machine_state};
+ghost use Rattle.sv8_workbench.specs.Shown.{machine_state};
 ghost use Rattle.sv8_bench.specs.Workbench.{checkpoints};
 ghost use Rattle.sv8_walks.specs.Drafts.{Drafted, IsDraft};
 ghost use Rattle.sv8_walks.specs.Made.{HasRoom, IsMade, IsUnmade};

@@ -5,7 +5,7 @@ ghost use Rattle.sv8_cpu.specs.Run.{footprint, observed};
 ghost use Rattle.sv8_trace.specs.Recorder.{counted_by, RaisedUpTo};
 ghost use Rattle.sv8_trace.specs.Recording.{recorded};
 ghost use Rattle.sv8_walks.specs.Made.{IsMade, IsUnmade};
-ghost use Rattle.sv8_bench.specs.Shown.{machine_state};
+ghost use Rattle.sv8_workbench.specs.Shown.{machine_state};
 ghost use Rattle.sv8_bench.specs.Workbench.{checkpoints, IsAnswered, IsGivenUp};
 ghost use Rattle.sv8_walks.specs.Walks.{state_in, IsReady, IsWalk};
 

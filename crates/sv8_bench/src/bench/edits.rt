@@ -5,10 +5,11 @@ ghost use Rattle.sv8_time.specs.declared.edit.TimelineEdit.TheVariants.{SetPoke,
 ghost use Rattle.sv8_bench.specs.Edits.{IsTimelineEdit};
 
 use crate::bench::Bench;
-use crate::bench::affected::{affected_by, commit, prepare};
-use crate::fault::{BenchFault, of_time};
+use crate::bench::affected::{commit, prepare};
+use sv8_edits::affected_by;
 use sv8_model::Refused;
 use sv8_time::{InputBytes, TimelineEdit};
+use sv8_workbench::{BenchFault, of_time};
 
 impl<const NW: usize, const PAGES: usize, const K: u32> Bench<NW, PAGES, K> {
     /// Makes an edit of the timeline. All that takes memory is built before anything is changed.

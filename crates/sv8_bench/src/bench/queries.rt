@@ -8,19 +8,18 @@ ghost use Rattle.sv8_cpu.specs.State.{State};
 ghost use Rattle.sv8_cpu.specs.Recorded.{event_at, AreEvents};
 ghost use Rattle.sv8_trace.specs.Recorder.{steps_on, counted_by, RaisedUpTo};
 ghost use Rattle.sv8_trace.specs.Recording.{last_point, recorded};
-ghost use Rattle.sv8_bench.specs.Faults.{are_words, step_refusal, words_refusal};
-ghost use Rattle.sv8_bench.specs.Shown.{machine_state, shown_at, words_in, words_shown, output_shown};
+ghost use Rattle.sv8_workbench.specs.Faults.{are_words, step_refusal, words_refusal};
+ghost use Rattle.sv8_workbench.specs.Shown.{machine_state, shown_at, words_in, words_shown, output_shown};
 ghost use Rattle.sv8_bench.specs.Workbench.{checkpoints, IsAnswered, IsGivenUp, IsRecordOf};
 
 use crate::bench::Bench;
-use crate::fault::{BAD_ADDRESS, BenchFault, STEP_TOO_LARGE};
-use crate::shown::Shown;
 use std::alloc::{AllocError, Global};
 use sv8_cpu::{Machine, Work};
 use sv8_model::Refused;
 use sv8_phys::NoTouches;
 use sv8_time::Timeline;
 use sv8_trace::Trace;
+use sv8_workbench::{BAD_ADDRESS, BenchFault, STEP_TOO_LARGE, Shown};
 
 /// The last step that is shown.
 pub const LAST_STEP: u32 = 1_000_000;
@@ -116,7 +115,7 @@ impl<const NW: usize, const PAGES: usize, const K: u32> Bench<NW, PAGES, K> {
     /// # Errors
     ///
     /// `StepTooLarge` for a step above 1,000,000, else `OutOfMemory`.
-    #[tactic(auto, unfolding(crate::specs::Faults::step_refusal))]
+    #[tactic(auto, unfolding(sv8_workbench::specs::Faults::step_refusal))]
     pub fn machine(&mut self, step: u32) -> Result<Machine<NW, PAGES>, Refused<BenchFault>>
         ensures state { IfOk result (λ m. m ≡ machine_state self.old.kept step) }
         ensures within { OnOk result (step_refusal step ≡ None) }
@@ -137,7 +136,7 @@ impl<const NW: usize, const PAGES: usize, const K: u32> Bench<NW, PAGES, K> {
     /// # Errors
     ///
     /// `StepTooLarge` for a step above 1,000,000, else `OutOfMemory`.
-    #[tactic(auto, unfolding(crate::specs::Faults::step_refusal))]
+    #[tactic(auto, unfolding(sv8_workbench::specs::Faults::step_refusal))]
     pub fn regs_at(&mut self, step: u32) -> Result<Shown, Refused<BenchFault>>
         ensures shown { IfOk result (λ s. s ≡ shown_at self.old.kept step) }
         ensures within { OnOk result (step_refusal step ≡ None) }
@@ -159,7 +158,7 @@ impl<const NW: usize, const PAGES: usize, const K: u32> Bench<NW, PAGES, K> {
     ///
     /// `StepTooLarge` for a step above 1,000,000, `BadAddress` where the words, or with none the word at the address, are no words
     /// of RAM, else `OutOfMemory`.
-    #[tactic(auto, unfolding(crate::specs::Faults::words_refusal))]
+    #[tactic(auto, unfolding(sv8_workbench::specs::Faults::words_refusal))]
     pub fn words_at(
         &mut self,
         step: u32,
@@ -191,7 +190,7 @@ impl<const NW: usize, const PAGES: usize, const K: u32> Bench<NW, PAGES, K> {
     /// # Errors
     ///
     /// Those of `words_at`.
-    #[tactic(auto, unfolding(crate::specs::Faults::words_refusal))]
+    #[tactic(auto, unfolding(sv8_workbench::specs::Faults::words_refusal))]
     pub fn word_at(&mut self, step: u32, address: u32) -> Result<u32, Refused<BenchFault>>
         ensures shown { IfOk result (λ w. w ∷ [] ≡ words_shown self.old.kept step address 1) }
         ensures within { OnOk result (words_refusal step address 1 self.old.kept ≡ None) }
@@ -216,7 +215,7 @@ impl<const NW: usize, const PAGES: usize, const K: u32> Bench<NW, PAGES, K> {
     /// # Errors
     ///
     /// `StepTooLarge` for a step above 1,000,000, else `OutOfMemory`.
-    #[tactic(auto, unfolding(crate::specs::Faults::step_refusal))]
+    #[tactic(auto, unfolding(sv8_workbench::specs::Faults::step_refusal))]
     pub fn output_at(&mut self, step: u32) -> Result<Vec<u8>, Refused<BenchFault>>
         ensures shown { IfOk result (λ v. v.items ≡ output_shown self.old.kept step) }
         ensures within { OnOk result (step_refusal step ≡ None) }

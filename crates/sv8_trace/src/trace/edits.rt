@@ -6,15 +6,15 @@ ghost use Rattle.sv8_history.specs.Reads.{first_of_change, first_of_each, earlie
 ghost use Rattle.sv8_history.specs.Patches.{count_after, edited};
 ghost use Rattle.sv8_history.specs.Input.{edited_input};
 ghost use Rattle.sv8_cpu.specs.Recorded.{machine};
-ghost use Rattle.sv8_trace.specs.Patch.{change_of, changes_of, AreReadAlike, BeginAlike, IsPatch};
+ghost use Rattle.sv8_cpu.specs.Patches.{change_of, changes_of, IsPatch};
+ghost use Rattle.sv8_trace.specs.Patch.{AreReadAlike, BeginAlike};
 ghost use Rattle.sv8_trace.specs.Recording.{recorded, trace_of};
 ghost use Rattle.sv8_trace.specs.Prepared.{prepared_trace, IsPreparedFor, Near};
 
-use crate::patch::Patch;
 use crate::prepared::Prepared;
 use crate::trace::Trace;
 use std::alloc::{AllocError, Global};
-use sv8_notes::Cell;
+use sv8_notes::{Cell, Patch};
 
 /// The earlier of two steps, where there are any.
 fn earlier(first: Option<u32>, second: Option<u32>) -> Option<u32>

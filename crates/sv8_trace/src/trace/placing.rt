@@ -5,17 +5,16 @@ ghost use Rattle.std.specs.List.{All};
 ghost use Rattle.sv8_history.specs.Trace.{Agrees};
 ghost use Rattle.sv8_history.specs.Patches.{cut, patch_all};
 ghost use Rattle.sv8_cpu.specs.Recorded.{machine};
-ghost use Rattle.sv8_trace.specs.Patch.{changes_of, IsPatch};
+ghost use Rattle.sv8_cpu.specs.Patches.{changes_of, IsPatch};
 ghost use Rattle.sv8_trace.specs.Recording.{no_interval, recorded, trace_of};
 ghost use Rattle.sv8_trace.specs.Prepared.{IsPreparedFor, IsPlaced};
 ghost use Rattle.sv8_trace.specs.Placing.{with_kept};
 
 use crate::finished::Finished;
-use crate::patch::Patch;
 use crate::prepared::Prepared;
 use crate::trace::Trace;
 use std::alloc::{AllocError, Global};
-use sv8_notes::KeptList;
+use sv8_notes::{KeptList, Patch};
 
 /// Puts a list of kept values in its place.
 fn place_list(interval: &mut Finished, list: Option<KeptList>)

@@ -10,17 +10,18 @@ ghost use Rattle.sv8_history.specs.Patches as history;
 ghost use Rattle.sv8_history.specs.Patches.{set_poke, spread, uncover, kept_by_poke};
 ghost use Rattle.sv8_notes.specs.Cells.{cell_of, content_of, IsCell};
 ghost use Rattle.sv8_cpu.specs.Recorded.{machine, get};
-ghost use Rattle.sv8_trace.specs.Patch.{change_of, changes_of, IsPatch};
+ghost use Rattle.sv8_cpu.specs.Patches.{change_of, changes_of, IsPatch};
 ghost use Rattle.sv8_trace.specs.Recording.{blank, recorded, trace_of};
 ghost use Rattle.sv8_trace.specs.Prepared.{list_at, placed, prepared_trace, IsPreparedFor, Near};
 ghost use Rattle.sv8_trace.specs.Patching.{IsFirstWrite, KeptPut, PointsSet, RaisedAt};
 
-use crate::patch::{Cause, Patch};
 use crate::points::LEVELS;
 use crate::prepared::{Prepared, Staged};
-use crate::trace::{NO_END, Trace};
+use crate::trace::Trace;
 use std::alloc::{AllocError, Global};
-use sv8_notes::{Cell, Content, KeptList, PAGE_SIZE, Sought, empty_places, level_numbered};
+use sv8_notes::{
+    Cause, Cell, Content, KeptList, NO_END, PAGE_SIZE, Patch, Sought, empty_places, level_numbered,
+};
 
 /// How far a change reaches: the step of its cause, the step of the next event of its cell, and the first step from its cause on that
 /// writes the cell (`NO_END` where none does).

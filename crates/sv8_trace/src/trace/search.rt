@@ -10,8 +10,8 @@ ghost use Rattle.sv8_notes.specs.Sought.{is_met};
 ghost use Rattle.sv8_cpu.specs.Recorded.{machine};
 ghost use Rattle.sv8_trace.specs.Recording.{recorded, trace_of};
 
-use crate::trace::{NO_END, Trace};
-use sv8_notes::{Cell, Sought};
+use crate::trace::Trace;
+use sv8_notes::{Cell, NO_END, Sought};
 
 impl<const NW: usize, const PAGES: usize, const K: u32> Trace<NW, PAGES, K> {
     /// A step from which on no recorded step does what is sought: the end of the last interval with a note of its word, where

@@ -1,11 +1,11 @@
 use Rattle.std.proofs.Common.{◌+◌, ◌++◌, false, refl, ap, arith}
 use Rattle.sv8_model.specs.declared.refused.Refused.TheVariants.{By}
 use Rattle.sv8_time.specs.declared.fault.TimeFault.TheVariants.{StepTooLarge}
-use Rattle.sv8_bench.specs.declared.fault.BenchFault.TheVariants.{Time}
-use Rattle.sv8_shell.specs.Refusal.{refusal_of}
+use Rattle.sv8_workbench.specs.declared.fault.BenchFault.TheVariants.{Time}
+use Rattle.sv8_answers.specs.Refusal.{refusal_of}
 use Rattle.sv8_commands.specs.Text.{ok_line}
-use Rattle.sv8_shell.specs.Outcome.{told, refused}
-use Rattle.sv8_shell.proofs.AnswerLemmas.{reply-done, reply-due}
+use Rattle.sv8_answers.specs.Outcome.{told, refused}
+use Rattle.sv8_answers.proofs.AnswerLemmas.{reply-done, reply-due}
 use Rattle.sv8_search.specs.Comparing.{range_refusal}
 use Rattle.sv8_monitor.specs.Events.{events_text}
 use Rattle.sv8_search.proofs.Faults.{range-right, range-wrong}

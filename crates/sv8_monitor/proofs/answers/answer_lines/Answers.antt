@@ -1,10 +1,10 @@
 use Rattle.std.proofs.Common.{◌≡◌, ◌∙◌, Bool, false, cond, Some, None, refl, sym, ap}
 use Rattle.sv8_model.specs.declared.refused.Refused.TheVariants.{By}
 use Rattle.sv8_source.specs.declared.fault.SourceFault.TheVariants.{NoSuchLine}
-use Rattle.sv8_bench.specs.declared.fault.BenchFault.TheVariants.{Source}
-use Rattle.sv8_shell.specs.Refusal.{refusal_of}
-use Rattle.sv8_shell.specs.Outcome.{told, refused}
-use Rattle.sv8_shell.proofs.AnswerLemmas.{reply-done, reply-due}
+use Rattle.sv8_workbench.specs.declared.fault.BenchFault.TheVariants.{Source}
+use Rattle.sv8_answers.specs.Refusal.{refusal_of}
+use Rattle.sv8_answers.specs.Outcome.{told, refused}
+use Rattle.sv8_answers.proofs.AnswerLemmas.{reply-done, reply-due}
 use Rattle.sv8_monitor.specs.Answers.{lines_refusal, lines_told}
 use Rattle.sv8_monitor.proofs.answers.answer_lines.Goals as goal
 

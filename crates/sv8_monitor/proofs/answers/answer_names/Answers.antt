@@ -1,8 +1,8 @@
 use Rattle.std.proofs.Common.{true, None, refl}
 use Rattle.sv8_source.specs.Names.{names}
 use Rattle.sv8_model.specs.declared.refused.Refused.TheVariants.{OutOfMemory}
-use Rattle.sv8_shell.specs.Outcome.{told}
-use Rattle.sv8_shell.proofs.AnswerLemmas.{reply-due, reply-refused}
+use Rattle.sv8_answers.specs.Outcome.{told}
+use Rattle.sv8_answers.proofs.AnswerLemmas.{reply-due, reply-refused}
 use Rattle.sv8_monitor.specs.Texts.{names_text}
 use Rattle.sv8_monitor.proofs.answers.answer_names.Goals as goal
 

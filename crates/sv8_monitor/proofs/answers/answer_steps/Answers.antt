@@ -1,7 +1,7 @@
 use Rattle.std.proofs.Common.{◌≡◌, true, map, refl, sym, ap}
 use Rattle.sv8_bench.specs.Workbench.{Workbench}
-use Rattle.sv8_shell.specs.Outcome.{told}
-use Rattle.sv8_shell.proofs.AnswerLemmas.{reply-done, reply-refused}
+use Rattle.sv8_answers.specs.Outcome.{told}
+use Rattle.sv8_answers.proofs.AnswerLemmas.{reply-done, reply-refused}
 use Rattle.sv8_search.specs.Search.{found_at, steps_refusal, steps_told}
 use Rattle.sv8_monitor.specs.Texts.{steps_text}
 use Rattle.sv8_monitor.proofs.QueryLemmas.{told-either-way, refused-either-way}

@@ -1,9 +1,9 @@
 use Rattle.std.proofs.Common.{◌*◌, true, refl, sym}
 use Rattle.sv8_mmu.specs.Place.{place_of}
-use Rattle.sv8_bench.specs.Faults.{step_refusal}
-use Rattle.sv8_bench.specs.Shown.{machine_state}
-use Rattle.sv8_shell.specs.Outcome.{told}
-use Rattle.sv8_shell.proofs.AnswerLemmas.{reply-done, reply-refused}
+use Rattle.sv8_workbench.specs.Faults.{step_refusal}
+use Rattle.sv8_workbench.specs.Shown.{machine_state}
+use Rattle.sv8_answers.specs.Outcome.{told}
+use Rattle.sv8_answers.proofs.AnswerLemmas.{reply-done, reply-refused}
 use Rattle.sv8_monitor.specs.Texts.{place_text}
 use Rattle.sv8_monitor.proofs.answers.answer_where.Goals as goal
 

@@ -1,4 +1,4 @@
-use Rattle.sv8_shell.specs.Script as workbench
+use Rattle.sv8_answers.specs.Script as workbench
 use Rattle.sv8_monitor.specs.Session.{orders_in, orders_of}
 use Rattle.sv8_monitor.proofs.WorkbenchLemmas.{answered-alike, answered-alike-as, lines-lifted, script-lifted}
 use Rattle.sv8_monitor.proofs.laws.commands_are_answered_alike.Goals as goal

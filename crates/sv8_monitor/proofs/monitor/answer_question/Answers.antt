@@ -1,6 +1,6 @@
 use Rattle.std.proofs.Common.{sym, subst}
 use Rattle.sv8_bench.specs.Alike.{AreAlikeUpTo}
-use Rattle.sv8_bench.specs.Kept.{Kept}
+use Rattle.sv8_workbench.specs.Kept.{Kept}
 use Rattle.sv8_monitor.proofs.KeepLemmas.{query-keeps}
 use Rattle.sv8_monitor.proofs.monitor.answer_question.Goals as goal
 

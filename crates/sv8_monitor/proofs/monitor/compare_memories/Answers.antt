@@ -1,7 +1,7 @@
 use Rattle.std.proofs.Common.{◌*◌, true, refl, sym}
-use Rattle.sv8_bench.specs.Shown.{machine_state}
-use Rattle.sv8_shell.specs.Outcome.{told}
-use Rattle.sv8_shell.proofs.AnswerLemmas.{reply-done, reply-refused}
+use Rattle.sv8_workbench.specs.Shown.{machine_state}
+use Rattle.sv8_answers.specs.Outcome.{told}
+use Rattle.sv8_answers.proofs.AnswerLemmas.{reply-done, reply-refused}
 use Rattle.sv8_search.specs.Comparing.{range_refusal, differences}
 use Rattle.sv8_monitor.specs.Texts.{differences_text}
 use Rattle.sv8_monitor.proofs.monitor.compare_memories.Goals as goal

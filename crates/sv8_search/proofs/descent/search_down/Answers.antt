@@ -1,5 +1,5 @@
 use Rattle.std.proofs.Common.{◌≡◌, ◌∙◌, ◌⊎◌, ◌≤◌, ◌-◌, ◌++◌, inl, inr, length, map, take, reverse, refl, ap, arith}
-use Rattle.sv8_bench.specs.Kept.{Kept}
+use Rattle.sv8_workbench.specs.Kept.{Kept}
 use Rattle.sv8_search.specs.Search.{found_at, is_wanted, rising, falling, sought_to}
 use Rattle.sv8_search.proofs.Falling.{falling_next, sought_next, all_fallen, lowest_sought}
 use Rattle.sv8_search.proofs.Sought.{divided, within_interval, interval_sought, sought_down, sought_abandoned}

@@ -2,7 +2,7 @@ use Rattle.std.proofs.Common.{rules, ◌≡◌, ◌-◌, true, length, get_or, t
 use Rattle.sv8_phys.specs.Memory.{ram_size}
 use Rattle.sv8_watch.specs.declared.condition.Condition.TheVariants.{Pc}
 use Rattle.sv8_watch.specs.Conditions.{meets}
-use Rattle.sv8_bench.specs.Shown.{machine_state}
+use Rattle.sv8_workbench.specs.Shown.{machine_state}
 use Rattle.sv8_search.proofs.Compared.{first_and_rest, others_inside}
 use Rattle.sv8_search.proofs.Passed.{none_of_all}
 use Rattle.sv8_search.proofs.evidence.each_shows_none.Goals as goal

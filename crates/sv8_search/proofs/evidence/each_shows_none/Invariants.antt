@@ -2,7 +2,7 @@ use Rattle.std.proofs.Common.{◌≡◌, ◌<◌, ◌≤◌, ℕ, true, false, l
 use Rattle.std.specs.List.{list_any}
 use Rattle.sv8_phys.specs.Memory.{ram_size}
 use Rattle.sv8_watch.specs.Conditions.{meets}
-use Rattle.sv8_bench.specs.Shown.{machine_state}
+use Rattle.sv8_workbench.specs.Shown.{machine_state}
 use Rattle.sv8_search.specs.Search.{are_inside}
 use Rattle.sv8_search.proofs.evidence.each_shows_none.Given as goal
 

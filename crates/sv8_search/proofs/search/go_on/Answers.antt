@@ -1,7 +1,7 @@
 use Rattle.std.proofs.Common.{◌≡◌, ◌∙◌, ◌≤◌, ◌+◌, ◌-◌, true, length, refl, sym, ap, arith}
 use Rattle.sv8_phys.specs.Memory.{ram_size}
 use Rattle.sv8_cpu.specs.State.{State}
-use Rattle.sv8_bench.specs.Shown.{machine_state}
+use Rattle.sv8_workbench.specs.Shown.{machine_state}
 use Rattle.sv8_search.specs.Search.{are_inside, found_at, is_wanted, olds_of}
 use Rattle.sv8_search.proofs.OldBytes.{olds_pass}
 use Rattle.sv8_search.proofs.Passing.{found_passed, looked_passed}

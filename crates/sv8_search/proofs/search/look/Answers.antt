@@ -1,8 +1,8 @@
 use Rattle.std.proofs.Common.{rules, sym, length, true, false, arith, ◌≡◌, ◌∙◌, ap, subst}
 use Rattle.sv8_cpu.specs.State.{State}
 use Rattle.sv8_watch.specs.Watched.{IsBefore}
-use Rattle.sv8_bench.specs.Kept.{Kept}
-use Rattle.sv8_bench.specs.Shown.{machine_state}
+use Rattle.sv8_workbench.specs.Kept.{Kept}
+use Rattle.sv8_workbench.specs.Shown.{machine_state}
 use Rattle.sv8_phys.specs.Memory.{ram_size}
 use Rattle.sv8_search.specs.Search.{are_inside, found_at, is_wanted, olds_of}
 use Rattle.sv8_search.proofs.OldBytes.{olds_pass}

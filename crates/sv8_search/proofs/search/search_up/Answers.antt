@@ -1,6 +1,6 @@
 use Rattle.std.proofs.Common.{◌-◌, ◌≡◌, ◌∙◌, ◌++◌, ◌≤◌, ◌⊎◌, inl, inr, map, sym, ap, arith}
-use Rattle.sv8_bench.specs.Kept.{Kept}
-use Rattle.sv8_bench.specs.Shown.{machine_state}
+use Rattle.sv8_workbench.specs.Kept.{Kept}
+use Rattle.sv8_workbench.specs.Shown.{machine_state}
 use Rattle.sv8_search.specs.Search.{olds_of, found_at, is_wanted, rising, looked_to}
 use Rattle.sv8_search.proofs.Passing.{found_on, looked_on}
 use Rattle.sv8_search.proofs.Searching.{all_risen, looked_end, searched_further, searched_stopped, searched_abandoned, searched_at}

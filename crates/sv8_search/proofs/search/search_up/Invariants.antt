@@ -1,5 +1,5 @@
 use Rattle.std.proofs.Common.{◌≡◌, ◌-◌, ◌++◌, ◌≤◌, ◌+◌, length, map}
-use Rattle.sv8_bench.specs.Shown.{machine_state}
+use Rattle.sv8_workbench.specs.Shown.{machine_state}
 use Rattle.sv8_walks.specs.Walks.{IsWalk}
 use Rattle.sv8_search.specs.Plans.{IsPlan}
 use Rattle.sv8_search.specs.Search.{olds_of, olds_count, found_at, is_wanted, rising, looked_to, IsSearched}

@@ -4,10 +4,10 @@ use Rattle.std.proofs.lemmas.Result.{err_from_is_err_and}
 use Rattle.sv8_phys.specs.Memory.{ram_size}
 use Rattle.sv8_watch.specs.declared.condition.Condition.{Condition}
 use Rattle.sv8_time.specs.declared.fault.TimeFault.TheVariants.{StepTooLarge, BadAddress}
-use Rattle.sv8_bench.specs.declared.fault.BenchFault.{BenchFault}
-use Rattle.sv8_bench.specs.declared.fault.BenchFault.TheVariants.{Time}
-use Rattle.sv8_bench.specs.Faults.{step_refusal}
-use Rattle.sv8_bench.specs.Kept.{Kept}
+use Rattle.sv8_workbench.specs.declared.fault.BenchFault.{BenchFault}
+use Rattle.sv8_workbench.specs.declared.fault.BenchFault.TheVariants.{Time}
+use Rattle.sv8_workbench.specs.Faults.{step_refusal}
+use Rattle.sv8_workbench.specs.Kept.{Kept}
 use Rattle.sv8_search.specs.Search.{are_inside, steps_refusal}
 use Rattle.sv8_search.proofs.search.steps.Goals as goal
 use Rattle.sv8_search.proofs.search.steps.Goals.{then-from-gt-LAST_STEP-via-then-from-gt-LAST_STEP, then-from-gt-LAST_STEP-via-else-from-gt-LAST_STEP+then-to-gt-LAST_STEP}

@@ -1,5 +1,4 @@
-use Rattle.sv8_shell.proofs.AnswerLemmas.{reply-timeline}
-use Rattle.sv8_shell.proofs.EffectLemmas.{unless-edited}
+use Rattle.sv8_shell.proofs.EditLemmas.{reply-timeline, unless-edited}
 use Rattle.sv8_shell.proofs.answers.answer_timeline.Goals as goal
 
 pub returns-clause-replies : goal.returns-clause-replies

@@ -2,9 +2,9 @@ use Rattle.std.proofs.Common.{◌≡◌, ◌∙◌, ◌+◌, ◌-◌, ◌<◌, �
 use Rattle.std.proofs.lemmas.List.{length-drop, get_or-drop, get_or-take, take_all}
 use Rattle.sv8_source.specs.Listing.{ListedLine, listing}
 use Rattle.sv8_commands.specs.Text.{numbered_text}
-use Rattle.sv8_shell.specs.Text.{listing_line}
+use Rattle.sv8_answers.specs.Text.{listing_line}
 use Rattle.sv8_commands.specs.Put.{Gained}
-use Rattle.sv8_shell.specs.Put.{no_line}
+use Rattle.sv8_answers.specs.Put.{no_line}
 use Rattle.sv8_commands.proofs.PutLemmas.{gains-failed, gained-none}
 use Rattle.sv8_commands.proofs.NumberedLemmas.{numbered-cut, numbered-next}
 use Rattle.sv8_shell.proofs.listing.add_lines.Goals as goal

@@ -2,7 +2,7 @@ use Rattle.std.proofs.Common.{◌+◌, ◌-◌, take, drop}
 use Rattle.sv8_source.specs.Listing.{listing}
 use Rattle.sv8_commands.specs.Put.{Gained}
 use Rattle.sv8_commands.specs.Text.{numbered_text}
-use Rattle.sv8_shell.specs.Text.{listing_line}
+use Rattle.sv8_answers.specs.Text.{listing_line}
 use Rattle.sv8_shell.proofs.listing.add_lines.Given as goal
 
 -- the lines up to the present one, of those that are asked for

@@ -1,10 +1,10 @@
 use Rattle.std.proofs.Common.{refl}
-use Rattle.sv8_shell.specs.declared.effect.Effect.TheVariants.{Unchanged}
+use Rattle.sv8_answers.specs.declared.effect.Effect.TheVariants.{Unchanged}
 use Rattle.sv8_commands.specs.Order.{bad, order}
-use Rattle.sv8_shell.specs.Session.{outcome}
-use Rattle.sv8_shell.proofs.AnswerLemmas.{reply-bad}
-use Rattle.sv8_shell.proofs.EffectLemmas.{puts-effect, if-unchanged}
-use Rattle.sv8_shell.proofs.OrderLemmas.{reply-order}
+use Rattle.sv8_answers.specs.Session.{outcome}
+use Rattle.sv8_answers.proofs.AnswerLemmas.{reply-bad}
+use Rattle.sv8_answers.proofs.EffectLemmas.{puts-effect, if-unchanged}
+use Rattle.sv8_answers.proofs.OrderLemmas.{reply-order}
 use Rattle.sv8_shell.proofs.shell.answer_line.Goals as goal
 
 pub returns-in-Some-clause-replies : goal.returns-in-Some-clause-replies

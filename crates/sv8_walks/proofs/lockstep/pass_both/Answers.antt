@@ -1,6 +1,6 @@
 use Rattle.std.proofs.Common.{◌∙◌, ◌+◌, ◌/◌, inl, max, refl, ap, arith, subst}
 use Rattle.sv8_walks.specs.Together.{AreInLockstep}
-use Rattle.sv8_bench.specs.Kept.{Kept}
+use Rattle.sv8_workbench.specs.Kept.{Kept}
 use Rattle.sv8_bench.specs.Workbench.{Workbench, checkpoints}
 use Rattle.sv8_walks.proofs.Together.{alike_first, alike_next, chosen, none_counted, recorded_within}
 use Rattle.sv8_walks.proofs.Walking.{none_more, step_counted, raised_tried}

@@ -1,6 +1,6 @@
 use Rattle.std.proofs.Common.{◌∙◌, ◌+◌, ◌/◌, ◌≤◌, inl, max, ap, arith}
-use Rattle.sv8_bench.specs.Kept.{Kept}
-use Rattle.sv8_bench.specs.Shown.{machine_state}
+use Rattle.sv8_workbench.specs.Kept.{Kept}
+use Rattle.sv8_workbench.specs.Shown.{machine_state}
 use Rattle.sv8_bench.specs.Workbench.{Workbench, checkpoints}
 use Rattle.sv8_bench.proofs.Queried.{full}
 use Rattle.sv8_walks.proofs.Walking.{none_more, step_counted, raised_tried}

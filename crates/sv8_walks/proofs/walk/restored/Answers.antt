@@ -2,7 +2,7 @@ use Rattle.std.proofs.Common.{◌≡◌, ◌∙◌, ◌/◌, inl, min, max, sym,
 use Rattle.std.proofs.Math.Nat.{mul-le-mul_left, div-add-mod}
 use Rattle.sv8_history.specs.Growing.{restored}
 use Rattle.sv8_trace.specs.Recording.{trace_of}
-use Rattle.sv8_bench.specs.Shown.{machine_state}
+use Rattle.sv8_workbench.specs.Shown.{machine_state}
 use Rattle.sv8_bench.specs.Workbench.{checkpoints}
 use Rattle.sv8_bench.proofs.Queried.{point_is, restored_at}
 use Rattle.sv8_walks.proofs.walk.restored.Goals as goal

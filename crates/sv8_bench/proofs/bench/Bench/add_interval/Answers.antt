@@ -2,7 +2,7 @@ use Rattle.std.proofs.Common.{◌≡◌, sym, subst}
 use Rattle.sv8_time.proofs.PokeEdits.{on_ok}
 use Rattle.sv8_trace.specs.Recorder.{steps_on, IsRecorded}
 use Rattle.sv8_trace.specs.Recording.{last_point, recorded, IsExtended}
-use Rattle.sv8_bench.specs.Kept.{Kept}
+use Rattle.sv8_workbench.specs.Kept.{Kept}
 use Rattle.sv8_bench.specs.Workbench.{Workbench}
 use Rattle.sv8_bench.proofs.Queried.{run_added}
 use Rattle.sv8_bench.proofs.bench.Bench.add_interval.Goals as goal

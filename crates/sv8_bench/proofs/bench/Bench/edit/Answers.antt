@@ -7,7 +7,7 @@ use Rattle.sv8_edits.proofs.Common.{timeline_edits}
 use Rattle.sv8_trace.specs.Recording.{recorded}
 use Rattle.sv8_bench.specs.Alike.{StaysAlike}
 use Rattle.sv8_bench.specs.Edits.{IsReadyFor}
-use Rattle.sv8_bench.specs.Kept.{with_timeline}
+use Rattle.sv8_workbench.specs.Kept.{with_timeline}
 use Rattle.sv8_bench.specs.Workbench.{Workbench, IsEdited}
 use Rattle.sv8_bench.proofs.Edited.{AfterEdit, can, after_change, limit_stays}
 use Rattle.sv8_bench.proofs.bench.Bench.edit.Given.{Over}

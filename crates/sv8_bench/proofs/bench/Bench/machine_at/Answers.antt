@@ -1,7 +1,7 @@
 use Rattle.std.proofs.Common.{◌∙◌, ◌-◌, ◌*◌, ◌/◌, ◌%◌, length, refl, ap, arith, subst}
 use Rattle.sv8_history.specs.Growing.{restored}
-use Rattle.sv8_bench.specs.Kept.{Kept}
-use Rattle.sv8_bench.specs.Shown.{machine_state}
+use Rattle.sv8_workbench.specs.Kept.{Kept}
+use Rattle.sv8_workbench.specs.Shown.{machine_state}
 use Rattle.sv8_bench.specs.Workbench.{Workbench, IsAnswered, IsGivenUp}
 use Rattle.sv8_bench.proofs.Queried.{with_record, run_further, last_fed, restored_fed, restored_leads, restored_at, query_steps, query_extends, counted_more, raised_more, given_up}
 use Rattle.sv8_bench.proofs.bench.Bench.machine_at.Goals as goal

@@ -1,5 +1,5 @@
 use Rattle.std.proofs.Common.{arith}
-use Rattle.sv8_bench.specs.Kept.{Kept}
+use Rattle.sv8_workbench.specs.Kept.{Kept}
 use Rattle.sv8_bench.proofs.Queried.{run_further, last_fed}
 use Rattle.sv8_bench.proofs.bench.Bench.record_below.Goals as goal
 

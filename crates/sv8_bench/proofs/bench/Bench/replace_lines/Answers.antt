@@ -13,9 +13,9 @@ use Rattle.sv8_edits.proofs.Common.{image_edits}
 use Rattle.sv8_trace.specs.Recording.{recorded}
 use Rattle.sv8_bench.specs.Alike.{StaysAlike}
 use Rattle.sv8_bench.specs.Edits.{IsReadyFor}
-use Rattle.sv8_bench.specs.Kept.{edited}
+use Rattle.sv8_workbench.specs.Kept.{edited}
 use Rattle.sv8_bench.specs.Workbench.{Workbench, IsEdited}
-use Rattle.sv8_bench.proofs.ImageWords.{changes_inside}
+use Rattle.sv8_edits.proofs.Common.{changes_inside}
 use Rattle.sv8_bench.proofs.Edited.{AfterEdit, can, after_change}
 use Rattle.sv8_bench.proofs.bench.Bench.replace_lines.Given.{Over}
 use Rattle.sv8_bench.proofs.bench.Bench.replace_lines.Goals.{After-commit-2}

@@ -1,5 +1,5 @@
 use Rattle.std.proofs.Common.{◌∙◌, ap}
-use Rattle.sv8_bench.specs.Shown.{words_in}
+use Rattle.sv8_workbench.specs.Shown.{words_in}
 use Rattle.sv8_bench.proofs.ShownWords.{one_word}
 use Rattle.sv8_bench.proofs.bench.Bench.word_at.Goals as goal
 

@@ -1,7 +1,7 @@
 use Rattle.std.proofs.Common.{◌≡◌, length}
 use Rattle.sv8_history.specs.Reads.{earlier, first_of_each}
 use Rattle.sv8_cpu.specs.Recorded.{machine}
-use Rattle.sv8_trace.specs.Patch.{changes_of}
+use Rattle.sv8_cpu.specs.Patches.{changes_of}
 use Rattle.sv8_trace.specs.Recording.{trace_of}
 use Rattle.sv8_trace.proofs.trace.Trace.first_of_all.Given as goal
 

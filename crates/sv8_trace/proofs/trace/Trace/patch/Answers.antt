@@ -2,7 +2,7 @@ use Rattle.std.proofs.Common.{◌≡◌, ◌/◌, ◌∙◌, ap, subst, length, 
 use Rattle.std.proofs.Math.Nat.{mul-div_cancel_left}
 use Rattle.sv8_history.specs.Patches.{cut, patch_all}
 use Rattle.sv8_cpu.specs.Recorded.{machine}
-use Rattle.sv8_trace.specs.Patch.{changes_of}
+use Rattle.sv8_cpu.specs.Patches.{changes_of}
 use Rattle.sv8_trace.specs.Recording.{trace_of}
 use Rattle.sv8_trace.specs.Prepared.{prepared_trace, Near}
 use Rattle.sv8_trace.proofs.Nearness.{near_along, near_all, near_agrees, agrees_along}

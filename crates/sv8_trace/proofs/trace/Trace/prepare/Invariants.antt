@@ -1,7 +1,7 @@
 use Rattle.std.proofs.Common.{◌/◌, drop}
 use Rattle.sv8_history.specs.Patches.{cut, patch_all}
 use Rattle.sv8_cpu.specs.Recorded.{machine}
-use Rattle.sv8_trace.specs.Patch.{changes_of}
+use Rattle.sv8_cpu.specs.Patches.{changes_of}
 use Rattle.sv8_trace.specs.Recording.{trace_of}
 use Rattle.sv8_trace.specs.Prepared.{prepared_trace, IsPreparedFor, Near}
 use Rattle.sv8_trace.proofs.trace.Trace.prepare.Given as goal

@@ -4,7 +4,7 @@ use Rattle.sv8_history.specs.Reads.{reads_edit}
 use Rattle.sv8_history.specs.Patches.{count_after, cut, patch_all}
 use Rattle.sv8_history.proofs.Common.{of_each}
 use Rattle.sv8_cpu.specs.Recorded.{machine}
-use Rattle.sv8_trace.specs.Patch.{changes_of}
+use Rattle.sv8_cpu.specs.Patches.{changes_of}
 use Rattle.sv8_trace.specs.Recording.{trace_of}
 use Rattle.sv8_trace.specs.Prepared.{prepared_trace, Near}
 use Rattle.sv8_trace.proofs.Editing.{below_end, left_below, whole_steps}

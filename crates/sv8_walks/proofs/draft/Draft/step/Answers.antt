@@ -1,8 +1,8 @@
 use Rattle.std.proofs.Common.{◌≡◌, ◌∙◌, ◌+◌, ◌*◌, ◌<◌, ◌≤◌, length, refl, sym, ap, arith, subst}
 use Rattle.sv8_trace.specs.Recorder.{steps_on, IsRecorded}
 use Rattle.sv8_trace.specs.Recording.{last_point, recorded}
-use Rattle.sv8_bench.specs.Kept.{Kept}
-use Rattle.sv8_bench.specs.Shown.{machine_state}
+use Rattle.sv8_workbench.specs.Kept.{Kept}
+use Rattle.sv8_workbench.specs.Shown.{machine_state}
 use Rattle.sv8_bench.specs.Workbench.{Workbench, checkpoints}
 use Rattle.sv8_walks.specs.Drafts.{Drafted, IsDraft}
 use Rattle.sv8_walks.specs.Made.{HasRoom}

@@ -1,7 +1,7 @@
 use Rattle.std.proofs.Common.{◌≡◌, ◌∙◌, ◌+◌, ◌≤◌, sym, ap, arith, subst}
 use Rattle.sv8_trace.specs.Recording.{last_point, no_interval, recorded}
 use Rattle.sv8_trace.proofs.Common.{recorded_none}
-use Rattle.sv8_bench.specs.Shown.{machine_state}
+use Rattle.sv8_workbench.specs.Shown.{machine_state}
 use Rattle.sv8_bench.proofs.Queried.{last_is}
 use Rattle.sv8_walks.specs.Drafts.{Drafted, IsDraft}
 use Rattle.sv8_walks.proofs.Walking.{placed_restored, at_the_last}
