@@ -4,6 +4,7 @@
 
 mod codec;
 mod instr;
+mod opcodes;
 mod word;
 
 pub use codec::{
