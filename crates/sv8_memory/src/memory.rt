@@ -33,10 +33,19 @@ use sv8_phys::{Page, Phys, Size, Touches};
 use sv8_time::Timeline;
 
 /// Physical memory and the memory management unit with its lookaside buffer, of which nothing shows.
-#[derive(Drop)]
 pub struct Memory<const PAGES: usize> {
     physical: Physical<PAGES>,
     buffer: Buffer,
+}
+
+// Written out, so that crates above prove no drop of its parts.
+impl<const PAGES: usize> Drop for Memory<PAGES> {
+    fn drop(self) {
+        let Memory {
+            physical: _,
+            buffer: _,
+        } = self;
+    }
 }
 
 impl<const PAGES: usize> Model for Memory<PAGES> {

@@ -33,7 +33,6 @@ pub enum Purpose {
 /// Walks that are kept: the last of each purpose, and the 64 that were used last.
 ///
 /// It takes no memory until a walk is kept.
-#[derive(Drop)]
 pub struct Buffer {
     alloc: Global,
     fetch_memo: Option<Memo>,
@@ -42,6 +41,20 @@ pub struct Buffer {
     cache: Option<LruCache<Key, Walk>>,
     /// A flag for each number of a page of RAM modulo 256: unset, no walk that is kept has read a word of such a page.
     pages: [bool; 256],
+}
+
+// Written out, so that crates above prove no drop of its parts.
+impl Drop for Buffer {
+    fn drop(self) {
+        let Buffer {
+            alloc: _,
+            fetch_memo: _,
+            load_memo: _,
+            store_memo: _,
+            cache: _,
+            pages: _,
+        } = self;
+    }
 }
 
 impl Model for Buffer {

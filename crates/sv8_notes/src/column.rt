@@ -22,9 +22,15 @@ pub fn empty_places<T: Drop>(alloc: Global, count: usize) -> Result<Vec<Option<T
 }
 
 /// One page of RAM in each checkpoint, from that of step 0 on.
-#[derive(Drop)]
 pub struct PageColumn {
     pages: Vec<Page>,
+}
+
+// Written out, so that crates above prove no drop of its parts.
+impl Drop for PageColumn {
+    fn drop(self) {
+        let PageColumn { pages: _ } = self;
+    }
 }
 
 impl Model for PageColumn {
@@ -94,9 +100,15 @@ impl PageColumn {
 }
 
 /// Whether one interrupt level is pending in each checkpoint, from that of step 0 on.
-#[derive(Drop)]
 pub struct LevelColumn {
     pending: Vec<bool>,
+}
+
+// Written out, so that crates above prove no drop of its parts.
+impl Drop for LevelColumn {
+    fn drop(self) {
+        let LevelColumn { pending: _ } = self;
+    }
 }
 
 impl Model for LevelColumn {

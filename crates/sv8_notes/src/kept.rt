@@ -32,9 +32,15 @@ impl Kept {
 }
 
 /// The kept values of an interval, at most one for each step and cell.
-#[derive(Drop)]
 pub struct KeptList {
     values: Vec<Kept>,
+}
+
+// Written out, so that crates above prove no drop of its parts.
+impl Drop for KeptList {
+    fn drop(self) {
+        let KeptList { values: _ } = self;
+    }
 }
 
 impl Model for KeptList {

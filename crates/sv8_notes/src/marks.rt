@@ -98,9 +98,15 @@ fn raise_between(numbers: &mut [u32], from: usize, end: usize, number: u32)
 }
 
 /// For each word of RAM a number of intervals, from the first on: no later one has a note of the word. After a cut it may be more than it need be.
-#[derive(Drop)]
 pub struct Marks {
     pages: Vec<PageMarks>,
+}
+
+// Written out, so that crates above prove no drop of its parts.
+impl Drop for Marks {
+    fn drop(self) {
+        let Marks { pages: _ } = self;
+    }
 }
 
 impl Model for Marks {

@@ -59,7 +59,6 @@ impl Sought {
 }
 
 /// What each of the steps from a checkpoint to the next one touches.
-#[derive(Drop)]
 pub struct Notes {
     /// The words that are read as the first of their step, but for the rarer steps: instructions that are fetched.
     fetches: Vec<WordRun>,
@@ -69,6 +68,20 @@ pub struct Notes {
     levels: Vec<LevelRun>,
     inputs: Vec<u32>,
     expiries: Vec<u32>,
+}
+
+// Written out, so that crates above prove no drop of its parts.
+impl Drop for Notes {
+    fn drop(self) {
+        let Notes {
+            fetches: _,
+            reads: _,
+            writes: _,
+            levels: _,
+            inputs: _,
+            expiries: _,
+        } = self;
+    }
 }
 
 impl Model for Notes {

@@ -30,13 +30,25 @@ use sv8_model::{Level, Size};
 /// RAM and the bytes put out are shared with snapshots until they are written. Fetches, table walks and the accesses that both
 /// load and store (LDSTUB, SWAP) reach RAM alone: their caller asks `is_ram` before the first access, since a device would serve
 /// the load and the store of a word by themselves.
-#[derive(Drop)]
 pub struct Phys<const PAGES: usize> {
     ram: Ram<PAGES>,
     taken: u32,
     output: Output,
     pending: Pending,
     timer: Timer,
+}
+
+// Written out, so that crates above prove no drop of its parts.
+impl<const PAGES: usize> Drop for Phys<PAGES> {
+    fn drop(self) {
+        let Phys {
+            ram: _,
+            taken: _,
+            output: _,
+            pending: _,
+            timer: _,
+        } = self;
+    }
 }
 
 impl<const PAGES: usize> Model for Phys<PAGES> {

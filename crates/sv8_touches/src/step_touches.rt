@@ -13,9 +13,15 @@ use sv8_model::{Observation, Touch, Touches};
 ///
 /// The room that they took stays for the next step, so that a step takes memory only where it has more notes than
 /// any step before it.
-#[derive(Drop)]
 pub struct StepTouches {
     notes: Vec<Touch>,
+}
+
+// Written out, so that crates above prove no drop of its parts.
+impl Drop for StepTouches {
+    fn drop(self) {
+        let StepTouches { notes: _ } = self;
+    }
 }
 
 impl Model for StepTouches {

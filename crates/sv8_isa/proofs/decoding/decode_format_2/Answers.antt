@@ -3,7 +3,7 @@ use Rattle.std.proofs.lemmas.Grind.{common_steps}
 use Rattle.sv8_model.specs.Words.{field}
 use Rattle.sv8_isa.specs.Table.{meaning}
 use Rattle.sv8_isa.proofs.Groups.{format_2}
-use Rattle.sv8_isa.proofs.codec.decode_format_2.Goals as goal
+use Rattle.sv8_isa.proofs.decoding.decode_format_2.Goals as goal
 
 pub returns-in_default-clause-value : goal.returns-in_default-clause-value
 unfolding meaning

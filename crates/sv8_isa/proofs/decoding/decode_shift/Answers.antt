@@ -1,7 +1,7 @@
 use Rattle.std.proofs.Common.{sym, ◌∙◌}
 use Rattle.sv8_isa.proofs.Rows.{meaning_at}
 use Rattle.sv8_isa.proofs.Groups.{shift}
-use Rattle.sv8_isa.proofs.codec.decode_shift.Goals as goal
+use Rattle.sv8_isa.proofs.decoding.decode_shift.Goals as goal
 
 pub control_at-requires-clause-from : goal.control_at-requires-clause-from
 control_at-requires-clause-from c = rw c.bits.ensures.value (shift c.args.word c.requires).1

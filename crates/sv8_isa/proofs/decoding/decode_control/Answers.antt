@@ -1,7 +1,7 @@
 use Rattle.std.proofs.Common.{sym, ◌∙◌}
 use Rattle.sv8_isa.proofs.Rows.{meaning_at}
 use Rattle.sv8_isa.proofs.Groups.{control}
-use Rattle.sv8_isa.proofs.codec.decode_control.Goals as goal
+use Rattle.sv8_isa.proofs.decoding.decode_control.Goals as goal
 
 pub control_at-requires-clause-from : goal.control_at-requires-clause-from
 control_at-requires-clause-from c = rw c.bits.ensures.value (control c.args.word c.requires).1

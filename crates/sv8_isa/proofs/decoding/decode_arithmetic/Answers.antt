@@ -1,7 +1,7 @@
 use Rattle.std.proofs.Common.{sym, ◌∙◌}
 use Rattle.sv8_isa.proofs.Rows.{meaning_at}
 use Rattle.sv8_isa.proofs.Groups.{arithmetic}
-use Rattle.sv8_isa.proofs.codec.decode_arithmetic.Goals as goal
+use Rattle.sv8_isa.proofs.decoding.decode_arithmetic.Goals as goal
 
 pub arithmetic_at-requires : goal.arithmetic_at-requires
 arithmetic_at-requires c = rw c.bits.ensures.value (arithmetic c.args.word c.requires).1

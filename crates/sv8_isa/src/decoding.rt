@@ -1,18 +1,14 @@
-//! From words to instructions, and back, by the list of opcodes.
+//! From words to instructions, by the list of opcodes.
 
-ghost use Rattle.std.specs.Prelude.{◌≡◌, ◌≢◌, ◌+◌, ◌<◌, ◌≤◌, false};
+ghost use Rattle.std.specs.Prelude.{◌≡◌, ◌≢◌, ◌<◌, ◌≤◌, false};
+ghost use Rattle.sv8_model.specs.Words.{field};
 ghost use Rattle.sv8_isa.specs.Accesses.{makes_access};
-ghost use Rattle.sv8_isa.specs.Encoding.{encoding, arith_code, cc_code, tagged_code, shift_code, read_code, write_code, memory_code};
 ghost use Rattle.sv8_isa.specs.Registers.{HasRegisters};
 ghost use Rattle.sv8_isa.specs.Table.{instr_at, row_at, meaning, is_queue_store, group_of};
 
 use crate::instr::{ArithOp, Group, Instr, MemoryOp, ShiftOp, StateRegister, TaggedOp};
 use crate::opcodes::opcodes;
-use crate::word::{
-    alternate_source, bits, branch, branch_field, call, condition, condition_code, count, format_2,
-    format_3, format_call, natural_source, operand, register, signed_bits, source_bits,
-    trap_number, unsigned_bits,
-};
+use crate::word::{bits, branch, call, condition, count, operand, register, trap_number};
 
 /// A `match` on op2, from the groups of op 0.
 macro_rules! format_2_rows {
@@ -97,35 +93,57 @@ macro_rules! control_rows {
     };
 }
 
-/// A `match` on op3, from the groups of op 3.
+/// A `match` on op3, from the groups of op 3: those of the natural address space, of an alternate one with i = 0 or
+/// with i = 1, or of the other units.
 macro_rules! memory_rows {
     (
-        [$word:ident $op3:ident]
-        memory { $($memory:ident $normal:literal $alternate:literal),* }
-        memory_whole { $($far:ident $far_code:literal),* }
-        queue_whole { $($queue:ident $queue_code:literal),* }
+        [natural $word:ident $op3:ident]
+        memory { $($memory:ident $code:literal $alternate:literal),* }
+        $($later:tt)*
     ) => {{
         let rd = register($word, 25);
         let rs1 = register($word, 14);
         let operand = operand($word);
-        let immediate = bits($word, 13, 13);
         match $op3 {
-            $(
-                $normal => Instr::Memory { op: MemoryOp::$memory, rd, rs1, operand },
-                $alternate if immediate == 0 => Instr::Alternate {
-                    op: MemoryOp::$memory,
-                    rd,
-                    rs1,
-                    rs2: register($word, 0),
-                    asi: bits($word, 12, 5) as u8,
-                },
-                $alternate => Instr::AltImm,
-            )*
+            $($code => Instr::Memory { op: MemoryOp::$memory, rd, rs1, operand },)*
+            _ => Instr::Illegal,
+        }
+    }};
+    (
+        [alternate $word:ident $op3:ident]
+        memory { $($memory:ident $natural:literal $code:literal),* }
+        $($later:tt)*
+    ) => {{
+        let rd = register($word, 25);
+        let rs1 = register($word, 14);
+        let rs2 = register($word, 0);
+        let asi = bits($word, 12, 5) as u8;
+        match $op3 {
+            $($code => Instr::Alternate { op: MemoryOp::$memory, rd, rs1, rs2, asi },)*
+            _ => Instr::Illegal,
+        }
+    }};
+    (
+        [immediate $op3:ident]
+        memory { $($memory:ident $natural:literal $code:literal),* }
+        $($later:tt)*
+    ) => {
+        match $op3 {
+            $($code => Instr::AltImm,)*
+            _ => Instr::Illegal,
+        }
+    };
+    (
+        [other $word:ident $op3:ident]
+        memory_whole { $($far:ident $far_code:literal),* }
+        queue_whole { $($queue:ident $queue_code:literal),* }
+    ) => {
+        match $op3 {
             $($far_code => Instr::$far($word),)*
             $($queue_code => Instr::$queue($word),)*
             _ => Instr::Illegal,
         }
-    }};
+    };
     ([$($with:ident)*] $group:ident $rows:tt $($later:tt)*) => {
         memory_rows!([$($with)*] $($later)*)
     };
@@ -170,6 +188,51 @@ fn control_at(word: u32, op3: u32) -> Instr
     opcodes!(control_rows!(word op3))
 }
 
+/// The instruction of a word of op 3 that has this op3, below 16: in the natural address space.
+#[inline(always)]
+fn natural_at(word: u32, op3: u32) -> Instr
+    requires { op3 < 0x10 }
+    ensures value { result ≡ instr_at (row_at 3 op3 word) word }
+    ensures registers { HasRegisters result }
+{
+    opcodes!(memory_rows!(natural word op3))
+}
+
+/// The instruction of a word of op 3 that has this op3, from 16 to 31, and i = 0: in an alternate address space.
+#[inline(always)]
+fn alternate_at(word: u32, op3: u32) -> Instr
+    requires from { 0x10 ≤ op3 }
+    requires below { op3 < 0x20 }
+    requires register { field word 13 13 ≡ 0 }
+    ensures value { result ≡ instr_at (row_at 3 op3 word) word }
+    ensures registers { HasRegisters result }
+{
+    opcodes!(memory_rows!(alternate word op3))
+}
+
+/// The instruction of a word of op 3 that has this op3, from 16 to 31, and i = 1, which an alternate space has no form for.
+#[inline(always)]
+fn immediate_at(word: u32, op3: u32) -> Instr
+    requires from { 0x10 ≤ op3 }
+    requires below { op3 < 0x20 }
+    requires immediate { field word 13 13 ≡ 1 }
+    ensures value { result ≡ instr_at (row_at 3 op3 word) word }
+    ensures registers { HasRegisters result }
+{
+    opcodes!(memory_rows!(immediate op3))
+}
+
+/// The instruction of a word of op 3 that has this op3, from 32 on: a load or store of another unit.
+#[inline(always)]
+fn other_at(word: u32, op3: u32) -> Instr
+    requires from { 0x20 ≤ op3 }
+    requires below { op3 < 0x40 }
+    ensures value { result ≡ instr_at (row_at 3 op3 word) word }
+    ensures registers { HasRegisters result }
+{
+    opcodes!(memory_rows!(other word op3))
+}
+
 /// The instruction of a word of op 3 that has this op3.
 #[inline(always)]
 fn memory_at(word: u32, op3: u32) -> Instr
@@ -177,7 +240,15 @@ fn memory_at(word: u32, op3: u32) -> Instr
     ensures value { result ≡ instr_at (row_at 3 op3 word) word }
     ensures registers { HasRegisters result }
 {
-    opcodes!(memory_rows!(word op3))
+    if op3 < 0x10 {
+        natural_at(word, op3)
+    } else if op3 >= 0x20 {
+        other_at(word, op3)
+    } else if bits(word, 13, 13) == 0 {
+        alternate_at(word, op3)
+    } else {
+        immediate_at(word, op3)
+    }
 }
 
 /// The instruction of a word of the group of op 0 (B.31, B.21, B.9, B.22, B.23).
@@ -265,191 +336,6 @@ pub fn decode(word: u32) -> Instr
         Group::Control => decode_control(word),
         Group::Memory => decode_memory(word),
     }
-}
-
-/// A `match` on an operation, or a register, that gives its op3, from the group that is named.
-macro_rules! codes {
-    ([$op:ident $cc:ident arith] arith { $($name:ident $plain:literal $with_cc:literal),* } $($later:tt)*) => {
-        match ($op, $cc) {
-            $(
-                (ArithOp::$name, false) => $plain,
-                (ArithOp::$name, true) => $with_cc,
-            )*
-        }
-    };
-    ([$op:ident tagged] tagged { $($name:ident $code:literal),* } $($later:tt)*) => {
-        match $op { $(TaggedOp::$name => $code,)* }
-    };
-    ([$op:ident shift] shift { $($name:ident $code:literal),* } $($later:tt)*) => {
-        match $op { $(ShiftOp::$name => $code,)* }
-    };
-    (
-        [$register:ident read]
-        read_y { ReadState $y:literal $y_rs1:literal, Stbar $stbar:literal $stbar_rs1:literal }
-        read { $($name:ident $code:literal),* }
-        $($later:tt)*
-    ) => {
-        match $register { StateRegister::Y => $y, $(StateRegister::$name => $code,)* }
-    };
-    (
-        [$register:ident write]
-        write_y { WriteState $y:literal $y_rd:literal }
-        write { $($name:ident $code:literal),* }
-        $($later:tt)*
-    ) => {
-        match $register { StateRegister::Y => $y, $(StateRegister::$name => $code,)* }
-    };
-    ([$op:ident memory] memory { $($name:ident $normal:literal $alternate:literal),* } $($later:tt)*) => {
-        match $op { $(MemoryOp::$name => $normal,)* }
-    };
-    ([$op:ident alternate] memory { $($name:ident $normal:literal $alternate:literal),* } $($later:tt)*) => {
-        match $op { $(MemoryOp::$name => $alternate,)* }
-    };
-    ([$($with:ident)*] $group:ident $rows:tt $($later:tt)*) => {
-        codes!([$($with)*] $($later)*)
-    };
-}
-
-/// op3 of arithmetic and logic, with or without setting the condition codes (B.11, B.13, B.15, B.18, B.19).
-fn arithmetic_code(op: ArithOp, cc: bool) -> u32
-    ensures value { result ≡ arith_code op + cc_code cc }
-    ensures small { result < 64 }
-{
-    opcodes!(codes!(op cc arith))
-}
-
-/// op3 of tagged arithmetic (B.14, B.16).
-fn tagged_code(op: TaggedOp) -> u32
-    ensures value { result ≡ tagged_code op }
-    ensures small { result < 64 }
-{
-    opcodes!(codes!(op tagged))
-}
-
-/// op3 of a shift (B.12).
-fn shift_code(op: ShiftOp) -> u32
-    ensures value { result ≡ shift_code op }
-    ensures small { result < 64 }
-{
-    opcodes!(codes!(op shift))
-}
-
-/// op3 of RDY to RDTBR (B.28).
-fn read_code(register: StateRegister) -> u32
-    ensures value { result ≡ read_code register }
-    ensures small { result < 64 }
-{
-    opcodes!(codes!(register read))
-}
-
-/// op3 of WRY to WRTBR (B.29).
-fn write_code(register: StateRegister) -> u32
-    ensures value { result ≡ write_code register }
-    ensures small { result < 64 }
-{
-    opcodes!(codes!(register write))
-}
-
-/// op3 of a load or a store (B.1, B.4, B.7, B.8).
-fn memory_code(op: MemoryOp) -> u32
-    ensures value { result ≡ memory_code op }
-    ensures small { result < 64 }
-{
-    opcodes!(codes!(op memory))
-}
-
-/// op3 of the same with an alternate space.
-fn alternate_code(op: MemoryOp) -> u32
-    ensures value { result ≡ memory_code op + 0x10 }
-    ensures small { result < 64 }
-{
-    opcodes!(codes!(op alternate))
-}
-
-/// A `match` on an instruction, from every group.
-macro_rules! encode_rows {
-    (
-        [$instr:ident]
-        call $call:literal
-        format_2 { Unimp $unimp:literal, Bicc $bicc:literal, Sethi $sethi:literal }
-        format_2_whole $near:tt
-        arith $arith:tt
-        tagged $tagged:tt
-        three_fields { $($three:ident $three_code:literal),* }
-        two_fields { $($two:ident $two_code:literal),* }
-        shift $shift:tt
-        trap { Ticc $ticc:literal }
-        read_y { ReadState $rdy:literal $rdy_rs1:literal, Stbar $stbar:literal $stbar_rs1:literal }
-        $($later:tt)*
-    ) => {
-        match *$instr {
-            Instr::Unimp(imm22) => format_2(0, $unimp, unsigned_bits(imm22, 22)),
-            Instr::Bicc { cond, annul, disp22 } => {
-                format_2(branch_field(annul, cond), $bicc, signed_bits(disp22, 22))
-            }
-            Instr::Sethi { imm22, rd } => format_2(rd, $sethi, unsigned_bits(imm22, 22)),
-            Instr::Call { disp30 } => format_call($call, signed_bits(disp30, 30)),
-            Instr::Arith { op, cc, rd, rs1, operand } => {
-                format_3(2, rd, arithmetic_code(op, cc), rs1, source_bits(operand))
-            }
-            Instr::Tagged { op, rd, rs1, operand } => {
-                format_3(2, rd, tagged_code(op), rs1, source_bits(operand))
-            }
-            $(
-                Instr::$three { rd, rs1, operand } => {
-                    format_3(2, rd, $three_code, rs1, source_bits(operand))
-                }
-            )*
-            $(
-                Instr::$two { rs1, operand } => {
-                    format_3(2, 0, $two_code, rs1, source_bits(operand))
-                }
-            )*
-            Instr::Shift { op, rd, rs1, count } => {
-                format_3(2, rd, shift_code(op), rs1, natural_source(5, count))
-            }
-            Instr::Ticc { cond, rs1, operand } => {
-                format_3(2, condition_code(cond), $ticc, rs1, natural_source(7, operand))
-            }
-            Instr::ReadState { register, rd } => {
-                format_3(2, rd, read_code(register), $rdy_rs1, Some(0))
-            }
-            Instr::Stbar => format_3(2, 0, $stbar, $stbar_rs1, Some(0)),
-            Instr::WriteState { register, rs1, operand } => {
-                format_3(2, 0, write_code(register), rs1, source_bits(operand))
-            }
-            Instr::Memory { op, rd, rs1, operand } => {
-                format_3(3, rd, memory_code(op), rs1, source_bits(operand))
-            }
-            Instr::Alternate { op, rd, rs1, rs2, asi } => {
-                format_3(3, rd, alternate_code(op), rs1, alternate_source(asi, rs2))
-            }
-            Instr::Fp(word) => match decode(word) {
-                Instr::Fp(decoded) if decoded == word => Some(word),
-                _ => None,
-            },
-            Instr::Cp(word) => match decode(word) {
-                Instr::Cp(decoded) if decoded == word => Some(word),
-                _ => None,
-            },
-            Instr::AltImm | Instr::Illegal => None,
-        }
-    };
-}
-
-/// The word of an instruction, with its reserved bits 0.
-///
-/// That the word means the instruction again is the law `encodings_decode` of `sv8_assembler_laws`.
-///
-/// # Errors
-///
-/// `None` where a field is out of range, where the word of an `Fp` or `Cp` is no such
-/// instruction, and for `AltImm` and `Illegal`.
-#[tactic(auto, unfolding(crate::specs::Encoding::encoding))]
-pub fn encode(instr: &Instr) -> Option<u32>
-    ensures { result ≡ encoding instr.now }
-{
-    opcodes!(encode_rows!(instr))
 }
 
 /// A test of a word, from the group of the queue stores, which is the last of the list.
