@@ -24,6 +24,12 @@ SAYS = 'echo "rt: low is kept: an earlier run"; echo "== $2"; echo "logic=proved
 WAITS = "rt: low: another run on this machine is proving the same; waiting for it"
 
 
+def lanes_here() -> int:
+    """How many crates are proved side by side on this machine."""
+    processors = os.sched_getaffinity(0)
+    return ahead.lanes(len(processors), ahead.cores_of(processors), ahead.free_memory())
+
+
 class Ahead(InRepository):
     """`low` takes 4 minutes and its tests 1, `side` 2, `high` 6 on `low`; the program stands on `high` and `side`."""
 
@@ -42,10 +48,20 @@ class Ahead(InRepository):
         return shown.getvalue()
 
     def test_how_many_side_by_side(self) -> None:
-        for cores, memory, due in ((1, 64, 0), (2, 64, 0), (4, 24, 3), (4, 12, 2), (4, 8, 0), (8, 24, 3), (16, 64, 4)):
-            with self.subTest(cores=cores, memory=memory):
-                self.assertEqual(ahead.lanes(cores, memory * GIB), due)
+        few = ((1, 1, 64, 0), (2, 2, 64, 0), (4, 4, 24, 4), (4, 2, 24, 3), (4, 4, 12, 2), (4, 4, 8, 0))
+        for processors, cores, memory, due in (*few, (8, 8, 24, 4), (8, 3, 24, 3), (16, 8, 64, 4), (24, 24, 64, 6)):
+            with self.subTest(processors=processors, cores=cores, memory=memory):
+                self.assertEqual(ahead.lanes(processors, cores, memory * GIB), due)
         self.assertGreater(ahead.free_memory(), 0)
+
+    def test_processors_that_are_threads_of_one_core(self) -> None:
+        for number, siblings in enumerate(("0-1\n", "0-1\n", "2\n")):
+            place = self.room / f"cpu{number}" / "topology"
+            place.mkdir(parents=True)
+            (place / "thread_siblings_list").write_text(siblings)
+        for processors, due in (((0, 1), 1), ((0, 1, 2), 2), ((1, 2, 5), 3)):
+            self.assertEqual(ahead.cores_of(processors, self.room), due)
+        self.assertGreater(ahead.cores_of(os.sched_getaffinity(0)), 0)
 
     def test_how_many_jobs_each(self) -> None:
         for cores, memory, number, due in ((4, 24, 2, 4), (4, 13, 2, 3), (4, 10, 2, 2), (2, 64, 1, 2), (16, 64, 4, 4)):
@@ -116,7 +132,7 @@ class Ahead(InRepository):
         self.assertEqual(sorted(self.all_calls()), ["ci high", "ci side"])
 
     def test_the_launcher_asks_once_something_is_to_be_proved(self) -> None:
-        if not ahead.lanes(len(os.sched_getaffinity(0)), ahead.free_memory()):
+        if not lanes_here():
             self.skipTest("crates are not proved side by side here")
         again = self.room / "again"
         self.fake(f"if ! [ -e {again} ]; then touch {again}; sleep 100 & wait $!; fi; {PROVES}", ahead=SAYS)
@@ -128,7 +144,7 @@ class Ahead(InRepository):
 
     def test_a_toolchain_that_takes_no_name(self) -> None:
         # Its `rt ci NAME` prints how it is used; each crate is then proved in a folder of its own, the programs last.
-        if not ahead.lanes(len(os.sched_getaffinity(0)), ahead.free_memory()):
+        if not lanes_here():
             self.skipTest("crates are not proved side by side here")
         proves = f"""case $1 in
           ci) sleep 100 & wait $!;;
@@ -155,8 +171,8 @@ class Ahead(InRepository):
         self.assertEqual((sorted(self.all_calls()), shown), (["ci low", "ci side"], ""))
 
     def test_the_launcher_ends_what_is_under_way(self) -> None:
-        if not ahead.lanes(4, ahead.free_memory()):
-            self.skipTest("there is no memory for crates side by side")
+        if not lanes_here():
+            self.skipTest("crates are not proved side by side here")
         begun = self.room / "begun"
         self.fake("sleep 100 & wait $!", ahead=f"touch {begun}; sleep 100 & wait $!")
         with self.begun("--program") as process:

@@ -1,12 +1,12 @@
 """Proves crates side by side, each by a command of its own (`ways` says which), once something is to be proved.
 
 One `rt ci` of all crates gives most proofs one processor, also while others have nothing to do: it counts with the
-tests that each crate might have. So crates are asked for one by one, those with the longest way above them first, three
-at a time on four processors. The one on the longest way has two jobs, and the processors first. The others have one job
-each, which takes less processor time than two, and go on with what is left. Where a crate at work has a shorter way
-than one that becomes ready, the second does not wait for it. A crate with a far shorter way than the longest one leaves
-the processors to two others: what waits for it is far, and at the end of the longest way there are processors with
-nothing to do.
+tests that each crate might have. So crates are asked for one by one, those with the longest way above them first, four
+at a time on four processors, or three where these are threads of fewer cores. The one on the longest way has two jobs,
+and the processors first. The others have one job each, which takes less processor time than two, and go on with what is
+left. Where a crate at work has a shorter way than one that becomes ready, the second does not wait for it. A crate with
+a far shorter way than the longest one leaves the last place to others: what waits for it is far, and at the end of the
+longest way there are processors with nothing to do.
 
 A command takes some seconds before it proves anything, the more the more crates lie below. So the next crate is begun
 while the last of its libraries is under way: where commands share what they prove, its own then waits for that.
@@ -41,16 +41,30 @@ _MOST_JOBS = 4
 _NICENESS, _NICEST = 10, 19
 # Behind so many seconds a command has begun its proof, so that another one waits for it and does not begin the same.
 _BEGUN_SECONDS = 20
-# While two crates are at work, one whose way is a smaller part of the longest way than this can wait.
+# While all places but one are taken, a crate whose way is a smaller part of the longest way than this can wait.
 _NEAR = 0.4
 # A command counts the memory that is free when it begins, and with less it may give its crate one job.
 _AMPLE_BYTES = 16 << 30
 
 
-def lanes(cores: int, memory: int) -> int:
-    """How many crates are proved side by side; 0 where `rt ci` of all is as quick, or memory holds no two checks."""
-    number = min(max(3, cores // 4), memory // _CHECK_BYTES)
-    return number if cores >= 4 and number >= 2 else 0
+def lanes(processors: int, cores: int, memory: int) -> int:
+    """How many crates are proved side by side; 0 where `rt ci` of all is as quick, or memory holds no two checks.
+
+    A fourth one gains nothing where processors are threads of fewer cores than four.
+    """
+    number = min(max(min(cores, 4), 3, processors // 4), memory // _CHECK_BYTES)
+    return number if processors >= 4 and number >= 2 else 0
+
+
+def cores_of(processors: Iterable[int], topology: Path = Path("/sys/devices/system/cpu")) -> int:
+    """How many cores these processors are threads of; one each where the system does not tell."""
+    siblings = set()
+    for it in processors:
+        try:
+            siblings.add((topology / f"cpu{it}" / "topology" / "thread_siblings_list").read_text(encoding="ascii"))
+        except OSError:
+            siblings.add(str(it))
+    return len(siblings)
 
 
 def free_memory() -> int:
@@ -122,9 +136,9 @@ class Ahead:
         """Begins crates whose libraries are proved, and the one that comes next. Gives whether one is under way."""
         for crate in [it for it in self._left if self._is_ready(it)]:
             has_place = len(self._at_work()) < number or self._overtakes(crate, number)
-            if has_place and not self._can_wait(crate):
+            if has_place and not self._can_wait(crate, number):
                 self._begin_one(crate)
-        following = self._following()
+        following = self._following(number)
         if following:
             self._begin_one(following)
         return bool(self._under_way)
@@ -148,9 +162,9 @@ class Ahead:
         is_longer = any(self._order.index(it) > self._order.index(crate) for it in at_work)
         return is_longer and len(at_work) == number and free_memory() >= _AMPLE_BYTES
 
-    def _can_wait(self, crate: str) -> bool:
-        """Whether a crate leaves the processors to those at work, since what waits for it is far."""
-        return len(self._at_work()) >= 2 and self._part_of_longest(crate) < _NEAR
+    def _can_wait(self, crate: str, number: int) -> bool:
+        """Whether a crate leaves the last place to others, since what waits for it is far."""
+        return len(self._at_work()) >= max(number - 1, 2) and self._part_of_longest(crate) < _NEAR
 
     def _part_of_longest(self, crate: str) -> float:
         """The way of a crate, as a part of the longest one of it and of those that it does not wait for."""
@@ -162,13 +176,13 @@ class Ahead:
         """The crates that a crate stands on, and those that these stand on."""
         return self._below[crate].union(*(self._all_below(it) for it in self._below[crate]))
 
-    def _following(self) -> str | None:
+    def _following(self, number: int) -> str | None:
         """The crate that comes next, where it lacks libraries that are being proved, and no other crate waits so."""
         if not self._way.waits or len(self._at_work()) < len(self._under_way) or free_memory() < _AMPLE_BYTES:
             return None
         since = {it.crate: it.since for it in self._under_way}
         others = (it for it in self._left if self._below[it] <= self._proved | since.keys())
-        following = next((it for it in others if not self._can_wait(it)), None)
+        following = next((it for it in others if not self._can_wait(it, number)), None)
         lacking = self._below[following] - self._proved if following else set()
         have_begun = all(time.monotonic() - since[it] >= _BEGUN_SECONDS for it in lacking)
         return following if lacking and have_begun else None

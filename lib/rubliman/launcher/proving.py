@@ -89,8 +89,9 @@ def _prove(asked: Asked) -> Kept:
     """Proves, keeps, and tells so."""
     page = places.TOP / "docs" / "PROVING.md"
     tasks = schedule.tasks_of(asked.sources, page.read_text(encoding="utf-8") if page.is_file() else "")
-    cores = len(os.sched_getaffinity(0))
-    lanes = ahead.lanes(cores, ahead.free_memory())
+    processors = os.sched_getaffinity(0)
+    cores = len(processors)
+    lanes = ahead.lanes(cores, ahead.cores_of(processors), ahead.free_memory())
     progress, way = Progress(tasks, cores, lanes), BY_GATE
     say(
         f"proving and building {' and '.join(asked.programs)}: {progress.whole()} on {cores} processors, "
