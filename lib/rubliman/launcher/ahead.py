@@ -3,13 +3,13 @@
 One `rt ci` of all crates gives most proofs one processor, also while others have nothing to do: it counts with the
 tests that each crate might have. So crates are asked for one by one, those with the longest way above them first, four
 at a time on four processors, or three where these are threads of fewer cores. The one on the longest way has two jobs,
-and the processors first. The others have one job each, which takes less processor time than two, and go on with what is
-left. Where a crate at work has a shorter way than one that becomes ready, the second does not wait for it. A crate with
-a far shorter way than the longest one leaves the last place to others: what waits for it is far, and at the end of the
-longest way there are processors with nothing to do.
+and the processors first. So has one that leaves a processor to each other that could begin. The others have one job
+each, which takes less processor time than two, and go on with what is left. Where a crate at work has a shorter way
+than one that becomes ready, the second does not wait for it.
 
 A command takes some seconds before it proves anything, the more the more crates lie below. So the next crate is begun
-while the last of its libraries is under way: where commands share what they prove, its own then waits for that.
+while the last of its libraries is under way: where commands share what they prove, its own then waits for that. What
+builds the programs comes last in the same way.
 """
 from __future__ import annotations
 
@@ -41,8 +41,6 @@ _MOST_JOBS = 4
 _NICENESS, _NICEST = 10, 19
 # Behind so many seconds a command has begun its proof, so that another one waits for it and does not begin the same.
 _BEGUN_SECONDS = 20
-# While all places but one are taken, a crate whose way is a smaller part of the longest way than this can wait.
-_NEAR = 0.4
 # A command counts the memory that is free when it begins, and with less it may give its crate one job.
 _AMPLE_BYTES = 16 << 30
 
@@ -90,6 +88,7 @@ class _Begun:
     """A crate under way: its process, and what it says."""
 
     crate: str
+    jobs: int
     process: subprocess.Popen[bytes]
     said: IO[bytes]
     since: float
@@ -103,6 +102,7 @@ class Ahead:
     ) -> None:
         self._tasks = list(tasks)
         self._way, self._environment, self._progress, self._jobs = way, environment, progress, jobs
+        self._processors = len(os.sched_getaffinity(0))
         self._proved = set(progress.proved)
         self._ways = schedule.ways_above([it for it in self._tasks if not it.of_tests])
         self._order = schedule.longest_first(self._ways)
@@ -135,10 +135,9 @@ class Ahead:
     def _begin(self, number: int) -> bool:
         """Begins crates whose libraries are proved, and the one that comes next. Gives whether one is under way."""
         for crate in [it for it in self._left if self._is_ready(it)]:
-            has_place = len(self._at_work()) < number or self._overtakes(crate, number)
-            if has_place and not self._can_wait(crate, number):
+            if len(self._at_work()) < number or self._overtakes(crate, number):
                 self._begin_one(crate)
-        following = self._following(number)
+        following = self._following()
         if following:
             self._begin_one(following)
         return bool(self._under_way)
@@ -162,27 +161,28 @@ class Ahead:
         is_longer = any(self._order.index(it) > self._order.index(crate) for it in at_work)
         return is_longer and len(at_work) == number and free_memory() >= _AMPLE_BYTES
 
-    def _can_wait(self, crate: str, number: int) -> bool:
-        """Whether a crate leaves the last place to others, since what waits for it is far."""
-        return len(self._at_work()) >= max(number - 1, 2) and self._part_of_longest(crate) < _NEAR
+    def _jobs_of(self, crate: str) -> int:
+        """The jobs of a crate: more than one on the longest way, or where each other that is ready has a processor."""
+        others = [it for it in self._under_way if it.crate not in self._below[crate]]
+        ready = [it for it in self._left if it != crate and self._is_ready(it)]
+        idle = self._processors - sum(it.jobs for it in others) - len(ready)
+        return self._jobs if self._is_on_longest(crate) or idle >= self._jobs else 1
 
-    def _part_of_longest(self, crate: str) -> float:
-        """The way of a crate, as a part of the longest one of it and of those that it does not wait for."""
+    def _is_on_longest(self, crate: str) -> bool:
+        """Whether no crate has a longer way, of those that this one does not wait for."""
         others = {*self._left, *(it.crate for it in self._under_way)} - self._proved - self._all_below(crate)
-        longest = max(self._ways[it] for it in {crate, *others})
-        return self._ways[crate] / longest if longest else 1.0
+        return all(self._ways[it] <= self._ways[crate] for it in others)
 
     def _all_below(self, crate: str) -> set[str]:
         """The crates that a crate stands on, and those that these stand on."""
         return self._below[crate].union(*(self._all_below(it) for it in self._below[crate]))
 
-    def _following(self, number: int) -> str | None:
+    def _following(self) -> str | None:
         """The crate that comes next, where it lacks libraries that are being proved, and no other crate waits so."""
         if not self._way.waits or len(self._at_work()) < len(self._under_way) or free_memory() < _AMPLE_BYTES:
             return None
         since = {it.crate: it.since for it in self._under_way}
-        others = (it for it in self._left if self._below[it] <= self._proved | since.keys())
-        following = next((it for it in others if not self._can_wait(it, number)), None)
+        following = next((it for it in self._left if self._below[it] <= self._proved | since.keys()), None)
         lacking = self._below[following] - self._proved if following else set()
         have_begun = all(time.monotonic() - since[it] >= _BEGUN_SECONDS for it in lacking)
         return following if lacking and have_begun else None
@@ -190,7 +190,8 @@ class Ahead:
     def _of(self, crate: str) -> _Begun:
         """The proof of a crate that is left, begun."""
         self._left.remove(crate)
-        words, folder = self._way.begin(crate, self._jobs if self._part_of_longest(crate) >= 1 else 1)
+        jobs = self._jobs_of(crate)
+        words, folder = self._way.begin(crate, jobs)
         others = (it.crate for it in self._under_way if it.crate not in self._below[crate])
         longer = sum(self._order.index(it) < self._order.index(crate) for it in others)
         if longer:
@@ -205,7 +206,7 @@ class Ahead:
             stderr=subprocess.STDOUT,
             start_new_session=True,
         )
-        return _Begun(crate, process, said, time.monotonic())
+        return _Begun(crate, jobs, process, said, time.monotonic())
 
     def _look(self) -> None:
         """Notes which crates are proved. What is left of their commands holds no other crate back."""
