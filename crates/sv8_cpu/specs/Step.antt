@@ -12,10 +12,10 @@ use Rattle.sv8_trap.specs.Table.{taken}
 use Rattle.sv8_trap.specs.Processor.{Processor, slot_skipped}
 use Rattle.sv8_trap.specs.Entry.{with_trap, interrupted}
 use Rattle.sv8_trap.specs.Interrupt.{unmasked, highest}
-use Rattle.sv8_iu.specs.declared.request.AccessRequest.TheVariants.{Fetch}
-use Rattle.sv8_iu.specs.declared.request.Response.{Response}
-use Rattle.sv8_iu.specs.declared.request.Response.TheVariants.{Value, Refused}
-use Rattle.sv8_iu.specs.Memory.{low_word}
+use Rattle.sv8_trap.specs.declared.request.AccessRequest.TheVariants.{Fetch}
+use Rattle.sv8_trap.specs.declared.request.Response.{Response}
+use Rattle.sv8_trap.specs.declared.request.Response.TheVariants.{Value, Refused}
+use Rattle.sv8_model.specs.Words.{low_word}
 use Rattle.sv8_iu.specs.Seen.{trap_seen}
 use Rattle.sv8_iu.specs.Instruction.{raised, trapped, asked, complete}
 use Rattle.sv8_memory.specs.Units.{Units, Served}

@@ -15,8 +15,8 @@ use Rattle.sv8_time.specs.Schedule.{Schedule, BytePoke, pokes_of_step}
 use Rattle.sv8_phys.specs.Memory.{ram_size}
 use Rattle.sv8_phys.specs.Devices.{input_address}
 use Rattle.sv8_mmu.specs.Registers.{translates}
-use Rattle.sv8_iu.specs.declared.request.AccessRequest.{AccessRequest}
-use Rattle.sv8_iu.specs.Requests.{IsAligned}
+use Rattle.sv8_trap.specs.declared.request.AccessRequest.{AccessRequest}
+use Rattle.sv8_trap.specs.Requests.{IsAligned}
 use Rattle.sv8_memory.specs.Units.{Units}
 use Rattle.sv8_memory.specs.Access.{access}
 use Rattle.sv8_cpu.specs.State.{State}

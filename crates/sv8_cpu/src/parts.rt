@@ -14,13 +14,11 @@ ghost use Rattle.sv8_cpu.specs.Whole.{inner_of_parts, Acts};
 
 use std::alloc::AllocError;
 use sv8_isa::{Group, Instr, decode, group};
-use sv8_iu::{
-    AccessRequest, Response, asked, carry_out_unaided, complete, low_word, raised_by, show_trap,
-    take_trap,
-};
+use sv8_iu::{asked, carry_out_unaided, complete, raised_by, show_trap, take_trap};
 use sv8_memory::{Feed, Memory};
+use sv8_model::low_word;
 use sv8_phys::Touches;
-use sv8_trap::{Processor, Trap, highest_level};
+use sv8_trap::{AccessRequest, Processor, Response, Trap, highest_level};
 
 /// The state of a machine, kept in one place so that a step changes it where it stands.
 #[derive(Drop)]

@@ -19,10 +19,10 @@ ghost use Rattle.sv8_cpu.specs.Whole.{inner_of_parts, Acts};
 use crate::parts::{Parts, show_refusal};
 use std::alloc::AllocError;
 use sv8_isa::{Group, Instr, MemoryOp, Operand, decode_memory};
-use sv8_iu::{Response, data_space, finish_access, memory_trap, sum_of_sources};
+use sv8_iu::{data_space, finish_access, memory_trap, sum_of_sources};
 use sv8_memory::{Feed, Memory};
 use sv8_phys::{Size, Touches};
-use sv8_trap::Processor;
+use sv8_trap::{Processor, Response};
 
 /// Makes the access of a load or a store of a word or a byte. `None` for the others: nothing is done.
 #[inline(always)]

@@ -4,7 +4,7 @@ use Rattle.sv8_isa.specs.declared.instr.Instr.{Instr}
 use Rattle.sv8_isa.specs.declared.instr.Instr.TheVariants as row
 use Rattle.sv8_isa.specs.Accesses.{makes_access}
 use Rattle.sv8_trap.specs.Processor.{Processor}
-use Rattle.sv8_iu.specs.declared.request.AccessRequest.TheVariants.{Nothing}
+use Rattle.sv8_trap.specs.declared.request.AccessRequest.TheVariants.{Nothing}
 use Rattle.sv8_iu.specs.Instruction.{asked}
 
 pub asks_for_nothing : (windows : ℕ) (p : Processor) (i : Instr) → makes_access i ≡ false → asked windows p i ≡ Nothing

@@ -15,7 +15,7 @@ use Rattle.sv8_model.specs.Size.{bytes_in}
 use Rattle.sv8_iu.specs.Operands.{sum_of_sources, when}
 use Rattle.sv8_iu.specs.Control.{is_misaligned, jump_traps, return_traps}
 use Rattle.sv8_iu.specs.StateRegisters.{is_privileged, names_no_window, written_word, write_traps}
-use Rattle.sv8_iu.specs.Requests.{IsAligned}
+use Rattle.sv8_trap.specs.Requests.{IsAligned}
 use Rattle.sv8_iu.specs.declared.memory.TransferKind.{TransferKind}
 use Rattle.sv8_iu.specs.declared.memory.TransferKind.TheVariants as kinds
 use Rattle.sv8_iu.specs.Memory.{transfer_of, size_of, takes_pair, memory_traps, requested, access_of}

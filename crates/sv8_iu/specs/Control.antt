@@ -3,8 +3,7 @@ use Rattle.std.specs.Prelude.{ℕ, ℤ, ◌*◌, ◌%◌, ◌^◌, ◌==◌, Boo
 use Rattle.sv8_isa.specs.declared.instr.Operand.{Operand}
 use Rattle.sv8_isa.specs.declared.instr.Cond.{Cond}
 use Rattle.sv8_isa.specs.declared.instr.Cond.TheVariants.{Never, Equal, LessOrEqual, Less, LessOrEqualUnsigned, CarrySet, Negative, OverflowSet, Always, NotEqual, Greater, GreaterOrEqual, GreaterUnsigned, CarryClear, Positive, OverflowClear}
-use Rattle.sv8_model.specs.Words.{word_of_number}
-use Rattle.sv8_model.specs.Words.{bit}
+use Rattle.sv8_model.specs.Words.{word_of_number, bit}
 use Rattle.sv8_regs.specs.Control.{above}
 use Rattle.sv8_regs.specs.declared.Psr.{Psr}
 use Rattle.sv8_trap.specs.declared.table.Trap.{Trap}

@@ -11,8 +11,8 @@ use Rattle.sv8_trap.specs.declared.table.Trap.TheVariants.{PrivilegedInstruction
 use Rattle.sv8_trap.specs.Table.{taken}
 use Rattle.sv8_trap.specs.Entry.{with_trap, with_return_trap, returned}
 use Rattle.sv8_trap.specs.Processor.{Processor, advanced}
-use Rattle.sv8_iu.specs.declared.request.AccessRequest.{AccessRequest}
-use Rattle.sv8_iu.specs.declared.request.AccessRequest.TheVariants.{Nothing}
+use Rattle.sv8_trap.specs.declared.request.AccessRequest.{AccessRequest}
+use Rattle.sv8_trap.specs.declared.request.AccessRequest.TheVariants.{Nothing}
 use Rattle.sv8_iu.specs.Operands.{sum_of_sources, when}
 use Rattle.sv8_iu.specs.Arithmetic.{arithmetic, arithmetic_traps, tagged, tagged_traps, multiply_step, shifted, upper_set}
 use Rattle.sv8_iu.specs.Control.{branched, called, jump_traps, jumped, return_traps, number_traps}

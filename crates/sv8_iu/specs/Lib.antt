@@ -3,7 +3,6 @@ pub mod Arithmetic
 pub mod Control
 pub mod Windows
 pub mod StateRegisters
-pub mod Requests
 pub mod Memory
 pub mod Instruction
 pub mod Seen

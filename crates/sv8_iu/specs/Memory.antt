@@ -14,8 +14,8 @@ use Rattle.sv8_iu.specs.Operands.{when}
 use Rattle.sv8_iu.specs.declared.memory.Transfer.{Transfer}
 use Rattle.sv8_iu.specs.declared.memory.TransferKind.{TransferKind}
 use Rattle.sv8_iu.specs.declared.memory.TransferKind.TheVariants as kinds
-use Rattle.sv8_iu.specs.declared.request.AccessRequest.{AccessRequest}
-use Rattle.sv8_iu.specs.declared.request.AccessRequest.TheVariants.{Load, Store, Exchange}
+use Rattle.sv8_trap.specs.declared.request.AccessRequest.{AccessRequest}
+use Rattle.sv8_trap.specs.declared.request.AccessRequest.TheVariants.{Load, Store, Exchange}
 
 -- what each of them does, and of how much
 abbrev pub transfer_of : MemoryOp → Transfer
@@ -67,10 +67,6 @@ requested windows p kinds.Mark size asi rd address = Exchange size asi address 0
 
 unfoldable pub access_of : ℕ → Processor → MemoryOp → ℕ → ℕ → ℕ → AccessRequest
 access_of windows p op asi rd address = requested windows p (transfer_of op).kind (size_of op) asi rd address
-
--- the low word of what an access gave
-abbrev pub low_word : ℕ → ℕ
-low_word value = value % 2 ^ 32
 
 -- k bits with their sign in the bits above
 unfoldable pub sign_extended : ℕ → ℕ → ℕ

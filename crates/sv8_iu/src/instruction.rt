@@ -6,7 +6,7 @@ ghost use Rattle.sv8_trap.specs.Table.{taken};
 ghost use Rattle.sv8_isa.specs.Table.{is_queue_store};
 ghost use Rattle.sv8_iu.specs.Operands.{sum_of_sources};
 ghost use Rattle.sv8_iu.specs.Instruction.{disabled_traps, immediate_traps, raised, trapped, data_space, asked, complete};
-ghost use Rattle.sv8_iu.specs.Requests.{space_of, IsAligned};
+ghost use Rattle.sv8_trap.specs.Requests.{space_of, IsAligned};
 
 use crate::arithmetic::{
     arithmetic, arithmetic_trap, multiply_step, set_upper, shift, tagged, tagged_trap,
@@ -14,11 +14,10 @@ use crate::arithmetic::{
 use crate::control::{branch, call, go_back, jump, jump_trap, number_trap, return_trap};
 use crate::memory::{access_of, alternate_trap, finish_access, memory_trap};
 use crate::operands::sum_of_sources;
-use crate::request::{AccessRequest, Space};
 use crate::state_registers::{read_state, read_trap, write_state, write_trap};
 use crate::windows::{restore, restore_trap, save, save_trap};
 use sv8_isa::{Instr, Operand, is_queue_store};
-use sv8_trap::{Processor, Trap};
+use sv8_trap::{AccessRequest, Processor, Space, Trap};
 
 /// The trap of an instruction of a unit that is not there.
 #[tactic(auto, using(crate::proofs::Choices::privileged_choice), unfolding(crate::specs::Instruction::disabled_traps))]
@@ -103,7 +102,7 @@ pub fn take_trap<const NW: usize>(p: &mut Processor<NW>, instr: Instr, trap: Tra
 
 /// The address space of plain loads and stores.
 #[inline(always)]
-#[tactic(auto, unfolding(crate::specs::Requests::space_of))]
+#[tactic(auto, unfolding(sv8_trap::specs::Requests::space_of))]
 pub fn data_space<const NW: usize>(p: &Processor<NW>) -> u8
     ensures value { result ≡ data_space p.now }
     ensures space { space_of result ≡ Space.Virtual }

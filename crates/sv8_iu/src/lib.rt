@@ -7,15 +7,13 @@ mod control;
 mod instruction;
 mod memory;
 mod operands;
-mod request;
 mod seen;
 mod state_registers;
 mod unaided;
 mod windows;
 
 pub use instruction::{asked, complete, data_space, raised_by, take_trap};
-pub use memory::{Transfer, TransferKind, finish_access, low_word, memory_trap};
+pub use memory::{Transfer, TransferKind, finish_access, memory_trap};
 pub use operands::sum_of_sources;
-pub use request::{AccessRequest, Response, Space, space_of};
 pub use seen::show_trap;
 pub use unaided::carry_out_unaided;

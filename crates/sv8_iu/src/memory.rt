@@ -1,17 +1,16 @@
 //! Loads, stores, LDSTUB and SWAP (Appendices B.1 to B.8).
 
 ghost use Rattle.std.specs.Prelude.{◌≡◌, ◌<◌, ◌+◌, ◌*◌, ◌/◌, ◌%◌, ◌^◌, true, ◌==◌, ◌&&◌};
-ghost use Rattle.sv8_model.specs.Words.{signed};
+ghost use Rattle.sv8_model.specs.Words.{signed, low_word};
 ghost use Rattle.sv8_model.specs.Size.{bytes_in};
 ghost use Rattle.sv8_trap.specs.Table.{taken};
-ghost use Rattle.sv8_iu.specs.Memory.{transfer_of, odd_register, takes_pair, memory_traps, pair, stored, access_of, low_word, with_pair, loaded, with_sign, transferred_data};
+ghost use Rattle.sv8_iu.specs.Memory.{transfer_of, odd_register, takes_pair, memory_traps, pair, stored, access_of, with_pair, loaded, with_sign, transferred_data};
 ghost use Rattle.sv8_iu.specs.Instruction.{alternate_traps};
 
 use crate::operands::word_of;
-use crate::request::AccessRequest;
 use sv8_isa::MemoryOp;
-use sv8_model::Size;
-use sv8_trap::{Processor, Trap};
+use sv8_model::{Size, low_word};
+use sv8_trap::{AccessRequest, Processor, Trap};
 
 /// What a load or a store does.
 #[derive(Clone, Copy)]
@@ -184,14 +183,6 @@ pub fn access_of<const NW: usize>(
         at,
         value,
     }
-}
-
-/// The low word of what an access gave.
-#[inline(always)]
-pub fn low_word(value: u64) -> u32
-    ensures { result ≡ low_word value }
-{
-    (value % 0x1_0000_0000) as u32
 }
 
 /// The number that the low byte of another stands for.

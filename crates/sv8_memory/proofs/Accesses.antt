@@ -26,7 +26,7 @@ use Rattle.sv8_mmu.specs.Probe.{probe}
 use Rattle.sv8_mmu.specs.Kept.{Kept, AllStand}
 use Rattle.sv8_trap.specs.declared.table.Trap.{Trap}
 use Rattle.sv8_memory.specs.Units.{Units, Served, served, failed}
-use Rattle.sv8_iu.specs.Memory.{low_word}
+use Rattle.sv8_model.specs.Words.{low_word}
 use Rattle.sv8_memory.specs.Access.{access_seen, seen_if, observed, fetched_from, load_answer, takes_byte, counts_bytes, plainly_loaded, loaded_from, store_answer, stored_at, exchanged_at, located, at_virtual, is_word, probed}
 
 no_console : (size : Size) (pa console : ℕ) → pa < console → (is_word size && pa == console) ≡ false

@@ -12,9 +12,9 @@ use Rattle.sv8_mmu.specs.declared.translation.Translated.TheVariants.{At}
 use Rattle.sv8_mmu.specs.Registers.{translates}
 use Rattle.sv8_mmu.specs.Translation.{translate, is_device}
 use Rattle.sv8_trap.specs.declared.table.Trap.TheVariants.{InstructionAccessException, DataAccessException}
-use Rattle.sv8_iu.specs.declared.request.AccessRequest.TheVariants.{Fetch, Load, Store}
-use Rattle.sv8_iu.specs.declared.request.Space.TheVariants.{Virtual}
-use Rattle.sv8_iu.specs.Requests.{space_of}
+use Rattle.sv8_trap.specs.declared.request.AccessRequest.TheVariants.{Fetch, Load, Store}
+use Rattle.sv8_trap.specs.declared.request.Space.TheVariants.{Virtual}
+use Rattle.sv8_trap.specs.Requests.{space_of}
 use Rattle.sv8_memory.specs.Units.{Units, served}
 use Rattle.sv8_memory.specs.Access.{access, instruction_space, load_type, store_type, reach_of, fetched_from, takes_byte, counts_bytes, loaded_from, stored_at}
 use Rattle.sv8_memory.specs.View.{IsTaken}

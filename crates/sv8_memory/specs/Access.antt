@@ -26,13 +26,13 @@ use Rattle.sv8_mmu.specs.Probe.{probe}
 use Rattle.sv8_trap.specs.declared.table.Trap.{Trap}
 use Rattle.sv8_trap.specs.declared.table.Trap.TheVariants.{InstructionAccessException, DataAccessException}
 use Rattle.sv8_memory.specs.Units.{Units, Served, served, failed}
-use Rattle.sv8_iu.specs.declared.request.AccessRequest.{AccessRequest}
-use Rattle.sv8_iu.specs.declared.request.AccessRequest.TheVariants as request
-use Rattle.sv8_iu.specs.declared.request.Response.TheVariants.{Refused}
-use Rattle.sv8_iu.specs.declared.request.Space.{Space}
-use Rattle.sv8_iu.specs.declared.request.Space.TheVariants as space
-use Rattle.sv8_iu.specs.Memory.{low_word}
-use Rattle.sv8_iu.specs.Requests.{space_of}
+use Rattle.sv8_trap.specs.declared.request.AccessRequest.{AccessRequest}
+use Rattle.sv8_trap.specs.declared.request.AccessRequest.TheVariants as request
+use Rattle.sv8_trap.specs.declared.request.Response.TheVariants.{Refused}
+use Rattle.sv8_trap.specs.declared.request.Space.{Space}
+use Rattle.sv8_trap.specs.declared.request.Space.TheVariants as space
+use Rattle.sv8_model.specs.Words.{low_word}
+use Rattle.sv8_trap.specs.Requests.{space_of}
 
 -- ---- address spaces
 

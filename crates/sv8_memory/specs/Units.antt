@@ -5,8 +5,8 @@ use Rattle.sv8_mmu.specs.declared.registers.Mmu.{Mmu}
 use Rattle.sv8_mmu.specs.declared.registers.Fault.{Fault}
 use Rattle.sv8_mmu.specs.Registers.{has_no_fault, recorded}
 use Rattle.sv8_trap.specs.declared.table.Trap.{Trap}
-use Rattle.sv8_iu.specs.declared.request.Response.{Response}
-use Rattle.sv8_iu.specs.declared.request.Response.TheVariants.{Value, Refused}
+use Rattle.sv8_trap.specs.declared.request.Response.{Response}
+use Rattle.sv8_trap.specs.declared.request.Response.TheVariants.{Value, Refused}
 
 pub record Units : Type 0 where
   pub mmu : Mmu

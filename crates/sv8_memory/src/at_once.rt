@@ -9,7 +9,7 @@ ghost use Rattle.sv8_model.specs.Size.{bytes_in};
 ghost use Rattle.sv8_phys.specs.declared.timer.Timer.{Timer};
 ghost use Rattle.sv8_phys.specs.Memory.{ram_size};
 ghost use Rattle.sv8_phys.specs.Contents.{outside_of};
-ghost use Rattle.sv8_iu.specs.Requests.{space_of};
+ghost use Rattle.sv8_trap.specs.Requests.{space_of};
 ghost use Rattle.sv8_memory.specs.Units.{served};
 ghost use Rattle.sv8_memory.specs.Feeding.{bytes_fed, IsFed};
 ghost use Rattle.sv8_memory.specs.Access.{access};
@@ -20,9 +20,9 @@ use crate::locating::reach_of;
 use crate::physical::{Physical, counts_bytes, load_type, store_type};
 use crate::spaces::instruction_space;
 use std::alloc::AllocError;
-use sv8_iu::{AccessRequest, Space};
 use sv8_mmu::{Buffer, Reach, VirtualAccess, address_in_ram, is_device};
 use sv8_phys::{NoTouches, Size};
+use sv8_trap::{AccessRequest, Space};
 
 /// The word that a fetch gives.
 #[inline(always)]

@@ -16,9 +16,9 @@ use crate::physical::{Physical, load_type, store_type};
 use crate::spaces::{instruction_space, load_virtual};
 use crate::stores::{store_physical, store_virtual};
 use std::alloc::AllocError;
-use sv8_iu::{AccessRequest, Response, Space};
 use sv8_mmu::{Buffer, Reach, VirtualAccess, resolve_by_memo};
 use sv8_phys::{Size, Touches};
+use sv8_trap::{AccessRequest, Response, Space};
 
 /// Fetches an instruction, where addresses are translated.
 #[inline(always)]

@@ -12,10 +12,9 @@ ghost use Rattle.sv8_memory.specs.Locating.{Locates, IsPlace};
 
 use crate::physical::Physical;
 use std::alloc::AllocError;
-use sv8_iu::Response;
 use sv8_mmu::{Buffer, Fault, FaultType, Reach, TableLevel, Translated, VirtualAccess, resolve};
 use sv8_phys::{Size, Touches};
-use sv8_trap::Trap;
+use sv8_trap::{Response, Trap};
 
 /// What serves a load or a store of a size.
 #[inline(always)]

@@ -11,7 +11,7 @@ ghost use Rattle.sv8_phys.specs.Contents.{outside_of};
 ghost use Rattle.sv8_phys.specs.Devices.{tick};
 ghost use Rattle.sv8_mmu.specs.Registers.{registers_at_reset, translates};
 ghost use Rattle.sv8_memory.specs.Events.{with_events};
-ghost use Rattle.sv8_iu.specs.Requests.{space_of, IsAligned};
+ghost use Rattle.sv8_trap.specs.Requests.{space_of, IsAligned};
 ghost use Rattle.sv8_memory.specs.Feeding.{bytes_fed, IsFed};
 ghost use Rattle.sv8_memory.specs.Access.{access};
 ghost use Rattle.sv8_memory.specs.Units.{served};
@@ -26,11 +26,11 @@ use crate::spaces::{access, load_untranslated};
 use crate::stores::store_untranslated;
 use std::alloc::{AllocError, Global};
 use std::marker::Model;
-use sv8_iu::{AccessRequest, Response, Space};
 use sv8_mmu::{Buffer, Mmu};
 use sv8_model::Level;
 use sv8_phys::{Page, Phys, Size, Touches};
 use sv8_time::Timeline;
+use sv8_trap::{AccessRequest, Response, Space};
 
 /// Physical memory and the memory management unit with its lookaside buffer, of which nothing shows.
 pub struct Memory<const PAGES: usize> {

@@ -12,10 +12,10 @@ ghost use Rattle.sv8_memory.specs.View.{MemoryDoes, units_of};
 
 use crate::feed::Feed;
 use std::alloc::AllocError;
-use sv8_iu::{Response, low_word};
 use sv8_mmu::{AccessType, Fault, FaultType, Mmu, TableLevel};
+use sv8_model::low_word;
 use sv8_phys::{AccessKind, BusError, INPUT, Observation, Phys, Size, Touches, WAITING};
-use sv8_trap::Trap;
+use sv8_trap::{Response, Trap};
 
 /// Physical memory of `PAGES` pages of RAM with the devices, and the memory management unit's registers.
 #[derive(Drop)]

@@ -7,7 +7,7 @@ ghost use Rattle.sv8_model.specs.Size.{bytes_in};
 ghost use Rattle.sv8_mmu.specs.Registers.{translates};
 ghost use Rattle.sv8_phys.specs.Memory.{ram_size};
 ghost use Rattle.sv8_memory.specs.Units.{served};
-ghost use Rattle.sv8_iu.specs.Requests.{space_of, IsAligned};
+ghost use Rattle.sv8_trap.specs.Requests.{space_of, IsAligned};
 ghost use Rattle.sv8_memory.specs.Feeding.{bytes_fed, IsFed};
 ghost use Rattle.sv8_memory.specs.Access.{load_type, physical_place, fetched_in, loaded_in, reach_of, instruction_space, is_word, register_loaded, probed, access};
 ghost use Rattle.sv8_memory.specs.View.{MemoryDoes, units_of, Serves};
@@ -17,10 +17,9 @@ use crate::locating::{Place, locate, physical_place, reach_of};
 use crate::physical::{Physical, is_word, load_type};
 use crate::stores::{exchange, store};
 use std::alloc::AllocError;
-use sv8_iu::{AccessRequest, Response, Space, space_of};
 use sv8_mmu::{Buffer, Reach, VirtualAccess, probe_by_address};
 use sv8_phys::{Size, Touches};
-use sv8_trap::Trap;
+use sv8_trap::{AccessRequest, Response, Space, Trap, space_of};
 
 /// The address space that instructions are fetched from.
 #[inline(always)]

@@ -7,17 +7,16 @@ ghost use Rattle.sv8_model.specs.Size.{bytes_in};
 ghost use Rattle.sv8_mmu.specs.Registers.{translates};
 ghost use Rattle.sv8_phys.specs.Memory.{ram_size};
 ghost use Rattle.sv8_memory.specs.Units.{served};
-ghost use Rattle.sv8_iu.specs.Requests.{space_of};
+ghost use Rattle.sv8_trap.specs.Requests.{space_of};
 ghost use Rattle.sv8_memory.specs.Access.{store_type, physical_place, stored_in, exchanged_in, stored_at, exchanged_at, reach_of, is_word, register_stored, access};
 ghost use Rattle.sv8_memory.specs.View.{MemoryDoes, units_of, Serves};
 
 use crate::locating::{Place, locate, physical_place, reach_of};
 use crate::physical::{Physical, is_word, store_type};
 use std::alloc::AllocError;
-use sv8_iu::{AccessRequest, Response, Space, space_of};
 use sv8_mmu::{Buffer, Reach, VirtualAccess};
 use sv8_phys::{Size, Touches};
-use sv8_trap::Trap;
+use sv8_trap::{AccessRequest, Response, Space, Trap, space_of};
 
 /// Stores to RAM or a device at a physical address. What the buffer keeps of the page is forgotten.
 #[inline(always)]

@@ -5,6 +5,10 @@ use Rattle.std.specs.Prelude.{ℕ, ℤ, pos, negsuc, Bool, ◌+◌, ◌-◌, ◌
 unfoldable pub field : ℕ → ℕ → ℕ → ℕ
 field word high low = word / 2 ^ low % 2 ^ (high - low + 1)
 
+-- the low 32 bits of a number
+abbrev pub low_word : ℕ → ℕ
+low_word number = number % 2 ^ 32
+
 -- bit l of a word is set
 abbrev pub bit : ℕ → ℕ → Bool
 bit word l = word / 2 ^ l % 2 == 1

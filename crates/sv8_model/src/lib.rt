@@ -12,6 +12,7 @@ mod refused;
 mod size;
 mod touch;
 mod touches;
+mod words;
 
 pub use arrivals::Arrivals;
 pub use level::Level;
@@ -20,3 +21,4 @@ pub use refused::Refused;
 pub use size::Size;
 pub use touch::{Touch, TouchKind};
 pub use touches::{NoTouches, Touches};
+pub use words::low_word;

@@ -5,8 +5,8 @@ use Rattle.sv8_model.specs.Action.{result_of}
 use Rattle.sv8_model.specs.declared.size.Size.{Size}
 use Rattle.sv8_mmu.specs.declared.translation.Reach.TheVariants.{Ram}
 use Rattle.sv8_mmu.specs.Translation.{is_served}
-use Rattle.sv8_iu.specs.declared.request.Response.{Response}
-use Rattle.sv8_iu.specs.declared.request.Response.TheVariants.{Value, Refused}
+use Rattle.sv8_trap.specs.declared.request.Response.{Response}
+use Rattle.sv8_trap.specs.declared.request.Response.TheVariants.{Value, Refused}
 use Rattle.sv8_memory.specs.Units.{Units, is_hidden}
 use Rattle.sv8_memory.specs.Access.{reach_of, loaded_from, stored_at, exchanged_at, fetched_from}
 

@@ -39,9 +39,9 @@ use Rattle.sv8_trap.specs.declared.table.Trap.TheVariants.{IllegalInstruction}
 use Rattle.sv8_trap.specs.Table.{taken}
 use Rattle.sv8_trap.specs.Processor.{Processor}
 use Rattle.sv8_trap.specs.Interrupt.{unmasked, highest}
-use Rattle.sv8_iu.specs.declared.request.AccessRequest.TheVariants.{Fetch}
-use Rattle.sv8_iu.specs.declared.request.Response.{Response}
-use Rattle.sv8_iu.specs.declared.request.Response.TheVariants.{Value, Refused}
+use Rattle.sv8_trap.specs.declared.request.AccessRequest.TheVariants.{Fetch}
+use Rattle.sv8_trap.specs.declared.request.Response.{Response}
+use Rattle.sv8_trap.specs.declared.request.Response.TheVariants.{Value, Refused}
 use Rattle.sv8_iu.specs.Instruction.{raised}
 use Rattle.sv8_memory.specs.Units.{Units, Served, is_hidden, failed}
 use Rattle.sv8_memory.specs.Access.{located, at_virtual, fetched_from, access}

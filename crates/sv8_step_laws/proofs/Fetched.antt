@@ -23,7 +23,7 @@ use Rattle.sv8_trap.specs.Table.{row_of}
 use Rattle.sv8_trap.specs.Processor.{slot_skipped}
 use Rattle.sv8_trap.specs.Entry.{interrupted}
 use Rattle.sv8_trap.specs.Interrupt.{highest_from, highest}
-use Rattle.sv8_iu.specs.declared.request.AccessRequest.TheVariants.{Fetch}
+use Rattle.sv8_trap.specs.declared.request.AccessRequest.TheVariants.{Fetch}
 use Rattle.sv8_memory.specs.Units.{Units, Served}
 use Rattle.sv8_memory.specs.Access.{at_virtual, fetched_from, access}
 use Rattle.sv8_iu.specs.Seen.{trap_seen}

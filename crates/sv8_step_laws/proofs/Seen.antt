@@ -44,13 +44,13 @@ use Rattle.sv8_trap.specs.declared.table.Trap.{Trap}
 use Rattle.sv8_trap.specs.Table.{taken}
 use Rattle.sv8_trap.specs.Processor.{Processor}
 use Rattle.sv8_trap.specs.Interrupt.{highest}
-use Rattle.sv8_iu.specs.declared.request.AccessRequest.{AccessRequest}
-use Rattle.sv8_iu.specs.declared.request.AccessRequest.TheVariants as request
-use Rattle.sv8_iu.specs.declared.request.Response.{Response}
-use Rattle.sv8_iu.specs.declared.request.Response.TheVariants.{Value, Refused}
-use Rattle.sv8_iu.specs.declared.request.Space.{Space}
-use Rattle.sv8_iu.specs.declared.request.Space.TheVariants as space
-use Rattle.sv8_iu.specs.Requests.{IsAligned, space_of}
+use Rattle.sv8_trap.specs.declared.request.AccessRequest.{AccessRequest}
+use Rattle.sv8_trap.specs.declared.request.AccessRequest.TheVariants as request
+use Rattle.sv8_trap.specs.declared.request.Response.{Response}
+use Rattle.sv8_trap.specs.declared.request.Response.TheVariants.{Value, Refused}
+use Rattle.sv8_trap.specs.declared.request.Space.{Space}
+use Rattle.sv8_trap.specs.declared.request.Space.TheVariants as space
+use Rattle.sv8_trap.specs.Requests.{IsAligned, space_of}
 use Rattle.sv8_iu.specs.Operands.{sum_of_sources}
 use Rattle.sv8_iu.specs.Instruction.{raised, asked, data_space}
 use Rattle.sv8_iu.proofs.Choices.{aligned_request, aligned_alternate}

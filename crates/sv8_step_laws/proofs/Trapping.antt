@@ -34,13 +34,13 @@ use Rattle.sv8_trap.specs.Table.{row_of}
 use Rattle.sv8_trap.specs.Processor.{Processor}
 use Rattle.sv8_trap.specs.Entry.{trap_registers, entered_from, interrupted, with_trap, with_return_trap}
 use Rattle.sv8_trap.specs.Interrupt.{highest}
-use Rattle.sv8_iu.specs.declared.request.AccessRequest.{AccessRequest}
-use Rattle.sv8_iu.specs.declared.request.AccessRequest.TheVariants as request
-use Rattle.sv8_iu.specs.declared.request.Response.{Response}
-use Rattle.sv8_iu.specs.declared.request.Response.TheVariants.{Value, Refused}
-use Rattle.sv8_iu.specs.declared.request.Space.{Space}
-use Rattle.sv8_iu.specs.declared.request.Space.TheVariants as space
-use Rattle.sv8_iu.specs.Requests.{space_of}
+use Rattle.sv8_trap.specs.declared.request.AccessRequest.{AccessRequest}
+use Rattle.sv8_trap.specs.declared.request.AccessRequest.TheVariants as request
+use Rattle.sv8_trap.specs.declared.request.Response.{Response}
+use Rattle.sv8_trap.specs.declared.request.Response.TheVariants.{Value, Refused}
+use Rattle.sv8_trap.specs.declared.request.Space.{Space}
+use Rattle.sv8_trap.specs.declared.request.Space.TheVariants as space
+use Rattle.sv8_trap.specs.Requests.{space_of}
 use Rattle.sv8_iu.specs.Instruction.{trapped, asked}
 use Rattle.sv8_memory.specs.Units.{Units, Served, served}
 use Rattle.sv8_memory.specs.Access.{access_seen, observed, takes_byte, counts_bytes, is_word, fetched_from, plainly_loaded, loaded_from, stored_at, exchanged_at, located, at_virtual, reach_of, loaded_in, stored_in, exchanged_in, access, physical_place}

@@ -26,8 +26,8 @@ use Rattle.sv8_trap.specs.Table.{row_of}
 use Rattle.sv8_trap.specs.Processor.{Processor, plus, advanced, transferred, slot_skipped, with_result, in_window}
 use Rattle.sv8_trap.specs.Entry.{trap_registers, entered_from, entered, stopped, interrupted, with_trap, with_return_trap, returned}
 use Rattle.sv8_trap.specs.Interrupt.{highest}
-use Rattle.sv8_iu.specs.declared.request.Response.{Response}
-use Rattle.sv8_iu.specs.declared.request.Response.TheVariants.{Value, Refused}
+use Rattle.sv8_trap.specs.declared.request.Response.{Response}
+use Rattle.sv8_trap.specs.declared.request.Response.TheVariants.{Value, Refused}
 use Rattle.sv8_iu.specs.Operands.{sum_of_sources}
 use Rattle.sv8_iu.specs.Arithmetic.{finished, finished_product, finished_quotient, operated, multiply_step, shifted}
 use Rattle.sv8_iu.specs.Control.{is_always, distance, holds, branched, called, jumped}

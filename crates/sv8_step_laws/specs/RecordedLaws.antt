@@ -10,7 +10,7 @@ use Rattle.sv8_phys.specs.Memory.{ram_size}
 use Rattle.sv8_source.specs.Text.{Text}
 use Rattle.sv8_memory.specs.Units.{Units}
 use Rattle.sv8_memory.specs.Access.{access}
-use Rattle.sv8_iu.specs.declared.request.AccessRequest.{AccessRequest}
+use Rattle.sv8_trap.specs.declared.request.AccessRequest.{AccessRequest}
 use Rattle.sv8_cpu.specs.Run.{footprint}
 use Rattle.sv8_cpu.specs.Recorded.{machine, footprint_of, AreEvents}
 use Rattle.sv8_reset.specs.Reset.{state_at, run_of}

@@ -2,3 +2,4 @@ pub mod Table
 pub mod Processor
 pub mod Entry
 pub mod Interrupt
+pub mod Requests

@@ -23,14 +23,15 @@ use Rattle.sv8_trap.specs.declared.table.Trap.{Trap}
 use Rattle.sv8_trap.specs.Table.{taken}
 use Rattle.sv8_trap.specs.Processor.{Processor, slot_skipped, with_result}
 use Rattle.sv8_trap.specs.Interrupt.{unmasked}
-use Rattle.sv8_iu.specs.declared.request.AccessRequest.TheVariants.{Fetch, Load, Store}
-use Rattle.sv8_iu.specs.declared.request.Response.{Response}
-use Rattle.sv8_iu.specs.declared.request.Response.TheVariants.{Value}
-use Rattle.sv8_iu.specs.declared.request.AccessRequest.{AccessRequest}
+use Rattle.sv8_trap.specs.declared.request.AccessRequest.TheVariants.{Fetch, Load, Store}
+use Rattle.sv8_trap.specs.declared.request.Response.{Response}
+use Rattle.sv8_trap.specs.declared.request.Response.TheVariants.{Value}
+use Rattle.sv8_trap.specs.declared.request.AccessRequest.{AccessRequest}
 use Rattle.sv8_iu.specs.Operands.{sum_of_sources}
 use Rattle.sv8_iu.specs.Instruction.{raised, trapped, complete, data_space, IsUnaided}
 use Rattle.sv8_iu.specs.Instruction as iu
-use Rattle.sv8_iu.specs.Memory.{low_word, access_of, memory_traps, transferred_data}
+use Rattle.sv8_iu.specs.Memory.{access_of, memory_traps, transferred_data}
+use Rattle.sv8_model.specs.Words.{low_word}
 use Rattle.sv8_memory.specs.declared.physical.Physical.{Physical}
 use Rattle.sv8_memory.specs.Units.{Served, served}
 use Rattle.sv8_memory.specs.Access.{access}

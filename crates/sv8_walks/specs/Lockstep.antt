@@ -7,7 +7,7 @@ use Rattle.sv8_phys.specs.Memory.{ram_size}
 use Rattle.sv8_model.specs.declared.size.Size.{Size}
 use Rattle.sv8_phys.specs.declared.timer.Timer.{Timer}
 use Rattle.sv8_trap.specs.Processor.{Processor}
-use Rattle.sv8_iu.specs.declared.request.AccessRequest.TheVariants.{Load, Store}
+use Rattle.sv8_trap.specs.declared.request.AccessRequest.TheVariants.{Load, Store}
 use Rattle.sv8_memory.specs.Access.{access}
 use Rattle.sv8_memory.specs.Units.{served}
 use Rattle.sv8_memory.specs.View.{timed_units, units_of}

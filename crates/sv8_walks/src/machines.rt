@@ -11,9 +11,10 @@ ghost use Rattle.sv8_regs.specs.Ring.{read};
 ghost use Rattle.sv8_isa.specs.Registers.{HasRegisters};
 ghost use Rattle.sv8_iu.specs.Instruction.{data_space, raised};
 ghost use Rattle.sv8_trap.specs.Processor.{advanced, with_result};
-ghost use Rattle.sv8_iu.specs.Memory.{access_of, low_word, memory_traps, transferred_data};
+ghost use Rattle.sv8_iu.specs.Memory.{access_of, memory_traps, transferred_data};
+ghost use Rattle.sv8_model.specs.Words.{low_word};
 ghost use Rattle.sv8_iu.specs.Operands.{sum_of_sources};
-ghost use Rattle.sv8_iu.specs.Requests.{space_of};
+ghost use Rattle.sv8_trap.specs.Requests.{space_of};
 ghost use Rattle.sv8_memory.specs.Feeding.{bytes_fed, IsFed};
 ghost use Rattle.sv8_cpu.specs.Run.{step};
 ghost use Rattle.sv8_cpu.specs.Whole.{state_of, state_over};
@@ -26,13 +27,14 @@ use std::alloc::AllocError;
 use sv8_cpu::{Machine, Parts};
 use sv8_isa::{Group, Instr, MemoryOp, Operand, decode_memory, group};
 use sv8_iu::{
-    AccessRequest, Space, asked, carry_out_unaided, complete, data_space, finish_access, low_word,
-    memory_trap, raised_by, space_of, sum_of_sources, take_trap,
+    asked, carry_out_unaided, complete, data_space, finish_access, memory_trap, raised_by,
+    sum_of_sources, take_trap,
 };
 use sv8_memory::{Feed, Memory};
+use sv8_model::low_word;
 use sv8_phys::{NoTouches, Size};
 use sv8_time::Timeline;
-use sv8_trap::Processor;
+use sv8_trap::{AccessRequest, Processor, Space, space_of};
 
 /// Whether an interrupt may be taken: traps are enabled, and a level is pending that is not masked (section 7.5).
 #[inline(always)]

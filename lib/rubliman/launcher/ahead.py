@@ -1,11 +1,11 @@
 """Proves crates side by side, each by a command of its own (`ways` says which), once something is to be proved.
 
 One `rt ci` of all crates gives most proofs one processor, also while others have nothing to do: it counts with the
-tests that each crate might have. So crates are asked for one by one, those with the longest way above them first, four
-at a time on four processors, or three where these are threads of fewer cores. The one on the longest way has two jobs,
-and the processors first. So has one that leaves a processor to each other that could begin. The others have one job
-each, which takes less processor time than two, and go on with what is left. Where a crate at work has a shorter way
-than one that becomes ready, the second does not wait for it.
+tests that each crate might have. So crates are asked for one by one, those with the longest way above them first, three
+at a time on four processors. The one on the longest way has two jobs, and the processors first. One that leaves a
+processor to each other that could begin has two as well. The others have one job each, which takes less processor time
+than two, and go on with what is left. Where a crate at work has a shorter way than one that becomes ready, the second
+does not wait for it.
 
 A command takes some seconds before it proves anything, the more the more crates lie below. So the next crate is begun
 while the last of its libraries is under way: where commands share what they prove, its own then waits for that. What
@@ -45,24 +45,10 @@ _BEGUN_SECONDS = 20
 _AMPLE_BYTES = 16 << 30
 
 
-def lanes(processors: int, cores: int, memory: int) -> int:
-    """How many crates are proved side by side; 0 where `rt ci` of all is as quick, or memory holds no two checks.
-
-    A fourth one gains nothing where processors are threads of fewer cores than four.
-    """
-    number = min(max(min(cores, 4), 3, processors // 4), memory // _CHECK_BYTES)
-    return number if processors >= 4 and number >= 2 else 0
-
-
-def cores_of(processors: Iterable[int], topology: Path = Path("/sys/devices/system/cpu")) -> int:
-    """How many cores these processors are threads of; one each where the system does not tell."""
-    siblings = set()
-    for it in processors:
-        try:
-            siblings.add((topology / f"cpu{it}" / "topology" / "thread_siblings_list").read_text(encoding="ascii"))
-        except OSError:
-            siblings.add(str(it))
-    return len(siblings)
+def lanes(cores: int, memory: int) -> int:
+    """How many crates are proved side by side; 0 where `rt ci` of all is as quick, or memory holds no two checks."""
+    number = min(max(3, cores // 4), memory // _CHECK_BYTES)
+    return number if cores >= 4 and number >= 2 else 0
 
 
 def free_memory() -> int:
@@ -98,11 +84,17 @@ class Ahead:
     """The crates that are left, and those that are under way."""
 
     def __init__(
-        self, tasks: Iterable[Task], way: Way, environment: dict[str, str], progress: Progress, jobs: int = 2
+        self,
+        tasks: Iterable[Task],
+        way: Way,
+        environment: dict[str, str],
+        progress: Progress,
+        processors: int,
+        jobs: int = 2,
     ) -> None:
         self._tasks = list(tasks)
-        self._way, self._environment, self._progress, self._jobs = way, environment, progress, jobs
-        self._processors = len(os.sched_getaffinity(0))
+        self._way, self._environment, self._progress = way, environment, progress
+        self._processors, self._jobs = processors, jobs
         self._proved = set(progress.proved)
         self._ways = schedule.ways_above([it for it in self._tasks if not it.of_tests])
         self._order = schedule.longest_first(self._ways)

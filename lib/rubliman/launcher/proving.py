@@ -89,9 +89,8 @@ def _prove(asked: Asked) -> Kept:
     """Proves, keeps, and tells so."""
     page = places.TOP / "docs" / "PROVING.md"
     tasks = schedule.tasks_of(asked.sources, page.read_text(encoding="utf-8") if page.is_file() else "")
-    processors = os.sched_getaffinity(0)
-    cores = len(processors)
-    lanes = ahead.lanes(cores, ahead.cores_of(processors), ahead.free_memory())
+    cores = len(os.sched_getaffinity(0))
+    lanes = ahead.lanes(cores, ahead.free_memory())
     progress, way = Progress(tasks, cores, lanes), BY_GATE
     say(
         f"proving and building {' and '.join(asked.programs)}: {progress.whole()} on {cores} processors, "
@@ -194,8 +193,8 @@ def _by_gate(asked: Asked, room: Path, tasks: list[Task], lanes: int, progress: 
                 first = _until_it_proves(libraries, progress, tick) if lanes else tick
                 _ran([asked.rt, "ci"], copy, environment, progress, first)
             except _Proves:
-                way = ByName(asked.rt, copy, asked.programs)
-                if not Ahead([*libraries, _building(asked, tasks)], way, environment, progress).prove(lanes, tick):
+                way, wanted = ByName(asked.rt, copy, asked.programs), [*libraries, _building(asked, tasks)]
+                if not Ahead(wanted, way, environment, progress, len(os.sched_getaffinity(0))).prove(lanes, tick):
                     _ran([asked.rt, "ci"], copy, environment, progress, tick)
         except Refused as refused:
             if not progress.is_all_proved():
@@ -214,11 +213,12 @@ def _building(asked: Asked, tasks: list[Task]) -> Task:
 
 def _in_trees(asked: Asked, room: Path, tasks: list[Task], lanes: int, progress: Progress) -> dict[str, Path]:
     """Proves each crate by `rt lib` or `rt run`, side by side, on a copy that is removed again."""
-    copy, jobs = room / "copy", ahead.jobs(len(os.sched_getaffinity(0)), ahead.free_memory(), lanes)
+    copy, processors = room / "copy", len(os.sched_getaffinity(0))
+    jobs = ahead.jobs(processors, ahead.free_memory(), lanes)
     shutil.rmtree(copy, ignore_errors=True)
     write_copy(asked.sources, copy)
     way = InTrees(asked.rt, copy, room / "trees", asked.sources.crates, asked.programs)
-    proofs = Ahead([it for it in tasks if not it.of_tests], way, toolchain.environment(), progress, jobs)
+    proofs = Ahead([it for it in tasks if not it.of_tests], way, toolchain.environment(), progress, processors, jobs)
     if not proofs.prove(lanes, progress.tick):
         raise Refused(proofs.said[-_SHOWN_LINES:])
     return built(copy, asked.programs)

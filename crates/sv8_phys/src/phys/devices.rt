@@ -12,7 +12,7 @@ use crate::fault::BusError;
 use crate::phys::Phys;
 use crate::timer::Timer;
 use std::alloc::AllocError;
-use sv8_model::{Level, NoTouches, Size, Touch, Touches};
+use sv8_model::{Level, NoTouches, Size, Touch, Touches, low_word};
 
 /// The console's input, a load of which takes the oldest waiting byte.
 pub const INPUT: u64 = 0x8000_0000;
@@ -203,12 +203,4 @@ impl<const PAGES: usize> Phys<PAGES> {
         self.timer.count = self.timer.reload;
         Ok(())
     }
-}
-
-/// The low 32 bits of a number.
-#[inline(always)]
-fn low_word(value: u64) -> u32
-    ensures { result ≡ value % 2 ^ 32 }
-{
-    (value % 0x1_0000_0000) as u32
 }

@@ -5,16 +5,16 @@ ghost use Rattle.sv8_model.specs.Does.{DoesUnnoted};
 ghost use Rattle.sv8_model.specs.Size.{bytes_in};
 ghost use Rattle.sv8_phys.specs.Memory.{ram_size};
 ghost use Rattle.sv8_phys.specs.Contents.{outside_of};
-ghost use Rattle.sv8_iu.specs.Requests.{space_of};
+ghost use Rattle.sv8_trap.specs.Requests.{space_of};
 ghost use Rattle.sv8_memory.specs.Feeding.{bytes_fed, IsFed};
 ghost use Rattle.sv8_memory.specs.Access.{access};
 ghost use Rattle.sv8_memory.specs.View.{units_of};
 ghost use Rattle.sv8_walks.specs.Lockstep.{counted_down, CountsDown, IsLoaded, IsStored};
 
 use std::alloc::AllocError;
-use sv8_iu::{AccessRequest, Response, Space};
 use sv8_memory::{Feed, Memory};
 use sv8_phys::{NoTouches, Size};
+use sv8_trap::{AccessRequest, Response, Space};
 
 /// A step of a timer that does not expire.
 #[inline(always)]

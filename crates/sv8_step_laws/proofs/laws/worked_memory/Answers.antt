@@ -9,7 +9,7 @@ use Rattle.sv8_phys.specs.Devices.{tick}
 use Rattle.sv8_trap.specs.Processor.{advanced, with_result}
 use Rattle.sv8_trap.specs.Table.{row_of}
 use Rattle.sv8_cpu.specs.Step.{action, awake, interruptible, continued, instruction, executed}
-use Rattle.sv8_iu.specs.Requests.{space_of}
+use Rattle.sv8_trap.specs.Requests.{space_of}
 use Rattle.sv8_memory.specs.Access.{access, at_virtual, fetched_from, loaded_from, plainly_loaded, stored_at, exchanged_at}
 use Rattle.sv8_iu.specs.Operands.{sum_of_sources}
 use Rattle.sv8_iu.specs.Memory.{memory_traps, access_of, transferred_data, sign_extended}

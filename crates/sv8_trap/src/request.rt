@@ -1,10 +1,10 @@
 //! One access to memory, as the processor asks for it and as it is answered.
 
 ghost use Rattle.std.specs.Prelude.{◌≡◌};
-ghost use Rattle.sv8_iu.specs.Requests.{space_of};
+ghost use Rattle.sv8_trap.specs.Requests.{space_of};
 
+use crate::table::Trap;
 use sv8_model::Size;
-use sv8_trap::Trap;
 
 /// The one access that an instruction makes, or none. Addresses are virtual, and multiples of the size.
 #[derive(Clone, Copy)]

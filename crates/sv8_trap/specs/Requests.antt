@@ -1,10 +1,10 @@
 -- The access that an instruction asks for: the address spaces (Appendix I), and what holds of every address.
 use Rattle.std.specs.Prelude.{◌≡◌, ℕ, ◌/◌, ◌%◌, ◌==◌, ◌&&◌, nat_le, if◌then◌else◌}
 use Rattle.sv8_model.specs.Size.{bytes_in}
-use Rattle.sv8_iu.specs.declared.request.AccessRequest.{AccessRequest}
-use Rattle.sv8_iu.specs.declared.request.AccessRequest.TheVariants as request
-use Rattle.sv8_iu.specs.declared.request.Space.{Space}
-use Rattle.sv8_iu.specs.declared.request.Space.TheVariants as space
+use Rattle.sv8_trap.specs.declared.request.AccessRequest.{AccessRequest}
+use Rattle.sv8_trap.specs.declared.request.AccessRequest.TheVariants as request
+use Rattle.sv8_trap.specs.declared.request.Space.{Space}
+use Rattle.sv8_trap.specs.declared.request.Space.TheVariants as space
 
 -- 3 probes the tables, 4 has the registers of the unit; 8 to B are user and supervisor instructions and data, and 20 to 2F physical addresses, of which
 -- they are bits 35:32
