@@ -2,7 +2,7 @@
 use Rattle.std.specs.Prelude.{ℕ, ◌+◌, ◌*◌, ◌/◌, ◌%◌, ◌^◌, ◌==◌, Bool, not, ◌&&◌, true, false, List, ◌++◌}
 use Rattle.sv8_isa.specs.declared.instr.MemoryOp.{MemoryOp}
 use Rattle.sv8_isa.specs.declared.instr.MemoryOp.TheVariants as memory
-use Rattle.sv8_model.specs.Words.{signed, word_of_number}
+use Rattle.sv8_model.specs.Words.{signed, word_of_number, low_word}
 use Rattle.sv8_model.specs.declared.size.Size.{Size}
 use Rattle.sv8_model.specs.declared.size.Size.TheVariants.{Byte, Half, Word, Double}
 use Rattle.sv8_model.specs.Size.{bytes_in}
