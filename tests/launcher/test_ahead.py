@@ -155,7 +155,7 @@ class Ahead(InRepository):
         self.fake("exit 9", ahead="exit 9")
         rt, crates = str(self.bin / "rt"), crates_of(text, [WORKBENCH])
         tasks = tasks_of(Sources(crates, {f"crates/{it.name}/src/lib.rt": b"\n" * 100 for it in crates}), PAGE)
-        begun = f'[ "$2" = high ] && until grep -qx ci {self.log}; do sleep 0.1; done; {SAYS}'
+        begun = f'[ "$2" = high ] && until grep -q "^ci:" {self.log}; do sleep 0.1; done; {SAYS}'
         self.fake('echo "rt: sparc8 proved"', ahead=begun)
         proofs = ahead.Ahead(
             tasks, ByName(rt, self.top, [WORKBENCH]), self.environment(), Progress(tasks, 4, 2), processors=2
