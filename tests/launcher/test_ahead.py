@@ -33,7 +33,7 @@ class Ahead(InRepository):
     """`low` takes 4 minutes and its tests 1, `side` 2, `high` 6 on `low`; the program stands on `high` and `side`."""
 
     def prove(
-        self, says: str, lanes: int = 2, taken: Sequence[str] = (), text: str = TEXT, processors: int = 2
+        self, says: str, lanes: int = 2, taken: Sequence[str] = (), text: str = TEXT, processors: int = 4
     ) -> str:
         """Proves the crates below the program, by a toolchain that does this for each. Gives what is shown."""
         self.fake("exit 9", ahead=says)
@@ -50,7 +50,7 @@ class Ahead(InRepository):
         return shown.getvalue()
 
     def test_how_many_side_by_side(self) -> None:
-        for cores, memory, due in ((1, 64, 0), (2, 64, 0), (4, 24, 3), (4, 12, 2), (4, 8, 0), (8, 24, 3), (16, 64, 4)):
+        for cores, memory, due in ((1, 64, 0), (2, 64, 0), (4, 24, 4), (4, 12, 2), (4, 8, 0), (8, 18, 3), (24, 64, 6)):
             with self.subTest(cores=cores, memory=memory):
                 self.assertEqual(ahead.lanes(cores, memory * GIB), due)
         self.assertGreater(ahead.free_memory(), 0)
@@ -86,7 +86,7 @@ class Ahead(InRepository):
         self.prove(f'echo "$2 ${{RT_JOBS:-any}}" >>{jobs}; {SAYS}', lanes=1)
         self.assertEqual(jobs.read_text().split("\n"), ["low any", "high any", "side any", ""])
         jobs.unlink()
-        for processors, of_side in ((2, "1"), (3, "1"), (4, "any")):
+        for processors, of_side in ((3, "1"), (4, "any")):
             says = f'echo "$2 ${{RT_JOBS:-any}}" >>{jobs}; [ "$2" = low ] && sleep 1; {SAYS}'
             self.prove(says, lanes=2, processors=processors)
             self.assertEqual(sorted(jobs.read_text().splitlines()), ["high any", "low any", f"side {of_side}"])
@@ -106,7 +106,7 @@ class Ahead(InRepository):
         # `low` is proved, and its command goes on until `high` is begun. The way of `low` is longer, as it leads there.
         jobs = self.room / "jobs"
         ends = f'[ "$2" = low ] && until grep -q "ci high" {self.log}; do sleep 0.1; done; true'
-        self.prove(f'echo "$2 ${{RT_JOBS:-any}}" >>{jobs}; {SAYS}; {ends}')
+        self.prove(f'echo "$2 ${{RT_JOBS:-any}}" >>{jobs}; {SAYS}; {ends}', processors=3)
         self.assertEqual(sorted(jobs.read_text().splitlines()), ["high any", "low any", "side 1"])
 
     def test_tests_hold_no_other_crate_back(self) -> None:

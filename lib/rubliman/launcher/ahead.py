@@ -1,11 +1,11 @@
 """Proves crates side by side, each by a command of its own (`ways` says which), once something is to be proved.
 
 One `rt ci` of all crates gives most proofs one processor, also while others have nothing to do: it counts with the
-tests that each crate might have. So crates are asked for one by one, those with the longest way above them first, three
-at a time on four processors. The one on the longest way has two jobs, and the processors first. One that leaves a
-processor to each other that could begin has two as well. The others have one job each, which takes less processor time
-than two, and go on with what is left. Where a crate at work has a shorter way than one that becomes ready, the second
-does not wait for it.
+tests that each crate might have. So crates are asked for one by one, those with the longest way above them first, while
+a processor has no job. The one on the longest way has two jobs, and the processors first. One that leaves a processor
+to each other that could begin has two as well. The others have one job each, which takes less processor time than two,
+and go on with what is left. Where a crate at work has a shorter way than one that becomes ready, the second does not
+wait for it.
 
 A command takes some seconds before it proves anything, the more the more crates lie below. So the next crate is begun
 while the last of its libraries is under way: where commands share what they prove, its own then waits for that. What
@@ -46,8 +46,8 @@ _AMPLE_BYTES = 16 << 30
 
 
 def lanes(cores: int, memory: int) -> int:
-    """How many crates are proved side by side; 0 where `rt ci` of all is as quick, or memory holds no two checks."""
-    number = min(max(3, cores // 4), memory // _CHECK_BYTES)
+    """How many crates at most are proved side by side; 0 where `rt ci` of all is as quick, or memory holds no two."""
+    number = min(max(4, cores // 4), memory // _CHECK_BYTES)
     return number if cores >= 4 and number >= 2 else 0
 
 
@@ -127,7 +127,7 @@ class Ahead:
     def _begin(self, number: int) -> bool:
         """Begins crates whose libraries are proved, and the one that comes next. Gives whether one is under way."""
         for crate in [it for it in self._left if self._is_ready(it)]:
-            if len(self._at_work()) < number or self._overtakes(crate, number):
+            if self._has_place(number) or self._overtakes(crate, number):
                 self._begin_one(crate)
         following = self._following()
         if following:
@@ -147,11 +147,19 @@ class Ahead:
         """The crates under way that wait for no other one."""
         return [it.crate for it in self._under_way if self._is_ready(it.crate)]
 
+    def _jobs_at_work(self) -> int:
+        """The jobs of the crates that wait for no other one and are not proved yet."""
+        return sum(it.jobs for it in self._under_way if self._is_ready(it.crate) and it.crate not in self._proved)
+
+    def _has_place(self, number: int) -> bool:
+        """Whether a processor has no job, and fewer crates than so many are at work."""
+        return len(self._at_work()) < number and self._jobs_at_work() < self._processors
+
     def _overtakes(self, crate: str, number: int) -> bool:
-        """Whether a crate need not wait for a place: its way is longer than that of a crate at work."""
-        at_work = self._at_work()
-        is_longer = any(self._order.index(it) > self._order.index(crate) for it in at_work)
-        return is_longer and len(at_work) == number and free_memory() >= _AMPLE_BYTES
+        """Whether a crate need not wait for a place: its way is longer than that of a crate at work, and no other did."""
+        is_longer = any(self._order.index(it) > self._order.index(crate) for it in self._at_work())
+        is_first = len(self._at_work()) <= number and self._jobs_at_work() <= self._processors
+        return is_longer and is_first and free_memory() >= _AMPLE_BYTES
 
     def _jobs_of(self, crate: str) -> int:
         """The jobs of a crate: more than one on the longest way, or where each other that is ready has a processor."""
