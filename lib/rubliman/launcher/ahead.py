@@ -156,7 +156,7 @@ class Ahead:
         return len(self._at_work()) < number and self._jobs_at_work() < self._processors
 
     def _overtakes(self, crate: str, number: int) -> bool:
-        """Whether a crate need not wait for a place: its way is longer than that of a crate at work, and no other did."""
+        """Whether a crate need not wait for a place: its way is longer than one at work, and no other did."""
         is_longer = any(self._order.index(it) > self._order.index(crate) for it in self._at_work())
         is_first = len(self._at_work()) <= number and self._jobs_at_work() <= self._processors
         return is_longer and is_first and free_memory() >= _AMPLE_BYTES

@@ -1,6 +1,6 @@
 //! The devices: what lies at their addresses, the timer, and the pending interrupt levels.
 
-ghost use Rattle.std.specs.Prelude.{◌≡◌, ℕ, ◌%◌, ◌^◌, true, List, IfOk, OnOk, OnErr};
+ghost use Rattle.std.specs.Prelude.{◌≡◌, ℕ, ◌%◌, true, List, IfOk, OnOk, OnErr};
 ghost use Rattle.sv8_model.specs.Action as model;
 ghost use Rattle.sv8_model.specs.Does.{Does, keeping};
 ghost use Rattle.sv8_phys.specs.Contents.{outside_of};
