@@ -1,7 +1,6 @@
 //! From words to instructions, by the list of opcodes.
 
 ghost use Rattle.std.specs.Prelude.{◌≡◌, ◌≢◌, ◌<◌, ◌≤◌, false};
-ghost use Rattle.sv8_model.specs.Words.{field};
 ghost use Rattle.sv8_isa.specs.Accesses.{makes_access};
 ghost use Rattle.sv8_isa.specs.Registers.{HasRegisters};
 ghost use Rattle.sv8_isa.specs.Table.{instr_at, row_at, meaning, is_queue_store, group_of};
@@ -93,57 +92,35 @@ macro_rules! control_rows {
     };
 }
 
-/// A `match` on op3, from the groups of op 3: those of the natural address space, of an alternate one with i = 0 or
-/// with i = 1, or of the other units.
+/// A `match` on op3, from the groups of op 3.
 macro_rules! memory_rows {
     (
-        [natural $word:ident $op3:ident]
-        memory { $($memory:ident $code:literal $alternate:literal),* }
-        $($later:tt)*
+        [$word:ident $op3:ident]
+        memory { $($memory:ident $normal:literal $alternate:literal),* }
+        memory_whole { $($far:ident $far_code:literal),* }
+        queue_whole { $($queue:ident $queue_code:literal),* }
     ) => {{
         let rd = register($word, 25);
         let rs1 = register($word, 14);
         let operand = operand($word);
+        let immediate = bits($word, 13, 13);
         match $op3 {
-            $($code => Instr::Memory { op: MemoryOp::$memory, rd, rs1, operand },)*
-            _ => Instr::Illegal,
-        }
-    }};
-    (
-        [alternate $word:ident $op3:ident]
-        memory { $($memory:ident $natural:literal $code:literal),* }
-        $($later:tt)*
-    ) => {{
-        let rd = register($word, 25);
-        let rs1 = register($word, 14);
-        let rs2 = register($word, 0);
-        let asi = bits($word, 12, 5) as u8;
-        match $op3 {
-            $($code => Instr::Alternate { op: MemoryOp::$memory, rd, rs1, rs2, asi },)*
-            _ => Instr::Illegal,
-        }
-    }};
-    (
-        [immediate $op3:ident]
-        memory { $($memory:ident $natural:literal $code:literal),* }
-        $($later:tt)*
-    ) => {
-        match $op3 {
-            $($code => Instr::AltImm,)*
-            _ => Instr::Illegal,
-        }
-    };
-    (
-        [other $word:ident $op3:ident]
-        memory_whole { $($far:ident $far_code:literal),* }
-        queue_whole { $($queue:ident $queue_code:literal),* }
-    ) => {
-        match $op3 {
+            $(
+                $normal => Instr::Memory { op: MemoryOp::$memory, rd, rs1, operand },
+                $alternate if immediate == 0 => Instr::Alternate {
+                    op: MemoryOp::$memory,
+                    rd,
+                    rs1,
+                    rs2: register($word, 0),
+                    asi: bits($word, 12, 5) as u8,
+                },
+                $alternate => Instr::AltImm,
+            )*
             $($far_code => Instr::$far($word),)*
             $($queue_code => Instr::$queue($word),)*
             _ => Instr::Illegal,
         }
-    };
+    }};
     ([$($with:ident)*] $group:ident $rows:tt $($later:tt)*) => {
         memory_rows!([$($with)*] $($later)*)
     };
@@ -188,51 +165,6 @@ fn control_at(word: u32, op3: u32) -> Instr
     opcodes!(control_rows!(word op3))
 }
 
-/// The instruction of a word of op 3 that has this op3, below 16: in the natural address space.
-#[inline(always)]
-fn natural_at(word: u32, op3: u32) -> Instr
-    requires { op3 < 0x10 }
-    ensures value { result ≡ instr_at (row_at 3 op3 word) word }
-    ensures registers { HasRegisters result }
-{
-    opcodes!(memory_rows!(natural word op3))
-}
-
-/// The instruction of a word of op 3 that has this op3, from 16 to 31, and i = 0: in an alternate address space.
-#[inline(always)]
-fn alternate_at(word: u32, op3: u32) -> Instr
-    requires from { 0x10 ≤ op3 }
-    requires below { op3 < 0x20 }
-    requires register { field word 13 13 ≡ 0 }
-    ensures value { result ≡ instr_at (row_at 3 op3 word) word }
-    ensures registers { HasRegisters result }
-{
-    opcodes!(memory_rows!(alternate word op3))
-}
-
-/// The instruction of a word of op 3 that has this op3, from 16 to 31, and i = 1, which an alternate space has no form for.
-#[inline(always)]
-fn immediate_at(word: u32, op3: u32) -> Instr
-    requires from { 0x10 ≤ op3 }
-    requires below { op3 < 0x20 }
-    requires immediate { field word 13 13 ≡ 1 }
-    ensures value { result ≡ instr_at (row_at 3 op3 word) word }
-    ensures registers { HasRegisters result }
-{
-    opcodes!(memory_rows!(immediate op3))
-}
-
-/// The instruction of a word of op 3 that has this op3, from 32 on: a load or store of another unit.
-#[inline(always)]
-fn other_at(word: u32, op3: u32) -> Instr
-    requires from { 0x20 ≤ op3 }
-    requires below { op3 < 0x40 }
-    ensures value { result ≡ instr_at (row_at 3 op3 word) word }
-    ensures registers { HasRegisters result }
-{
-    opcodes!(memory_rows!(other word op3))
-}
-
 /// The instruction of a word of op 3 that has this op3.
 #[inline(always)]
 fn memory_at(word: u32, op3: u32) -> Instr
@@ -240,15 +172,7 @@ fn memory_at(word: u32, op3: u32) -> Instr
     ensures value { result ≡ instr_at (row_at 3 op3 word) word }
     ensures registers { HasRegisters result }
 {
-    if op3 < 0x10 {
-        natural_at(word, op3)
-    } else if op3 >= 0x20 {
-        other_at(word, op3)
-    } else if bits(word, 13, 13) == 0 {
-        alternate_at(word, op3)
-    } else {
-        immediate_at(word, op3)
-    }
+    opcodes!(memory_rows!(word op3))
 }
 
 /// The instruction of a word of the group of op 0 (B.31, B.21, B.9, B.22, B.23).
