@@ -24,17 +24,10 @@ SAYS = 'echo "rt: low is kept: an earlier run"; echo "== $2"; echo "logic=proved
 WAITS = "rt: low: another run on this machine is proving the same; waiting for it"
 
 
-def lanes_here() -> int:
-    """How many crates are proved side by side on this machine."""
-    return ahead.lanes(len(os.sched_getaffinity(0)), ahead.free_memory())
-
-
 class Ahead(InRepository):
     """`low` takes 4 minutes and its tests 1, `side` 2, `high` 6 on `low`; the program stands on `high` and `side`."""
 
-    def prove(
-        self, says: str, lanes: int = 2, taken: Sequence[str] = (), text: str = TEXT, processors: int = 4
-    ) -> str:
+    def prove(self, says: str, lanes: int = 2, taken: Sequence[str] = (), text: str = TEXT) -> str:
         """Proves the crates below the program, by a toolchain that does this for each. Gives what is shown."""
         self.fake("exit 9", ahead=says)
         crates = crates_of(text, [WORKBENCH])
@@ -44,13 +37,12 @@ class Ahead(InRepository):
         libraries = [it for it in tasks if it.crate != WORKBENCH]
         with contextlib.redirect_stderr(io.StringIO()) as shown:
             rt = str(self.bin / "rt")
-            proofs = ahead.Ahead(libraries, ByName(rt, self.top), self.environment(), progress, processors)
-            proofs.prove(lanes, progress.tick)
+            ahead.Ahead(libraries, ByName(rt, self.top), self.environment(), progress).prove(lanes, progress.tick)
         self.assertEqual(processes_in(self.top), [])
         return shown.getvalue()
 
     def test_how_many_side_by_side(self) -> None:
-        for cores, memory, due in ((1, 64, 0), (2, 64, 0), (4, 24, 4), (4, 12, 2), (4, 8, 0), (8, 18, 3), (24, 64, 6)):
+        for cores, memory, due in ((1, 64, 0), (2, 64, 0), (4, 24, 3), (4, 12, 2), (4, 8, 0), (8, 24, 3), (16, 64, 4)):
             with self.subTest(cores=cores, memory=memory):
                 self.assertEqual(ahead.lanes(cores, memory * GIB), due)
         self.assertGreater(ahead.free_memory(), 0)
@@ -80,33 +72,28 @@ class Ahead(InRepository):
             self.prove(waits, text=text)
         self.assertEqual(sorted(self.all_calls()), ["ci high", "ci low", "ci side", "ci tall"])
 
+    def test_a_crate_with_a_far_shorter_way_leaves_the_processors_to_two_others(self) -> None:
+        # `side` may be begun once `low` or `long` has ended: its way has 2 minutes where theirs have 10.
+        text = f"low:\nlong:\nside:\nhigh: low long\n{WORKBENCH}: high side\n"
+        ended = self.room / "ended"
+        waits = f"case $2 in low | long) sleep 0.5; touch {ended} ;; side) [ -e {ended} ] || exit 1 ;; esac; {SAYS}"
+        self.prove(waits, lanes=3, text=text)
+        self.assertEqual(sorted(self.all_calls()), ["ci high", "ci long", "ci low", "ci side"])
+
     def test_a_crate_with_a_shorter_way_has_one_job(self) -> None:
         # The way of `low` has 10 minutes, and that of `high` 6 of the 6 that are left by then; that of `side` has 2.
         jobs = self.room / "jobs"
         self.prove(f'echo "$2 ${{RT_JOBS:-any}}" >>{jobs}; {SAYS}', lanes=1)
         self.assertEqual(jobs.read_text().split("\n"), ["low any", "high any", "side any", ""])
         jobs.unlink()
-        for processors, of_side in ((3, "1"), (4, "any")):
-            says = f'echo "$2 ${{RT_JOBS:-any}}" >>{jobs}; [ "$2" = low ] && sleep 1; {SAYS}'
-            self.prove(says, lanes=2, processors=processors)
-            self.assertEqual(sorted(jobs.read_text().splitlines()), ["high any", "low any", f"side {of_side}"])
-            jobs.unlink()
-
-    def test_each_crate_that_is_ready_has_a_processor_before_another_has_two(self) -> None:
-        # `side` and `small` are ready at once. With four processors `low`, on the longest way, leaves one to each.
-        jobs = self.room / "jobs"
-        text = f"low:\nhigh: low\nside:\nsmall:\n{WORKBENCH}: high side small\n"
-        says = f'echo "$2 ${{RT_JOBS:-any}}" >>{jobs}; [ "$2" = high ] || sleep 1; {SAYS}'
-        for processors, of_others in ((4, ["side 1", "small 1"]), (6, ["side any", "small any"])):
-            self.prove(says, lanes=3, text=text, processors=processors)
-            self.assertEqual(sorted(jobs.read_text().splitlines()), ["high any", "low any", *of_others])
-            jobs.unlink()
+        self.prove(f'echo "$2 ${{RT_JOBS:-any}}" >>{jobs}; [ "$2" = low ] && sleep 1; {SAYS}', lanes=2)
+        self.assertEqual(sorted(jobs.read_text().splitlines()), ["high any", "low any", "side 1"])
 
     def test_a_crate_has_two_jobs_while_the_command_of_its_library_ends(self) -> None:
         # `low` is proved, and its command goes on until `high` is begun. The way of `low` is longer, as it leads there.
         jobs = self.room / "jobs"
         ends = f'[ "$2" = low ] && until grep -q "ci high" {self.log}; do sleep 0.1; done; true'
-        self.prove(f'echo "$2 ${{RT_JOBS:-any}}" >>{jobs}; {SAYS}; {ends}', processors=3)
+        self.prove(f'echo "$2 ${{RT_JOBS:-any}}" >>{jobs}; {SAYS}; {ends}')
         self.assertEqual(sorted(jobs.read_text().splitlines()), ["high any", "low any", "side 1"])
 
     def test_tests_hold_no_other_crate_back(self) -> None:
@@ -129,9 +116,8 @@ class Ahead(InRepository):
         self.assertEqual(sorted(self.all_calls()), ["ci high", "ci side"])
 
     def test_the_launcher_asks_once_something_is_to_be_proved(self) -> None:
-        if not lanes_here():
+        if not ahead.lanes(len(os.sched_getaffinity(0)), ahead.free_memory()):
             self.skipTest("crates are not proved side by side here")
-        (self.room / "rattle-kept/proof-low-1").mkdir(parents=True)
         again = self.room / "again"
         self.fake(f"if ! [ -e {again} ]; then touch {again}; sleep 100 & wait $!; fi; {PROVES}", ahead=SAYS)
         done = self.sparc8(given="list\n")
@@ -140,44 +126,9 @@ class Ahead(InRepository):
         self.assertEqual((calls[0], sorted(calls[1:4]), calls[4:]), ("ci", ["ci high", "ci low", "ci side"], ["ci"]))
         self.assert_nothing_left()
 
-    def test_where_nothing_is_kept_nothing_is_tried_first(self) -> None:
-        if not lanes_here():
-            self.skipTest("crates are not proved side by side here")
-        self.fake(PROVES, ahead=SAYS)
-        done = self.sparc8(given="list\n")
-        self.assertEqual((done.returncode, done.stdout), (0, "words \nlist\n"))
-        self.assertEqual(self.all_calls()[3:], ["ci"])
-        self.assertEqual(sorted(self.all_calls()[:3]), ["ci high", "ci low", "ci side"])
-
-    def test_the_last_command_is_begun_while_its_libraries_are_under_way(self) -> None:
-        # `high` waits for the command that builds the program.
-        text = f"low:\nhigh: low\n{WORKBENCH}: high\n"
-        self.fake("exit 9", ahead="exit 9")
-        rt, crates = str(self.bin / "rt"), crates_of(text, [WORKBENCH])
-        tasks = tasks_of(Sources(crates, {f"crates/{it.name}/src/lib.rt": b"\n" * 100 for it in crates}), PAGE)
-        begun = f'[ "$2" = high ] && until grep -q "^ci:" {self.log}; do sleep 0.1; done; {SAYS}'
-        self.fake('echo "rt: sparc8 proved"', ahead=begun)
-        proofs = ahead.Ahead(
-            tasks, ByName(rt, self.top, [WORKBENCH]), self.environment(), Progress(tasks, 4, 2), processors=2
-        )
-        with (
-            mock.patch.object(ahead, "_BEGUN_SECONDS", 0),
-            mock.patch.object(ahead, "_AMPLE_BYTES", 0),
-            contextlib.redirect_stderr(io.StringIO()),
-        ):
-            self.assertTrue(proofs.prove(2, lambda: None))
-        self.assertEqual(sorted(self.all_calls()), ["ci", "ci high", "ci low"])
-
-    def test_a_last_command_that_fails_is_run_again_and_shown(self) -> None:
-        self.fake('echo "rt: sparc8 NOT PROVED"; exit 1', ahead=SAYS)
-        done = self.sparc8(given="list\n")
-        self.assertEqual((done.returncode, done.stdout), (1, ""))
-        self.assertIn("rt: sparc8 NOT PROVED", done.stderr)
-        self.assert_nothing_left()
-
     def test_a_toolchain_that_takes_no_name(self) -> None:
         # Its `rt ci NAME` prints how it is used; each crate is then proved in a folder of its own, the programs last.
-        if not lanes_here():
+        if not ahead.lanes(len(os.sched_getaffinity(0)), ahead.free_memory()):
             self.skipTest("crates are not proved side by side here")
         proves = f"""case $1 in
           ci) sleep 100 & wait $!;;
@@ -190,8 +141,9 @@ class Ahead(InRepository):
         done = self.sparc8(given="list\n")
         self.assertEqual((done.returncode, done.stdout), (0, "words \nlist\n"))
         calls = self.all_calls()
-        self.assertEqual(sorted(calls[:2]), ["ci low", "ci side"])
-        self.assertEqual(sorted(it.split()[0] for it in calls[2:]), ["lib", "lib", "lib", "run"])
+        self.assertEqual(calls[0], "ci")
+        self.assertEqual(sorted(calls[1:3]), ["ci low", "ci side"])
+        self.assertEqual(sorted(it.split()[0] for it in calls[3:]), ["lib", "lib", "lib", "run"])
         self.assertEqual(calls[-1].split()[:2], ["run", "--jobs"])
         self.assertEqual((self.room / "crates").read_text(), "low: \nhigh: low\nside: \nsparc8: high side\n")
         self.assertIn("../low/out", (self.room / "libraries").read_text())
@@ -203,8 +155,8 @@ class Ahead(InRepository):
         self.assertEqual((sorted(self.all_calls()), shown), (["ci low", "ci side"], ""))
 
     def test_the_launcher_ends_what_is_under_way(self) -> None:
-        if not lanes_here():
-            self.skipTest("crates are not proved side by side here")
+        if not ahead.lanes(4, ahead.free_memory()):
+            self.skipTest("there is no memory for crates side by side")
         begun = self.room / "begun"
         self.fake("sleep 100 & wait $!", ahead=f"touch {begun}; sleep 100 & wait $!")
         with self.begun("--program") as process:

@@ -1,15 +1,15 @@
 """Proves crates side by side, each by a command of its own (`ways` says which), once something is to be proved.
 
 One `rt ci` of all crates gives most proofs one processor, also while others have nothing to do: it counts with the
-tests that each crate might have. So crates are asked for one by one, those with the longest way above them first, while
-a processor has no job. The one on the longest way has two jobs, and the processors first. One that leaves a processor
-to each other that could begin has two as well. The others have one job each, which takes less processor time than two,
-and go on with what is left. Where a crate at work has a shorter way than one that becomes ready, the second does not
-wait for it.
+tests that each crate might have. So crates are asked for one by one, those with the longest way above them first, three
+at a time on four processors. The one on the longest way has two jobs, and the processors first. The others have one job
+each, which takes less processor time than two, and go on with what is left. Where a crate at work has a shorter way
+than one that becomes ready, the second does not wait for it. A crate with a far shorter way than the longest one leaves
+the processors to two others: what waits for it is far, and at the end of the longest way there are processors with
+nothing to do.
 
 A command takes some seconds before it proves anything, the more the more crates lie below. So the next crate is begun
-while the last of its libraries is under way: where commands share what they prove, its own then waits for that. What
-builds the programs comes last in the same way.
+while the last of its libraries is under way: where commands share what they prove, its own then waits for that.
 """
 from __future__ import annotations
 
@@ -41,13 +41,15 @@ _MOST_JOBS = 4
 _NICENESS, _NICEST = 10, 19
 # Behind so many seconds a command has begun its proof, so that another one waits for it and does not begin the same.
 _BEGUN_SECONDS = 20
+# While two crates are at work, one whose way is a smaller part of the longest way than this can wait.
+_NEAR = 0.4
 # A command counts the memory that is free when it begins, and with less it may give its crate one job.
 _AMPLE_BYTES = 16 << 30
 
 
 def lanes(cores: int, memory: int) -> int:
-    """How many crates at most are proved side by side; 0 where `rt ci` of all is as quick, or memory holds no two."""
-    number = min(max(4, cores // 4), memory // _CHECK_BYTES)
+    """How many crates are proved side by side; 0 where `rt ci` of all is as quick, or memory holds no two checks."""
+    number = min(max(3, cores // 4), memory // _CHECK_BYTES)
     return number if cores >= 4 and number >= 2 else 0
 
 
@@ -74,7 +76,6 @@ class _Begun:
     """A crate under way: its process, and what it says."""
 
     crate: str
-    jobs: int
     process: subprocess.Popen[bytes]
     said: IO[bytes]
     since: float
@@ -84,17 +85,10 @@ class Ahead:
     """The crates that are left, and those that are under way."""
 
     def __init__(
-        self,
-        tasks: Iterable[Task],
-        way: Way,
-        environment: dict[str, str],
-        progress: Progress,
-        processors: int,
-        jobs: int = 2,
+        self, tasks: Iterable[Task], way: Way, environment: dict[str, str], progress: Progress, jobs: int = 2
     ) -> None:
         self._tasks = list(tasks)
-        self._way, self._environment, self._progress = way, environment, progress
-        self._processors, self._jobs = processors, jobs
+        self._way, self._environment, self._progress, self._jobs = way, environment, progress, jobs
         self._proved = set(progress.proved)
         self._ways = schedule.ways_above([it for it in self._tasks if not it.of_tests])
         self._order = schedule.longest_first(self._ways)
@@ -127,7 +121,8 @@ class Ahead:
     def _begin(self, number: int) -> bool:
         """Begins crates whose libraries are proved, and the one that comes next. Gives whether one is under way."""
         for crate in [it for it in self._left if self._is_ready(it)]:
-            if self._has_place(number) or self._overtakes(crate, number):
+            has_place = len(self._at_work()) < number or self._overtakes(crate, number)
+            if has_place and not self._can_wait(crate):
                 self._begin_one(crate)
         following = self._following()
         if following:
@@ -147,31 +142,21 @@ class Ahead:
         """The crates under way that wait for no other one."""
         return [it.crate for it in self._under_way if self._is_ready(it.crate)]
 
-    def _jobs_at_work(self) -> int:
-        """The jobs of the crates that wait for no other one and are not proved yet."""
-        return sum(it.jobs for it in self._under_way if self._is_ready(it.crate) and it.crate not in self._proved)
-
-    def _has_place(self, number: int) -> bool:
-        """Whether a processor has no job, and fewer crates than so many are at work."""
-        return len(self._at_work()) < number and self._jobs_at_work() < self._processors
-
     def _overtakes(self, crate: str, number: int) -> bool:
-        """Whether a crate need not wait for a place: its way is longer than one at work, and no other did."""
-        is_longer = any(self._order.index(it) > self._order.index(crate) for it in self._at_work())
-        is_first = len(self._at_work()) <= number and self._jobs_at_work() <= self._processors
-        return is_longer and is_first and free_memory() >= _AMPLE_BYTES
+        """Whether a crate need not wait for a place: its way is longer than that of a crate at work."""
+        at_work = self._at_work()
+        is_longer = any(self._order.index(it) > self._order.index(crate) for it in at_work)
+        return is_longer and len(at_work) == number and free_memory() >= _AMPLE_BYTES
 
-    def _jobs_of(self, crate: str) -> int:
-        """The jobs of a crate: more than one on the longest way, or where each other that is ready has a processor."""
-        others = [it for it in self._under_way if it.crate not in self._below[crate]]
-        ready = [it for it in self._left if it != crate and self._is_ready(it)]
-        idle = self._processors - sum(it.jobs for it in others) - len(ready)
-        return self._jobs if self._is_on_longest(crate) or idle >= self._jobs else 1
+    def _can_wait(self, crate: str) -> bool:
+        """Whether a crate leaves the processors to those at work, since what waits for it is far."""
+        return len(self._at_work()) >= 2 and self._part_of_longest(crate) < _NEAR
 
-    def _is_on_longest(self, crate: str) -> bool:
-        """Whether no crate has a longer way, of those that this one does not wait for."""
+    def _part_of_longest(self, crate: str) -> float:
+        """The way of a crate, as a part of the longest one of it and of those that it does not wait for."""
         others = {*self._left, *(it.crate for it in self._under_way)} - self._proved - self._all_below(crate)
-        return all(self._ways[it] <= self._ways[crate] for it in others)
+        longest = max(self._ways[it] for it in {crate, *others})
+        return self._ways[crate] / longest if longest else 1.0
 
     def _all_below(self, crate: str) -> set[str]:
         """The crates that a crate stands on, and those that these stand on."""
@@ -182,7 +167,8 @@ class Ahead:
         if not self._way.waits or len(self._at_work()) < len(self._under_way) or free_memory() < _AMPLE_BYTES:
             return None
         since = {it.crate: it.since for it in self._under_way}
-        following = next((it for it in self._left if self._below[it] <= self._proved | since.keys()), None)
+        others = (it for it in self._left if self._below[it] <= self._proved | since.keys())
+        following = next((it for it in others if not self._can_wait(it)), None)
         lacking = self._below[following] - self._proved if following else set()
         have_begun = all(time.monotonic() - since[it] >= _BEGUN_SECONDS for it in lacking)
         return following if lacking and have_begun else None
@@ -190,8 +176,7 @@ class Ahead:
     def _of(self, crate: str) -> _Begun:
         """The proof of a crate that is left, begun."""
         self._left.remove(crate)
-        jobs = self._jobs_of(crate)
-        words, folder = self._way.begin(crate, jobs)
+        words, folder = self._way.begin(crate, self._jobs if self._part_of_longest(crate) >= 1 else 1)
         others = (it.crate for it in self._under_way if it.crate not in self._below[crate])
         longer = sum(self._order.index(it) < self._order.index(crate) for it in others)
         if longer:
@@ -206,7 +191,7 @@ class Ahead:
             stderr=subprocess.STDOUT,
             start_new_session=True,
         )
-        return _Begun(crate, jobs, process, said, time.monotonic())
+        return _Begun(crate, process, said, time.monotonic())
 
     def _look(self) -> None:
         """Notes which crates are proved. What is left of their commands holds no other crate back."""

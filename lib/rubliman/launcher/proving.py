@@ -188,14 +188,11 @@ def _by_gate(asked: Asked, room: Path, tasks: list[Task], lanes: int, progress: 
             tick = _watch(asked, progress)
             libraries = [it for it in tasks if it.crate not in asked.programs]
             try:
-                if lanes and not toolchain.keeps_some(asked.rt, {it.crate for it in libraries}):
-                    raise _Proves
                 first = _until_it_proves(libraries, progress, tick) if lanes else tick
                 _ran([asked.rt, "ci"], copy, environment, progress, first)
             except _Proves:
-                way, wanted = ByName(asked.rt, copy, asked.programs), [*libraries, _building(asked, tasks)]
-                if not Ahead(wanted, way, environment, progress, len(os.sched_getaffinity(0))).prove(lanes, tick):
-                    _ran([asked.rt, "ci"], copy, environment, progress, tick)
+                Ahead(libraries, ByName(asked.rt, copy), environment, progress).prove(lanes, tick)
+                _ran([asked.rt, "ci"], copy, environment, progress, tick)
         except Refused as refused:
             if not progress.is_all_proved():
                 raise
@@ -204,21 +201,13 @@ def _by_gate(asked: Asked, room: Path, tasks: list[Task], lanes: int, progress: 
     return built(copy, asked.programs)
 
 
-def _building(asked: Asked, tasks: list[Task]) -> Task:
-    """What is left where all libraries are proved: one command proves and builds the programs."""
-    libraries = dict.fromkeys(it.crate for it in tasks if it.crate not in asked.programs)
-    minutes = sum(it.minutes for it in tasks if it.crate in asked.programs and not it.of_tests)
-    return Task(asked.programs[-1], False, tuple(libraries), minutes)
-
-
 def _in_trees(asked: Asked, room: Path, tasks: list[Task], lanes: int, progress: Progress) -> dict[str, Path]:
     """Proves each crate by `rt lib` or `rt run`, side by side, on a copy that is removed again."""
-    copy, processors = room / "copy", len(os.sched_getaffinity(0))
-    jobs = ahead.jobs(processors, ahead.free_memory(), lanes)
+    copy, jobs = room / "copy", ahead.jobs(len(os.sched_getaffinity(0)), ahead.free_memory(), lanes)
     shutil.rmtree(copy, ignore_errors=True)
     write_copy(asked.sources, copy)
     way = InTrees(asked.rt, copy, room / "trees", asked.sources.crates, asked.programs)
-    proofs = Ahead([it for it in tasks if not it.of_tests], way, toolchain.environment(), progress, processors, jobs)
+    proofs = Ahead([it for it in tasks if not it.of_tests], way, toolchain.environment(), progress, jobs)
     if not proofs.prove(lanes, progress.tick):
         raise Refused(proofs.said[-_SHOWN_LINES:])
     return built(copy, asked.programs)
