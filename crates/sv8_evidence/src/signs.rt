@@ -9,7 +9,7 @@ use sv8_notes::flag_step;
 use sv8_trace::{Signs, TrapNote};
 
 /// What the states before and after a step may show.
-#[derive(Clone, Copy, PartialEq, Eq, Debug)]
+#[derive(Clone, Copy)]
 pub enum Sign {
     /// Addresses are translated in the state before the step (Appendix H).
     Translation,

@@ -1,7 +1,7 @@
 //! The instructions of SPARC V8, with their operands, by the names of Appendix B.
 
 /// A test of the integer condition codes, as Bicc and Ticc make it, in the order of its code.
-#[derive(Clone, Copy, PartialEq, Eq, Debug)]
+#[derive(Clone, Copy)]
 pub enum Cond {
     Never,
     Equal,
@@ -22,7 +22,7 @@ pub enum Cond {
 }
 
 /// Where a word stands in the opcode table: by op, and for op 2 by the first bits of op3 (Appendix F).
-#[derive(Clone, Copy, PartialEq, Eq, Debug)]
+#[derive(Clone, Copy)]
 pub enum Group {
     /// Op 0: branches and SETHI.
     Format2,
@@ -39,14 +39,14 @@ pub enum Group {
 }
 
 /// The second source of an instruction: a register, or a number that stands in the word.
-#[derive(Clone, Copy, PartialEq, Eq, Debug)]
+#[derive(Clone, Copy)]
 pub enum Operand {
     Register(u8),
     Immediate(i32),
 }
 
 /// An operation that has a form which also sets the condition codes.
-#[derive(Clone, Copy, PartialEq, Eq, Debug)]
+#[derive(Clone, Copy)]
 pub enum ArithOp {
     Add,
     And,
@@ -65,7 +65,7 @@ pub enum ArithOp {
 }
 
 /// An operation on tagged numbers; the `Tv` forms trap on tag overflow.
-#[derive(Clone, Copy, PartialEq, Eq, Debug)]
+#[derive(Clone, Copy)]
 pub enum TaggedOp {
     TaddCc,
     TsubCc,
@@ -74,7 +74,7 @@ pub enum TaggedOp {
 }
 
 /// A shift: left, right, or right with the sign kept.
-#[derive(Clone, Copy, PartialEq, Eq, Debug)]
+#[derive(Clone, Copy)]
 pub enum ShiftOp {
     Sll,
     Srl,
@@ -82,7 +82,7 @@ pub enum ShiftOp {
 }
 
 /// A register that the instructions RDY, RDPSR, RDWIM, RDTBR read and WRY to WRTBR write.
-#[derive(Clone, Copy, PartialEq, Eq, Debug)]
+#[derive(Clone, Copy)]
 pub enum StateRegister {
     Y,
     Psr,
@@ -91,7 +91,7 @@ pub enum StateRegister {
 }
 
 /// A load, a store, or both at once; the alternate space forms have the same operations.
-#[derive(Clone, Copy, PartialEq, Eq, Debug)]
+#[derive(Clone, Copy)]
 pub enum MemoryOp {
     Ld,
     Ldub,
@@ -112,7 +112,7 @@ pub enum MemoryOp {
 /// Registers are numbers below 32, and a displacement counts words. `Fp` and `Cp` keep the whole
 /// word of a floating-point or coprocessor instruction, `AltImm` is an alternate space form with
 /// i = 1, and `Illegal` is every word that the manual gives no meaning.
-#[derive(Clone, Copy, PartialEq, Eq, Debug)]
+#[derive(Clone, Copy)]
 pub enum Instr {
     Unimp(u32),
     Bicc {

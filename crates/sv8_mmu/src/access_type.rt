@@ -4,7 +4,7 @@ ghost use Rattle.std.specs.Prelude.{◌≡◌, ◌≤◌};
 ghost use Rattle.sv8_mmu.specs.AccessTypes.{number_of, is_store};
 
 /// What an access is and in which space, as the fault status register tells it. Appendix H, the access types.
-#[derive(Clone, Copy, PartialEq, Eq, Debug)]
+#[derive(Clone, Copy, PartialEq, Eq)]
 pub enum AccessType {
     /// A load from user data.
     UserLoad,

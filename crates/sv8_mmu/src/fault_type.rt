@@ -4,7 +4,7 @@ ghost use Rattle.std.specs.Prelude.{◌≡◌, ◌≤◌};
 ghost use Rattle.sv8_mmu.specs.FaultTypes.{fault_number};
 
 /// Why an access is refused, as the fault status register tells it. Appendix H, the fault types.
-#[derive(Clone, Copy, PartialEq, Eq, Debug)]
+#[derive(Clone, Copy, PartialEq, Eq)]
 pub enum FaultType {
     /// The walk met an invalid entry.
     InvalidAddress,

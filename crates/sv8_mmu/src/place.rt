@@ -27,7 +27,7 @@ use sv8_phys::Phys;
 /// | 7 | nothing | RWX |
 ///
 /// A contract sees them as the number.
-#[derive(Clone, Copy, PartialEq, Eq, Debug)]
+#[derive(Clone, Copy)]
 pub struct AccessPermissions(u8);
 
 impl Model for AccessPermissions {
@@ -61,7 +61,7 @@ impl AccessPermissions {
 }
 
 /// The page that an address lies in.
-#[derive(Clone, Copy, PartialEq, Eq, Debug)]
+#[derive(Clone, Copy)]
 pub struct PagePlace {
     /// The level of the page's entry, which gives its size.
     pub level: TableLevel,
@@ -70,7 +70,7 @@ pub struct PagePlace {
 }
 
 /// Where a virtual address lies.
-#[derive(Clone, Copy, PartialEq, Eq, Debug)]
+#[derive(Clone, Copy)]
 pub struct Place {
     /// The physical address, of 36 bits.
     pub pa: u64,

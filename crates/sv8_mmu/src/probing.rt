@@ -16,7 +16,7 @@ use std::alloc::AllocError;
 use sv8_phys::{Phys, Touches};
 
 /// What a probe seeks.
-#[derive(Clone, Copy, PartialEq, Eq, Debug)]
+#[derive(Clone, Copy)]
 pub enum ProbeKind {
     /// The entry of level 3.
     Page,

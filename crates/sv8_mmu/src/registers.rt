@@ -8,7 +8,7 @@ use crate::fault_type::FaultType;
 use crate::table_level::TableLevel;
 
 /// The registers of the reference memory management unit.
-#[derive(Clone, Copy, PartialEq, Eq, Debug)]
+#[derive(Clone, Copy)]
 pub struct Mmu {
     /// The control register: bit 0 is E, bit 1 is NF.
     pub control: u32,
@@ -23,7 +23,7 @@ pub struct Mmu {
 }
 
 /// A fault of an access, as the fault status and fault address registers tell it.
-#[derive(Clone, Copy, PartialEq, Eq, Debug)]
+#[derive(Clone, Copy, PartialEq, Eq)]
 pub struct Fault {
     /// The level of the table entry at fault; `Context`, whose number is 0, where nothing serves the physical address.
     pub level: TableLevel,

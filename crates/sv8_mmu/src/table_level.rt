@@ -4,7 +4,7 @@ ghost use Rattle.std.specs.Prelude.{◌≡◌, ◌≤◌};
 ghost use Rattle.sv8_mmu.specs.TableLevels.{level_number};
 
 /// Which table an entry stands in, as the fault status register tells it. Appendix H, the fault status register.
-#[derive(Clone, Copy, PartialEq, Eq, Debug)]
+#[derive(Clone, Copy, PartialEq, Eq)]
 pub enum TableLevel {
     /// The context table, level 0. A page entry in it maps 4 GiB.
     Context,

@@ -24,14 +24,14 @@ use sv8_phys::{INPUT, OUTPUT, PENDING, Phys, Size, TIMER_COUNT, TIMER_RELOAD, To
 
 /// What serves an access: RAM alone for fetches, LDSTUB, SWAP and all that is no word; devices, too, for loads and stores of
 /// words.
-#[derive(Clone, Copy, PartialEq, Eq, Debug)]
+#[derive(Clone, Copy)]
 pub enum Reach {
     Ram,
     RamOrDevices,
 }
 
 /// An access to a virtual address.
-#[derive(Clone, Copy, PartialEq, Eq, Debug)]
+#[derive(Clone, Copy)]
 pub struct VirtualAccess {
     /// The virtual address.
     pub address: u32,
@@ -42,7 +42,7 @@ pub struct VirtualAccess {
 }
 
 /// What a translation leads to: a physical address of 36 bits, or a fault of a type and a level.
-#[derive(Clone, Copy, PartialEq, Eq, Debug)]
+#[derive(Clone, Copy)]
 pub enum Translated {
     At(u64),
     Refused { kind: FaultType, level: TableLevel },

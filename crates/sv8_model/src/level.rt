@@ -10,7 +10,7 @@ use std::marker::Model;
 ///
 /// There is no level 0, so that a value of this type is one that a device or an outside event may request. A contract
 /// sees it as the number.
-#[derive(Clone, Copy, Debug, PartialEq, Eq)]
+#[derive(Clone, Copy, PartialEq, Eq)]
 pub struct Level(u8);
 
 impl Model for Level {

@@ -1,7 +1,7 @@
 //! What an observer sees of a step, beside what it touches.
 
 /// What an access does with memory (Appendices B.1 to B.8).
-#[derive(Clone, Copy, PartialEq, Eq, Debug)]
+#[derive(Clone, Copy, PartialEq, Eq)]
 pub enum AccessKind {
     Load,
     Store,
@@ -10,7 +10,7 @@ pub enum AccessKind {
 }
 
 /// Something that a step did.
-#[derive(Clone, Copy, PartialEq, Eq, Debug)]
+#[derive(Clone, Copy, PartialEq, Eq)]
 pub enum Observation {
     /// An instruction was fetched from a physical address.
     Fetch {

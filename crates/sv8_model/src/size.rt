@@ -4,7 +4,7 @@ ghost use Rattle.std.specs.Prelude.{◌≡◌, ◌≤◌};
 ghost use Rattle.sv8_model.specs.Size.{bytes_in};
 
 /// How much an access loads or stores (Appendix B.1 and B.4 of the manual).
-#[derive(Clone, Copy, PartialEq, Eq, Debug)]
+#[derive(Clone, Copy, PartialEq, Eq)]
 pub enum Size {
     /// 1 byte.
     Byte,

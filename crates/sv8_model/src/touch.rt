@@ -1,7 +1,7 @@
 //! What a step touches of the outside of the processor.
 
 /// A touch of something outside the processor. Words of RAM are named by their physical address, a multiple of 4.
-#[derive(Clone, Copy, PartialEq, Eq, Debug)]
+#[derive(Clone, Copy, PartialEq, Eq)]
 pub enum Touch {
     /// A word of RAM is read, or a part of it is written, which leaves the rest.
     Read(u32),
@@ -16,7 +16,7 @@ pub enum Touch {
 }
 
 /// Which touches of words of RAM count.
-#[derive(Clone, Copy, PartialEq, Eq, Debug)]
+#[derive(Clone, Copy, PartialEq, Eq)]
 pub enum TouchKind {
     /// All of a step: those of its fetch and of walks through tables, and those of its data.
     Any,

@@ -7,7 +7,7 @@ ghost use Rattle.sv8_notes.specs.Cells.{cell_of, content_of, word_of_cell};
 use sv8_model::Level;
 
 /// A part of the state that outside events may set.
-#[derive(Clone, Copy, PartialEq, Eq, Debug)]
+#[derive(Clone, Copy)]
 pub enum Cell {
     /// The byte of RAM at a physical address.
     Byte(u32),
@@ -16,7 +16,7 @@ pub enum Cell {
 }
 
 /// What stands in a cell.
-#[derive(Clone, Copy, PartialEq, Eq, Debug)]
+#[derive(Clone, Copy)]
 pub enum Content {
     /// The value of a byte.
     Byte(u8),

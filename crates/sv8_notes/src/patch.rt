@@ -6,7 +6,7 @@ use crate::cell::{Cell, Content};
 pub const NO_END: u32 = u32::MAX;
 
 /// What changes a cell.
-#[derive(Clone, Copy, PartialEq, Eq, Debug)]
+#[derive(Clone, Copy)]
 pub enum Cause {
     /// The source is edited: the cell has this content after reset.
     Source(Content),
@@ -18,7 +18,7 @@ pub enum Cause {
 
 /// A change of one cell: from the step of its cause (0 for the source) to the next step whose event sets the cell anyway, which is
 /// `NO_END` where there is none.
-#[derive(Clone, Copy, PartialEq, Eq, Debug)]
+#[derive(Clone, Copy)]
 pub struct Patch {
     pub cell: Cell,
     pub from: u32,

@@ -323,17 +323,18 @@ const OUT_OF_RANGE: [Instr; 88] = instructions! {
     read(Wim, 255);
 };
 
-/// Each word decodes to its instruction, and the instruction encodes to the word.
+/// Each instruction encodes to its word, and so does what the word decodes to. That is then the same instruction, as no two
+/// have one word (`encodings_decode` of `sv8_assembler_laws`).
 #[test]
 fn words_of_an_assembler(rt: HostRuntime) -> Result<(), Fail> {
     for &(word, text, instr) in ASSEMBLED {
-        assert_eq!(rt; decode(word), instr, "{text}");
         assert_eq!(rt; encode(&instr), Some(word), "{text}");
+        assert_eq!(rt; encode(&decode(word)), Some(word), "{text}");
     }
     Ok(())
 }
 
-/// The first word has reserved bits set: it decodes as the second, and encodes to it.
+/// The first word has reserved bits set: it decodes as the second, since what both decode to encodes to that one.
 #[test]
 fn reserved_bits(rt: HostRuntime) -> Result<(), Fail> {
     let rows = [
@@ -365,9 +366,8 @@ fn reserved_bits(rt: HostRuntime) -> Result<(), Fail> {
         (0x8143_ffff, 0x8143_c000, "stbar"),
     ];
     for (word, plain, text) in rows {
-        let instr = decode(word);
-        assert_eq!(rt; instr, decode(plain), "{text}");
-        assert_eq!(rt; encode(&instr), Some(plain), "{text}");
+        assert_eq!(rt; encode(&decode(word)), Some(plain), "{text}");
+        assert_eq!(rt; encode(&decode(plain)), Some(plain), "{text}");
     }
     Ok(())
 }
@@ -426,16 +426,25 @@ const COPROCESSOR: [u32; 10] = [
 #[test]
 fn no_instruction(rt: HostRuntime) -> Result<(), Fail> {
     for word in ILLEGAL {
-        assert_eq!(rt; decode(word), Illegal, "at {word}");
+        assert!(rt; matches!(decode(word), Illegal), "at {word}");
     }
     for op3 in UNUSED_2 {
-        assert_eq!(rt; decode(2 << 30 | op3 << 19), Illegal, "op 2, op3 {op3}");
+        assert!(rt;
+            matches!(decode(2 << 30 | op3 << 19), Illegal),
+            "op 2, op3 {op3}"
+        );
     }
     for op3 in UNUSED_3 {
-        assert_eq!(rt; decode(3 << 30 | op3 << 19), Illegal, "op 3, op3 {op3}");
+        assert!(rt;
+            matches!(decode(3 << 30 | op3 << 19), Illegal),
+            "op 3, op3 {op3}"
+        );
     }
     for op3 in ALTERNATE {
-        assert_eq!(rt; decode(3 << 30 | op3 << 19 | 1 << 13), AltImm, "op3 {op3}");
+        assert!(rt;
+            matches!(decode(3 << 30 | op3 << 19 | 1 << 13), AltImm),
+            "op3 {op3}"
+        );
     }
     Ok(())
 }
@@ -445,14 +454,20 @@ fn no_instruction(rt: HostRuntime) -> Result<(), Fail> {
 fn words_kept_whole(rt: HostRuntime) -> Result<(), Fail> {
     for word in FLOATING_POINT {
         for word in [word, word | 0x3e07_ffff] {
-            assert_eq!(rt; decode(word), Fp(word), "at {word}");
+            assert!(rt;
+                matches!(decode(word), Fp(whole) if whole == word),
+                "at {word}"
+            );
             assert_eq!(rt; encode(&Fp(word)), Some(word), "at {word}");
             assert_eq!(rt; encode(&Cp(word)), None, "at {word}");
         }
     }
     for word in COPROCESSOR {
         for word in [word, word | 0x3e07_ffff] {
-            assert_eq!(rt; decode(word), Cp(word), "at {word}");
+            assert!(rt;
+                matches!(decode(word), Cp(whole) if whole == word),
+                "at {word}"
+            );
             assert_eq!(rt; encode(&Cp(word)), Some(word), "at {word}");
             assert_eq!(rt; encode(&Fp(word)), None, "at {word}");
         }
@@ -464,11 +479,14 @@ fn words_kept_whole(rt: HostRuntime) -> Result<(), Fail> {
 /// `sethi 0, %g0`), and what is no instruction.
 #[test]
 fn no_word(rt: HostRuntime) -> Result<(), Fail> {
-    for instr in OUT_OF_RANGE {
-        assert_eq!(rt; encode(&instr), None, "{instr:?}");
+    for (place, instr) in OUT_OF_RANGE.iter().enumerate() {
+        assert_eq!(rt; encode(instr), None, "at {place}");
     }
-    for instr in [Fp(0x0100_0000), Cp(0x0100_0000), AltImm, Illegal] {
-        assert_eq!(rt; encode(&instr), None, "{instr:?}");
+    for (place, instr) in [Fp(0x0100_0000), Cp(0x0100_0000), AltImm, Illegal]
+        .iter()
+        .enumerate()
+    {
+        assert_eq!(rt; encode(instr), None, "no instruction, at {place}");
     }
     Ok(())
 }

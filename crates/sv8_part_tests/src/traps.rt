@@ -11,6 +11,6 @@ fn the_lowest_priority_number_is_taken(rt: HostRuntime) -> Result<(), Fail> {
         Trap::MemAddressNotAligned,
         Trap::PrivilegedInstruction,
     ];
-    assert_eq!(rt; select(&raised), Trap::PrivilegedInstruction);
+    assert!(rt; matches!(select(&raised), Trap::PrivilegedInstruction));
     Ok(())
 }

@@ -11,7 +11,7 @@ use std::marker::Model;
 use std::rc::Rc;
 
 /// A place in the console's output: the index of a piece of 4,096 bytes, and a place in it.
-#[derive(Clone, Copy, PartialEq, Eq, Debug)]
+#[derive(Clone, Copy)]
 pub struct OutputPlace {
     pub piece: usize,
     pub place: usize,

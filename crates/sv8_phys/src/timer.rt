@@ -1,7 +1,7 @@
 //! The timer.
 
 /// The timer's registers.
-#[derive(Clone, Copy, PartialEq, Eq, Debug)]
+#[derive(Clone, Copy)]
 pub struct Timer {
     /// How many steps are left until the timer expires; 0 where it stands still.
     pub count: u32,

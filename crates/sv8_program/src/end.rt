@@ -9,7 +9,7 @@ use std::io::{self, Write};
 use sv8_session::RunFault;
 
 /// How a program ends.
-#[derive(Debug, Drop, Clone, Copy, PartialEq, Eq)]
+#[derive(Drop, Clone, Copy, PartialEq, Eq)]
 pub enum End {
     /// The script ended, or `quit` was read.
     Done,

@@ -21,7 +21,7 @@ use words::{change_window, same_rows, same_words};
 /// The fields of the Processor State Register, but for the current window. Section 4.2.
 ///
 /// The implementation and version numbers, EC, EF and the reserved bits always read 0, so they are no fields.
-#[derive(Clone, Copy, Debug, PartialEq, Eq)]
+#[derive(Clone, Copy, PartialEq, Eq)]
 pub struct Psr {
     /// The result was negative.
     pub n: bool,
@@ -42,7 +42,7 @@ pub struct Psr {
 }
 
 /// The integer condition codes, the icc field of the PSR. Section 4.2.
-#[derive(Clone, Copy, Debug, PartialEq, Eq)]
+#[derive(Clone, Copy)]
 pub struct ConditionCodes {
     /// The result was negative.
     pub n: bool,

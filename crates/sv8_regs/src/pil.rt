@@ -9,7 +9,7 @@ use std::marker::Model;
 /// and those of level 15 always (The SPARC Architecture Manual, Version 8, sections 4.2 and 7.5).
 ///
 /// A contract sees it as the number.
-#[derive(Clone, Copy, Debug, PartialEq, Eq)]
+#[derive(Clone, Copy, PartialEq, Eq)]
 pub struct Pil(u8);
 
 impl Model for Pil {

@@ -1,7 +1,7 @@
 //! A word that differs.
 
 /// A word of RAM by its address, as it was before and as it is now.
-#[derive(Clone, Copy, PartialEq, Eq, Debug)]
+#[derive(Clone, Copy)]
 pub struct Difference {
     pub address: u32,
     pub old: u32,

@@ -3,7 +3,7 @@
 use sv8_watch::Happening;
 
 /// A step, and what happened in it.
-#[derive(Clone, Copy, PartialEq, Eq, Debug)]
+#[derive(Clone, Copy)]
 pub struct Found {
     pub step: u32,
     pub happening: Happening,

@@ -12,7 +12,7 @@ use sv8_asm::constant;
 use sv8_syntax::{Label, Statement};
 
 /// What defines a name.
-#[derive(Debug, Drop, Clone, Copy, PartialEq, Eq)]
+#[derive(Drop, Clone, Copy)]
 pub enum NameKind {
     /// A line that has it as its label.
     Label,

@@ -7,7 +7,7 @@ use crate::ordered::{Keyed, Ordered};
 use sv8_model::Level;
 
 /// An interrupt request from outside.
-#[derive(Debug, Drop, Clone, Copy, PartialEq, Eq)]
+#[derive(Drop, Clone, Copy)]
 pub struct Request {
     /// The step at which it happens.
     pub step: u32,

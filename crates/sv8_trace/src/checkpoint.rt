@@ -3,7 +3,7 @@
 use sv8_phys::OutputPlace;
 
 /// What is read of a checkpoint where it is kept, with no memory taken.
-#[derive(Clone, Copy, PartialEq, Eq, Debug)]
+#[derive(Clone, Copy)]
 pub struct Checkpoint {
     /// Whether the machine runs; if not, it is in error mode (chapter 7).
     pub running: bool,

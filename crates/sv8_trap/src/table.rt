@@ -4,7 +4,7 @@ ghost use Rattle.std.specs.Prelude.{◌≡◌, ◌<◌, length, Some};
 ghost use Rattle.sv8_trap.specs.Table.{row_of, is_before, first_of, first_among, taken};
 
 /// A trap, by its name in table 7-1.
-#[derive(Clone, Copy, PartialEq, Eq, Debug)]
+#[derive(Clone, Copy)]
 pub enum Trap {
     InstructionAccessException,
     PrivilegedInstruction,
@@ -24,7 +24,7 @@ pub enum Trap {
 }
 
 /// A row of table 7-1.
-#[derive(Clone, Copy, PartialEq, Eq, Debug)]
+#[derive(Clone, Copy)]
 pub struct Row {
     /// The priority, of which 1 is the highest.
     pub priority: u8,

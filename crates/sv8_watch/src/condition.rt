@@ -14,7 +14,7 @@ use sv8_time::Timeline;
 use sv8_touches::Watch;
 
 /// A condition on a step. Addresses of memory are physical; `count` bytes from `address` on are meant.
-#[derive(Clone, Copy, PartialEq, Eq, Debug)]
+#[derive(Clone, Copy)]
 pub enum Condition {
     /// The instruction at this PC is carried out, or traps.
     Pc(u32),

@@ -3,7 +3,7 @@
 use sv8_phys::AccessKind;
 
 /// How a step ended.
-#[derive(Clone, Copy, PartialEq, Eq, Debug)]
+#[derive(Clone, Copy)]
 pub enum Outcome {
     /// Nothing happened but events: the machine was in error mode before.
     Stop,
@@ -18,14 +18,14 @@ pub enum Outcome {
 }
 
 /// The fetch of an instruction: where its word stands in RAM, and the word.
-#[derive(Clone, Copy, PartialEq, Eq, Debug)]
+#[derive(Clone, Copy)]
 pub struct Fetch {
     pub from: u64,
     pub word: u32,
 }
 
 /// The access of an instruction, which was made: so many bytes (1, 2, 4 or 8) at a virtual address, which is this physical one.
-#[derive(Clone, Copy, PartialEq, Eq, Debug)]
+#[derive(Clone, Copy)]
 pub struct Access {
     pub kind: AccessKind,
     pub bytes: u64,
@@ -34,7 +34,7 @@ pub struct Access {
 }
 
 /// What happened in a step.
-#[derive(Clone, Copy, PartialEq, Eq, Debug)]
+#[derive(Clone, Copy)]
 pub struct Happening {
     /// The program counter before the step.
     pub pc: u32,

@@ -7,7 +7,7 @@ use crate::condition::Condition;
 use sv8_phys::TouchKind;
 
 /// So many bytes of RAM from a physical address on.
-#[derive(Clone, Copy, PartialEq, Eq, Debug)]
+#[derive(Clone, Copy)]
 pub struct Span {
     pub address: u32,
     pub count: u32,

@@ -1,7 +1,7 @@
 //! What the command line chooses.
 
 /// What the words of the command line choose.
-#[derive(Debug, Drop, Clone, Copy)]
+#[derive(Drop, Clone, Copy)]
 pub struct Settings<'a> {
     /// The number of register windows: 2, 4, 8, 16 or 32.
     pub windows: u32,
