@@ -13,7 +13,7 @@ use Rattle.sv8_model.specs.Cells.{ram_byte, is_read, is_written, is_data}
 use Rattle.sv8_time.specs.Order.{Each}
 use Rattle.sv8_time.specs.Schedule.{Schedule, BytePoke, pokes_of_step}
 use Rattle.sv8_phys.specs.Memory.{ram_size}
-use Rattle.sv8_phys.specs.Devices.{input_address}
+use Rattle.sv8_model.specs.Devices.{input_address}
 use Rattle.sv8_mmu.specs.Registers.{translates}
 use Rattle.sv8_trap.specs.declared.request.AccessRequest.{AccessRequest}
 use Rattle.sv8_trap.specs.Requests.{IsAligned}

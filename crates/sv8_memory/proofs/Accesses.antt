@@ -12,7 +12,8 @@ use Rattle.sv8_model.proofs.Common.{does_then, does_map, does_done, does_observe
 use Rattle.sv8_phys.specs.declared.fault.BusError.{BusError}
 use Rattle.sv8_model.specs.declared.size.Size.{Size}
 use Rattle.sv8_model.specs.declared.size.Size.TheVariants.{Byte, Half, Word, Double}
-use Rattle.sv8_phys.specs.Devices.{input_address, waiting_address, Stored, load, store, ram_load, ram_store}
+use Rattle.sv8_model.specs.Devices.{input_address, waiting_address}
+use Rattle.sv8_phys.specs.Devices.{Stored, load, store, ram_load, ram_store}
 use Rattle.sv8_mmu.specs.declared.access_type.AccessType.{AccessType}
 use Rattle.sv8_mmu.specs.declared.fault_type.FaultType.{FaultType}
 use Rattle.sv8_mmu.specs.declared.table_level.TableLevel.{TableLevel}

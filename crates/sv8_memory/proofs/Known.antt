@@ -6,7 +6,8 @@ use Rattle.sv8_model.specs.Action.{done, count_waiting, result_of, after, ◌>>=
 use Rattle.sv8_model.specs.Does.{DoesUnnoted, keeping, no_notes}
 use Rattle.sv8_model.specs.declared.size.Size.{Size}
 use Rattle.sv8_model.specs.declared.size.Size.TheVariants.{Byte, Half, Word, Double}
-use Rattle.sv8_phys.specs.Devices.{ram_load, device_store, input_address, waiting_address, output_address, count_address, reload_address, pending_address}
+use Rattle.sv8_model.specs.Devices.{input_address, waiting_address, output_address, count_address, reload_address, pending_address}
+use Rattle.sv8_phys.specs.Devices.{ram_load, device_store}
 use Rattle.sv8_mmu.specs.declared.translation.Reach.TheVariants.{Ram}
 use Rattle.sv8_mmu.specs.declared.translation.Translated.TheVariants.{At}
 use Rattle.sv8_mmu.specs.Registers.{translates}

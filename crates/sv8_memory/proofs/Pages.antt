@@ -9,7 +9,8 @@ use Rattle.sv8_model.specs.declared.size.Size.{Size}
 use Rattle.sv8_model.specs.declared.size.Size.TheVariants.{Byte, Half, Word, Double}
 use Rattle.sv8_model.specs.Size.{bytes_in}
 use Rattle.sv8_phys.specs.declared.timer.Timer.{Timer}
-use Rattle.sv8_phys.specs.Devices.{input_address, waiting_address, output_address, count_address, reload_address, pending_address, Stored, store, ram_store, outside_store, device_store, tick}
+use Rattle.sv8_model.specs.Devices.{input_address, waiting_address, output_address, count_address, reload_address, pending_address}
+use Rattle.sv8_phys.specs.Devices.{Stored, store, ram_store, outside_store, device_store, tick}
 use Rattle.sv8_mmu.specs.Kept.{DiffersInPage}
 
 -- no page differs

@@ -10,7 +10,8 @@ use Rattle.sv8_phys.specs.declared.fault.BusError.{BusError}
 use Rattle.sv8_model.specs.declared.size.Size.{Size}
 use Rattle.sv8_model.specs.declared.size.Size.TheVariants.{Byte, Half, Word, Double}
 use Rattle.sv8_model.specs.Size.{bytes_in}
-use Rattle.sv8_phys.specs.Devices.{Stored, load, store, ram_load, ram_store, input_address, waiting_address}
+use Rattle.sv8_model.specs.Devices.{input_address, waiting_address}
+use Rattle.sv8_phys.specs.Devices.{Stored, load, store, ram_load, ram_store}
 use Rattle.sv8_mmu.specs.declared.access_type.AccessType.{AccessType}
 use Rattle.sv8_mmu.specs.declared.access_type.AccessType.TheVariants.{UserLoad, SupervisorLoad, UserFetch, SupervisorFetch, UserStore, SupervisorStore, UserInstructionStore, SupervisorInstructionStore}
 use Rattle.sv8_mmu.specs.declared.fault_type.FaultType.TheVariants.{AccessBus}

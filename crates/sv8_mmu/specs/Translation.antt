@@ -2,7 +2,7 @@
 use Rattle.std.specs.Prelude.{ℕ, ◌+◌, ◌*◌, ◌/◌, ◌%◌, ◌^◌, Bool, ◌||◌, ◌==◌, nat_lt, List, [], ◌∷◌, slice_index_or, Option, Some, None, if◌then◌else◌}
 use Rattle.sv8_model.specs.Words.{field, bit}
 use Rattle.sv8_model.specs.Action.{Action, done, store_word, ◌>>=◌}
-use Rattle.sv8_phys.specs.Devices.{input_address, waiting_address, output_address, count_address, reload_address, pending_address}
+use Rattle.sv8_model.specs.Devices.{input_address, waiting_address, output_address, count_address, reload_address, pending_address}
 use Rattle.sv8_mmu.specs.declared.access_type.AccessType.{AccessType}
 use Rattle.sv8_mmu.specs.declared.access_type.AccessType.TheVariants.{UserLoad, SupervisorLoad, UserFetch, SupervisorFetch, UserStore, SupervisorStore, UserInstructionStore, SupervisorInstructionStore}
 use Rattle.sv8_mmu.specs.declared.fault_type.FaultType.{FaultType}

@@ -2,8 +2,6 @@
 
 ghost use Rattle.std.specs.Prelude.{◌≡◌, ℕ, List, [], true, IfOk, OnErr};
 ghost use Rattle.sv8_model.specs.Does.{Does, keeping};
-ghost use Rattle.sv8_phys.specs.Memory.{ram_size};
-ghost use Rattle.sv8_phys.specs.Contents.{outside_of};
 ghost use Rattle.sv8_mmu.specs.Answers.{answer_of, answered_translation, translation_grows};
 ghost use Rattle.sv8_mmu.specs.Kept.{AllStand, IsAnswer};
 
@@ -11,7 +9,7 @@ use crate::buffer::Buffer;
 use crate::registers::{Fault, Mmu};
 use crate::translation::{Translated, VirtualAccess, resolve};
 use std::alloc::AllocError;
-use sv8_phys::{Phys, Touches};
+use sv8_model::{TableMemory, Touches};
 
 /// What a translation leads to, with its whole fault.
 #[inline(always)]
@@ -39,21 +37,21 @@ fn answer_of(access: VirtualAccess, translated: Translated) -> Result<u64, Fault
 ///
 /// `AllocError` where memory for a note, or for a page of RAM that is shared and whose entry is marked, cannot be had; memory is
 /// then as it was.
-pub fn translate<const PAGES: usize, T: Touches>(
+pub fn translate<R: TableMemory, T: Touches>(
     registers: &Mmu,
     buffer: &mut Buffer,
-    phys: &mut Phys<PAGES>,
+    phys: &mut R,
     access: VirtualAccess,
     notes: &mut T,
 ) -> Result<Result<u64, Fault>, AllocError>
-    requires stand { AllStand (ram_size PAGES) phys.old.ram registers.now.table_pointer buffer.old }
-    ensures ok { IfOk result (λ r. (bytes : List ℕ) → Does (keeping T.KEEPS T.OBSERVES) (answered_translation (ram_size PAGES) registers.now access.address access.access_type access.reach)
-        (outside_of phys.old bytes) (outside_of phys.new bytes) r (T.noted notes.old) (T.noted notes.new)) }
+    requires stand { AllStand R.SIZE (R.ram phys.old) registers.now.table_pointer buffer.old }
+    ensures ok { IfOk result (λ r. (bytes : List ℕ) → Does (keeping T.KEEPS T.OBSERVES) (answered_translation R.SIZE registers.now access.address access.access_type access.reach)
+        (record (R.outside bytes phys.old) { ram = R.ram phys.old }) (record (R.outside bytes phys.new) { ram = R.ram phys.new }) r (T.noted notes.old) (T.noted notes.new)) }
     ensures answer { IfOk result (λ r. IsAnswer access.address access.access_type r) }
-    ensures others { phys.new ≡ record phys.old { ram = phys.new.ram } }
+    ensures others { phys.new ≡ R.with_ram (R.ram phys.new) phys.old }
     ensures err { OnErr result (phys.new ≡ phys.old) }
-    ensures growth { OnErr result (translation_grows T.KEEPS (ram_size PAGES) registers.now access.address access.access_type access.reach (outside_of phys.old []) ≡ true) }
-    ensures stand { AllStand (ram_size PAGES) phys.new.ram registers.now.table_pointer buffer.new }
+    ensures growth { OnErr result (translation_grows T.KEEPS R.SIZE registers.now access.address access.access_type access.reach (record (R.outside [] phys.old) { ram = R.ram phys.old }) ≡ true) }
+    ensures stand { AllStand R.SIZE (R.ram phys.new) registers.now.table_pointer buffer.new }
 {
     let translated = resolve(registers, buffer, phys, access, notes)?;
     Ok(answer_of(access, translated))

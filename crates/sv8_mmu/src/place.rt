@@ -1,7 +1,6 @@
 //! Where a virtual address lies.
 
 ghost use Rattle.std.specs.Prelude.{◌≡◌, ◌<◌, ◌%◌, ◌^◌, IfSome};
-ghost use Rattle.sv8_phys.specs.Memory.{ram_size};
 ghost use Rattle.sv8_mmu.specs.Place.{placed, place_of};
 ghost use Rattle.sv8_mmu.specs.Translation.{permission};
 
@@ -10,7 +9,7 @@ use crate::table_level::TableLevel;
 use crate::translation::physical_address;
 use crate::walk::{Walked, walk_for};
 use std::marker::Model;
-use sv8_phys::Phys;
+use sv8_model::TableMemory;
 
 /// The access permissions of a page, the field ACC of its entry, from 0 to 7: what the user and the supervisor may do there
 /// (Appendix H). R is to read, W to write, and X to execute.
@@ -103,8 +102,8 @@ fn placed(end: Walked, va: u32) -> Option<Place>
 /// It asks for no access, so ACC is told and not looked at, nothing is marked, no fault is recorded, and whether RAM or a device
 /// is at the physical address is not asked. It reads RAM, whatever a lookaside buffer keeps.
 #[tactic(auto, unfolding(crate::specs::Place::place_of))]
-pub fn place_of<const PAGES: usize>(registers: &Mmu, phys: &Phys<PAGES>, va: u32) -> Option<Place>
-    ensures value { result ≡ place_of (ram_size PAGES) registers.now phys.now.ram va }
+pub fn place_of<R: TableMemory>(registers: &Mmu, phys: &R, va: u32) -> Option<Place>
+    ensures value { result ≡ place_of R.SIZE registers.now (R.ram phys.now) va }
     ensures offset { IfSome result (λ p. p.pa % 4096 ≡ va % 4096) }
     ensures small { IfSome result (λ p. p.pa < 2 ^ 36) }
 {

@@ -3,8 +3,6 @@
 ghost use Rattle.std.specs.Prelude.{◌≡◌, ℕ, ◌<◌, ◌≤◌, ◌+◌, ◌-◌, ◌*◌, ◌/◌, ◌%◌, List, [], length, IfOk, OnErr, true};
 ghost use Rattle.sv8_model.specs.Outside.{Outside};
 ghost use Rattle.sv8_model.specs.Does.{Does, keeping, touching, no_notes};
-ghost use Rattle.sv8_phys.specs.Memory.{ram_size};
-ghost use Rattle.sv8_phys.specs.Contents.{outside_of};
 ghost use Rattle.sv8_mmu.specs.Walk.{table_of, entry_at, indices_of, walk};
 ghost use Rattle.sv8_mmu.specs.Probe.{found, sought, level_probed, entirely_probed, probed_as, probe};
 ghost use Rattle.sv8_mmu.specs.Kept.{places_of, reads_of};
@@ -13,7 +11,7 @@ use crate::registers::Mmu;
 use crate::translation::note_reads;
 use crate::walk::{TableIndex, Trail, Walked, entry_at, indices_of, table_of, walk_for};
 use std::alloc::AllocError;
-use sv8_phys::{Phys, Touches};
+use sv8_model::{TableMemory, Touches};
 
 /// What a probe seeks.
 #[derive(Clone, Copy)]
@@ -46,16 +44,16 @@ fn found(below: &[TableIndex], entry: u32) -> u32
 
 /// What an entry leads to where the level that is sought is `depth` levels deeper.
 #[tactic(auto, using(crate::proofs::Levels::next_sought, crate::proofs::Levels::none_sought), unfolding(crate::specs::Probe::sought))]
-fn sought<const PAGES: usize>(
-    phys: &Phys<PAGES>,
+fn sought<R: TableMemory>(
+    phys: &R,
     depth: u32,
     below: &[TableIndex],
     entry: u32,
     trail: &mut Trail,
 ) -> u32
     requires room { trail.old.count + length below.now ≤ 4 }
-    ensures { (o : Outside) → Does (keeping true true) (sought (ram_size PAGES) depth below.now entry)
-        (record o { ram = phys.now.ram }) (record o { ram = phys.now.ram }) result (touching (reads_of (places_of trail.old))) (touching (reads_of (places_of trail.new))) }
+    ensures { (o : Outside) → Does (keeping true true) (sought R.SIZE depth below.now entry)
+        (record o { ram = R.ram phys.now }) (record o { ram = R.ram phys.now }) result (touching (reads_of (places_of trail.old))) (touching (reads_of (places_of trail.new))) }
 {
     if depth == 0 {
         return found(below, entry);
@@ -75,16 +73,16 @@ fn sought<const PAGES: usize>(
 }
 
 /// The value of a probe for the entry at a level.
-fn probe_level<const PAGES: usize>(
+fn probe_level<R: TableMemory>(
     registers: &Mmu,
-    phys: &Phys<PAGES>,
+    phys: &R,
     level: u32,
     va: u32,
     trail: &mut Trail,
 ) -> u32
     requires empty { trail.old.count ≡ 0 }
-    ensures { (o : Outside) → Does (keeping true true) (level_probed (ram_size PAGES) registers.now level va)
-        (record o { ram = phys.now.ram }) (record o { ram = phys.now.ram }) result no_notes (touching (reads_of (places_of trail.new))) }
+    ensures { (o : Outside) → Does (keeping true true) (level_probed R.SIZE registers.now level va)
+        (record o { ram = R.ram phys.now }) (record o { ram = R.ram phys.now }) result no_notes (touching (reads_of (places_of trail.new))) }
 {
     let indices = indices_of(va);
     let root = table_of(registers.table_pointer) + 4 * (registers.context as u64);
@@ -95,14 +93,9 @@ fn probe_level<const PAGES: usize>(
 }
 
 /// The value of a probe for a whole walk.
-fn probe_entire<const PAGES: usize>(
-    registers: &Mmu,
-    phys: &Phys<PAGES>,
-    va: u32,
-    trail: &mut Trail,
-) -> u32
-    ensures { (o : Outside) → Does (keeping true true) (entirely_probed (ram_size PAGES) registers.now va)
-        (record o { ram = phys.now.ram }) (record o { ram = phys.now.ram }) result no_notes (touching (reads_of (places_of trail.new))) }
+fn probe_entire<R: TableMemory>(registers: &Mmu, phys: &R, va: u32, trail: &mut Trail) -> u32
+    ensures { (o : Outside) → Does (keeping true true) (entirely_probed R.SIZE registers.now va)
+        (record o { ram = R.ram phys.now }) (record o { ram = R.ram phys.now }) result no_notes (touching (reads_of (places_of trail.new))) }
 {
     let walk = walk_for(phys, registers.table_pointer, registers.context, va);
     *trail = walk.trail;
@@ -113,16 +106,16 @@ fn probe_entire<const PAGES: usize>(
 }
 
 /// The value of a probe of a kind, and the entries that it reads.
-fn probed_as<const PAGES: usize>(
+fn probed_as<R: TableMemory>(
     registers: &Mmu,
-    phys: &Phys<PAGES>,
+    phys: &R,
     va: u32,
     kind: ProbeKind,
     trail: &mut Trail,
 ) -> u32
     requires empty { trail.old.count ≡ 0 }
-    ensures { (o : Outside) → Does (keeping true true) (probed_as (ram_size PAGES) registers.now va kind)
-        (record o { ram = phys.now.ram }) (record o { ram = phys.now.ram }) result no_notes (touching (reads_of (places_of trail.new))) }
+    ensures { (o : Outside) → Does (keeping true true) (probed_as R.SIZE registers.now va kind)
+        (record o { ram = R.ram phys.now }) (record o { ram = R.ram phys.now }) result no_notes (touching (reads_of (places_of trail.new))) }
 {
     match kind {
         ProbeKind::Page => probe_level(registers, phys, 3, va, trail),
@@ -135,16 +128,11 @@ fn probed_as<const PAGES: usize>(
 
 /// The value of a probe, and the entries that it reads.
 #[tactic(auto, unfolding(crate::specs::Probe::probe, sv8_model::specs::Words::field))]
-fn probed<const PAGES: usize>(
-    registers: &Mmu,
-    phys: &Phys<PAGES>,
-    va: u32,
-    trail: &mut Trail,
-) -> u32
+fn probed<R: TableMemory>(registers: &Mmu, phys: &R, va: u32, trail: &mut Trail) -> u32
     requires empty { trail.old.count ≡ 0 }
     requires nothing { places_of trail.old ≡ [] }
-    ensures { (o : Outside) → Does (keeping true true) (probe (ram_size PAGES) registers.now va)
-        (record o { ram = phys.now.ram }) (record o { ram = phys.now.ram }) result no_notes (touching (reads_of (places_of trail.new))) }
+    ensures { (o : Outside) → Does (keeping true true) (probe R.SIZE registers.now va)
+        (record o { ram = R.ram phys.now }) (record o { ram = R.ram phys.now }) result no_notes (touching (reads_of (places_of trail.new))) }
 {
     let kind = va / 0x100 % 0x10;
     if kind < 4 {
@@ -162,15 +150,15 @@ fn probed<const PAGES: usize>(
 /// # Errors
 ///
 /// `AllocError` where memory for a note cannot be had.
-pub fn probe<const PAGES: usize, T: Touches>(
+pub fn probe<R: TableMemory, T: Touches>(
     registers: &Mmu,
-    phys: &Phys<PAGES>,
+    phys: &R,
     va: u32,
     kind: ProbeKind,
     notes: &mut T,
 ) -> Result<u32, AllocError>
-    ensures ok { IfOk result (λ v. (bytes : List ℕ) → Does (keeping T.KEEPS T.OBSERVES) (probed_as (ram_size PAGES) registers.now va kind)
-        (outside_of phys.now bytes) (outside_of phys.now bytes) v (T.noted notes.old) (T.noted notes.new)) }
+    ensures ok { IfOk result (λ v. (bytes : List ℕ) → Does (keeping T.KEEPS T.OBSERVES) (probed_as R.SIZE registers.now va kind)
+        (record (R.outside bytes phys.now) { ram = R.ram phys.now }) (record (R.outside bytes phys.now) { ram = R.ram phys.now }) v (T.noted notes.old) (T.noted notes.new)) }
     ensures err { OnErr result (T.KEEPS ≡ true) }
 {
     let mut trail = Trail::new();
@@ -184,14 +172,14 @@ pub fn probe<const PAGES: usize, T: Touches>(
 /// # Errors
 ///
 /// `AllocError` where memory for a note cannot be had.
-pub fn probe_by_address<const PAGES: usize, T: Touches>(
+pub fn probe_by_address<R: TableMemory, T: Touches>(
     registers: &Mmu,
-    phys: &Phys<PAGES>,
+    phys: &R,
     va: u32,
     notes: &mut T,
 ) -> Result<u32, AllocError>
-    ensures ok { IfOk result (λ v. (bytes : List ℕ) → Does (keeping T.KEEPS T.OBSERVES) (probe (ram_size PAGES) registers.now va)
-        (outside_of phys.now bytes) (outside_of phys.now bytes) v (T.noted notes.old) (T.noted notes.new)) }
+    ensures ok { IfOk result (λ v. (bytes : List ℕ) → Does (keeping T.KEEPS T.OBSERVES) (probe R.SIZE registers.now va)
+        (record (R.outside bytes phys.now) { ram = R.ram phys.now }) (record (R.outside bytes phys.now) { ram = R.ram phys.now }) v (T.noted notes.old) (T.noted notes.new)) }
     ensures err { OnErr result (T.KEEPS ≡ true) }
 {
     let mut trail = Trail::new();

@@ -3,8 +3,6 @@
 ghost use Rattle.std.specs.Prelude.{◌≡◌, ℕ, ◌<◌, ◌+◌, ◌*◌, ◌/◌, ◌%◌, ◌^◌, List, [], IfOk, IfSome, MatchOption, OnOk, OnErr, nat_lt, true};
 ghost use Rattle.sv8_model.specs.Outside.{Outside};
 ghost use Rattle.sv8_model.specs.Does.{Does, DoesUnnoted, kept, noting, keeping, touching, no_notes};
-ghost use Rattle.sv8_phys.specs.Memory.{ram_size};
-ghost use Rattle.sv8_phys.specs.Contents.{outside_of};
 ghost use Rattle.sv8_mmu.specs.Registers.{translates};
 ghost use Rattle.sv8_mmu.specs.FaultTypes.{refused_by};
 ghost use Rattle.sv8_mmu.specs.Translation.{fault_types, fault_type, with_bit, marked, physical_address, is_device, is_served, settled, translate};
@@ -19,8 +17,9 @@ use crate::registers::Mmu;
 use crate::table_level::TableLevel;
 use crate::walk::{Trail, Walk, Walked, walk_for};
 use std::alloc::AllocError;
-use sv8_model::Touch;
-use sv8_phys::{INPUT, OUTPUT, PENDING, Phys, Size, TIMER_COUNT, TIMER_RELOAD, Touches, WAITING};
+use sv8_model::{
+    INPUT, OUTPUT, PENDING, TIMER_COUNT, TIMER_RELOAD, TableMemory, Touch, Touches, WAITING,
+};
 
 /// What serves an access: RAM alone for fetches, LDSTUB, SWAP and all that is no word; devices, too, for loads and stores of
 /// words.
@@ -156,13 +155,21 @@ pub fn is_device(pa: u64) -> bool
         || pa == PENDING
 }
 
+/// Whether a physical address is one of RAM.
+#[inline(always)]
+fn is_ram<R: TableMemory>(phys: &R, pa: u64) -> bool
+    ensures { result ≡ nat_lt pa R.SIZE }
+{
+    pa < phys.size()
+}
+
 /// Whether an access to a physical address is served.
-fn is_served<const PAGES: usize>(phys: &Phys<PAGES>, reach: Reach, pa: u64) -> bool
-    ensures { result ≡ is_served (ram_size PAGES) reach pa }
+fn is_served<R: TableMemory>(phys: &R, reach: Reach, pa: u64) -> bool
+    ensures { result ≡ is_served R.SIZE reach pa }
 {
     match reach {
-        Reach::Ram => phys.is_ram(pa),
-        Reach::RamOrDevices => phys.is_ram(pa) || is_device(pa),
+        Reach::Ram => is_ram(phys, pa),
+        Reach::RamOrDevices => is_ram(phys, pa) || is_device(pa),
     }
 }
 
@@ -188,17 +195,17 @@ fn purpose_of(access_type: AccessType) -> Purpose {
 }
 
 /// The walk for a context and a page: one that is kept, or a new one, which is then kept.
-fn find_walk<const PAGES: usize>(
+fn find_walk<R: TableMemory>(
     table_pointer: u32,
     buffer: &mut Buffer,
-    phys: &Phys<PAGES>,
+    phys: &R,
     access_type: AccessType,
     key: Key,
 ) -> Walk
     requires page { key.page < 2 ^ 20 }
-    requires stand { AllStand (ram_size PAGES) phys.now.ram table_pointer buffer.old }
-    ensures walk { IsWalk (ram_size PAGES) phys.now.ram table_pointer key.context (key.page * 4096) result }
-    ensures stand { AllStand (ram_size PAGES) phys.now.ram table_pointer buffer.new }
+    requires stand { AllStand R.SIZE (R.ram phys.now) table_pointer buffer.old }
+    ensures walk { IsWalk R.SIZE (R.ram phys.now) table_pointer key.context (key.page * 4096) result }
+    ensures stand { AllStand R.SIZE (R.ram phys.now) table_pointer buffer.new }
 {
     let purpose = purpose_of(access_type);
     if let Some(walk) = buffer.find(purpose, key) {
@@ -214,9 +221,9 @@ fn find_walk<const PAGES: usize>(
 
 /// Stores the entry of a page with other marks, and keeps its walk with them in the place of all walks that have read it.
 #[cold]
-fn store_marks<const PAGES: usize, T: Touches>(
+fn store_marks<R: TableMemory, T: Touches>(
     buffer: &mut Buffer,
-    phys: &mut Phys<PAGES>,
+    phys: &mut R,
     key: Key,
     trail: Trail,
     old: u32,
@@ -226,16 +233,16 @@ fn store_marks<const PAGES: usize, T: Touches>(
     notes: &mut T,
 ) -> Result<(), AllocError>
     requires kind { old % 4 ≡ 2 → entry % 4 ≡ 2 }
-    requires end { IsEnd (ram_size PAGES) (Walked.Page old level at) }
+    requires end { IsEnd R.SIZE (Walked.Page old level at) }
     ensures ok { OnOk result ((answer : Translated) (bytes : List ℕ) → Does (keeping T.KEEPS T.OBSERVES) (store_word (at / 4) entry (done answer))
-        (outside_of phys.old bytes) (outside_of phys.new bytes) answer (T.noted notes.old) (T.noted notes.new)) }
-    ensures others { phys.new ≡ record phys.old { ram = phys.new.ram } }
+        (record (R.outside bytes phys.old) { ram = R.ram phys.old }) (record (R.outside bytes phys.new) { ram = R.ram phys.new }) answer (T.noted notes.old) (T.noted notes.new)) }
+    ensures others { phys.new ≡ R.with_ram (R.ram phys.new) phys.old }
     ensures err { OnErr result (phys.new ≡ phys.old) }
-    ensures stand { (table_pointer : ℕ) → IsWalk (ram_size PAGES) phys.old.ram table_pointer key.context (key.page * 4096) (record { trail = trail; end = Walked.Page old level at })
-        → AllStand (ram_size PAGES) phys.old.ram table_pointer buffer.old → AllStand (ram_size PAGES) phys.new.ram table_pointer buffer.new }
+    ensures stand { (table_pointer : ℕ) → IsWalk R.SIZE (R.ram phys.old) table_pointer key.context (key.page * 4096) (record { trail = trail; end = Walked.Page old level at })
+        → AllStand R.SIZE (R.ram phys.old) table_pointer buffer.old → AllStand R.SIZE (R.ram phys.new) table_pointer buffer.new }
 {
-    let _size = phys.ram_size();
-    phys.write_ram(at as u64, Size::Word, entry as u64, notes)?;
+    let _size = phys.size();
+    phys.store_table_word(at, entry, notes)?;
     buffer.forget_entry(at);
     let end = Walked::Page { entry, level, at };
     buffer.keep(key, Walk { trail, end });
@@ -244,23 +251,23 @@ fn store_marks<const PAGES: usize, T: Touches>(
 
 /// What the end of a walk leads to.
 #[tactic(auto, unfolding(crate::specs::Translation::settled))]
-fn settle<const PAGES: usize, T: Touches>(
+fn settle<R: TableMemory, T: Touches>(
     buffer: &mut Buffer,
-    phys: &mut Phys<PAGES>,
+    phys: &mut R,
     key: Key,
     walk: Walk,
     access: VirtualAccess,
     notes: &mut T,
 ) -> Result<Translated, AllocError>
-    requires end { IsEnd (ram_size PAGES) walk.end }
-    ensures ok { IfOk result (λ r. (bytes : List ℕ) → Does (keeping T.KEEPS T.OBSERVES) (settled (ram_size PAGES) access.address access.access_type access.reach walk.end)
-        (outside_of phys.old bytes) (outside_of phys.new bytes) r (T.noted notes.old) (T.noted notes.new)) }
+    requires end { IsEnd R.SIZE walk.end }
+    ensures ok { IfOk result (λ r. (bytes : List ℕ) → Does (keeping T.KEEPS T.OBSERVES) (settled R.SIZE access.address access.access_type access.reach walk.end)
+        (record (R.outside bytes phys.old) { ram = R.ram phys.old }) (record (R.outside bytes phys.new) { ram = R.ram phys.new }) r (T.noted notes.old) (T.noted notes.new)) }
     ensures answer { IfOk result (λ r. IsTranslation access.address r) }
-    ensures others { phys.new ≡ record phys.old { ram = phys.new.ram } }
+    ensures others { phys.new ≡ R.with_ram (R.ram phys.new) phys.old }
     ensures err { OnErr result (phys.new ≡ phys.old) }
-    ensures growth { OnErr result (changes_marks (ram_size PAGES) access.address access.access_type access.reach walk.end ≡ true) }
-    ensures stand { (table_pointer : ℕ) → IsWalk (ram_size PAGES) phys.old.ram table_pointer key.context (key.page * 4096) walk
-        → AllStand (ram_size PAGES) phys.old.ram table_pointer buffer.old → AllStand (ram_size PAGES) phys.new.ram table_pointer buffer.new }
+    ensures growth { OnErr result (changes_marks R.SIZE access.address access.access_type access.reach walk.end ≡ true) }
+    ensures stand { (table_pointer : ℕ) → IsWalk R.SIZE (R.ram phys.old) table_pointer key.context (key.page * 4096) walk
+        → AllStand R.SIZE (R.ram phys.old) table_pointer buffer.old → AllStand R.SIZE (R.ram phys.new) table_pointer buffer.new }
 {
     match walk.end {
         Walked::Fault { kind, level } => Ok(Translated::Refused { kind, level }),
@@ -288,18 +295,18 @@ fn settle<const PAGES: usize, T: Touches>(
 /// The physical address of an access, and what the walk of its page read, where that walk was used last, what such accesses
 /// to the page come to is known, and RAM has the address.
 #[inline(always)]
-fn find_shortcut<'a, const PAGES: usize>(
+fn find_shortcut<'a, R: TableMemory>(
     registers: &Mmu,
     buffer: &'a Buffer,
-    phys: &Phys<PAGES>,
+    phys: &R,
     access: VirtualAccess,
 ) -> Option<(u64, &'a Trail)>
     requires on { translates registers.now ≡ true }
-    requires stand { AllStand (ram_size PAGES) phys.now.ram registers.now.table_pointer buffer.now }
+    requires stand { AllStand R.SIZE (R.ram phys.now) registers.now.table_pointer buffer.now }
     ensures answer { IfSome result (λ s. IsTranslation access.address (Translated.At s.0)) }
-    ensures ram { IfSome result (λ s. nat_lt s.0 (ram_size PAGES) ≡ true) }
-    ensures does { IfSome result (λ s. (o : Outside) → Does (keeping true true) (translate (ram_size PAGES) registers.now access.address access.access_type access.reach)
-        (record o { ram = phys.now.ram }) (record o { ram = phys.now.ram }) (Translated.At s.0) no_notes (touching (reads_of (places_of s.1.now)))) }
+    ensures ram { IfSome result (λ s. nat_lt s.0 R.SIZE ≡ true) }
+    ensures does { IfSome result (λ s. (o : Outside) → Does (keeping true true) (translate R.SIZE registers.now access.address access.access_type access.reach)
+        (record o { ram = R.ram phys.now }) (record o { ram = R.ram phys.now }) (Translated.At s.0) no_notes (touching (reads_of (places_of s.1.now)))) }
 {
     let key = Key {
         context: registers.context,
@@ -308,7 +315,7 @@ fn find_shortcut<'a, const PAGES: usize>(
     let purpose = purpose_of(access.access_type);
     let (base, walk) = buffer.last_plainly(purpose, key, access.access_type)?;
     let pa = base + (access.address % 0x1000) as u64;
-    if phys.is_ram(pa) {
+    if is_ram(phys, pa) {
         Some((pa, &walk.trail))
     } else {
         None
@@ -320,16 +327,16 @@ fn find_shortcut<'a, const PAGES: usize>(
 /// no part of the contract: none costs time alone.
 #[inline(always)]
 #[tactic(auto, unfolding(crate::specs::Translation::translate))]
-pub fn address_in_ram<const PAGES: usize>(
+pub fn address_in_ram<R: TableMemory>(
     registers: &Mmu,
     buffer: &Buffer,
-    phys: &Phys<PAGES>,
+    phys: &R,
     access: VirtualAccess,
 ) -> Option<u64>
-    requires { AllStand (ram_size PAGES) phys.now.ram registers.now.table_pointer buffer.now }
-    ensures does { IfSome result (λ pa. (bytes : List ℕ) → DoesUnnoted (translate (ram_size PAGES) registers.now access.address access.access_type access.reach)
-        (outside_of phys.now bytes) (outside_of phys.now bytes) (Translated.At pa)) }
-    ensures ram { IfSome result (λ pa. nat_lt pa (ram_size PAGES) ≡ true) }
+    requires { AllStand R.SIZE (R.ram phys.now) registers.now.table_pointer buffer.now }
+    ensures does { IfSome result (λ pa. (bytes : List ℕ) → DoesUnnoted (translate R.SIZE registers.now access.address access.access_type access.reach)
+        (record (R.outside bytes phys.now) { ram = R.ram phys.now }) (record (R.outside bytes phys.now) { ram = R.ram phys.now }) (Translated.At pa)) }
+    ensures ram { IfSome result (λ pa. nat_lt pa R.SIZE ≡ true) }
     ensures answer { IfSome result (λ pa. IsTranslation access.address (Translated.At pa)) }
 {
     if registers.translates() {
@@ -337,7 +344,7 @@ pub fn address_in_ram<const PAGES: usize>(
         return Some(pa);
     }
     let pa = access.address as u64;
-    if phys.is_ram(pa) { Some(pa) } else { None }
+    if is_ram(phys, pa) { Some(pa) } else { None }
 }
 
 /// Gives the physical address of an access in RAM, where addresses are translated and it is known at once, as `address_in_ram`
@@ -347,19 +354,19 @@ pub fn address_in_ram<const PAGES: usize>(
 ///
 /// `AllocError` where memory for a note cannot be had.
 #[inline(always)]
-pub fn resolve_by_memo<const PAGES: usize, T: Touches>(
+pub fn resolve_by_memo<R: TableMemory, T: Touches>(
     registers: &Mmu,
     buffer: &Buffer,
-    phys: &Phys<PAGES>,
+    phys: &R,
     access: VirtualAccess,
     notes: &mut T,
 ) -> Result<Option<u64>, AllocError>
     requires translated { translates registers.now ≡ true }
-    requires stand { AllStand (ram_size PAGES) phys.now.ram registers.now.table_pointer buffer.now }
+    requires stand { AllStand R.SIZE (R.ram phys.now) registers.now.table_pointer buffer.now }
     ensures found { IfOk result (λ found. MatchOption found (T.noted notes.new ≡ T.noted notes.old)
-        (λ pa. (bytes : List ℕ) → Does (keeping T.KEEPS T.OBSERVES) (translate (ram_size PAGES) registers.now access.address access.access_type access.reach)
-        (outside_of phys.now bytes) (outside_of phys.now bytes) (Translated.At pa) (T.noted notes.old) (T.noted notes.new))) }
-    ensures ram { IfOk result (λ found. IfSome found (λ pa. nat_lt pa (ram_size PAGES) ≡ true)) }
+        (λ pa. (bytes : List ℕ) → Does (keeping T.KEEPS T.OBSERVES) (translate R.SIZE registers.now access.address access.access_type access.reach)
+        (record (R.outside bytes phys.now) { ram = R.ram phys.now }) (record (R.outside bytes phys.now) { ram = R.ram phys.now }) (Translated.At pa) (T.noted notes.old) (T.noted notes.new))) }
+    ensures ram { IfOk result (λ found. IfSome found (λ pa. nat_lt pa R.SIZE ≡ true)) }
     ensures answer { IfOk result (λ found. IfSome found (λ pa. IsTranslation access.address (Translated.At pa))) }
     ensures err { OnErr result (T.KEEPS ≡ true) }
 {
@@ -376,22 +383,22 @@ pub fn resolve_by_memo<const PAGES: usize, T: Touches>(
 #[cold]
 #[inline(never)]
 #[tactic(auto, unfolding(crate::specs::Translation::translate))]
-fn translate_by_tables<const PAGES: usize, T: Touches>(
+fn translate_by_tables<R: TableMemory, T: Touches>(
     registers: &Mmu,
     buffer: &mut Buffer,
-    phys: &mut Phys<PAGES>,
+    phys: &mut R,
     access: VirtualAccess,
     notes: &mut T,
 ) -> Result<Translated, AllocError>
     requires on { translates registers.now ≡ true }
-    requires stand { AllStand (ram_size PAGES) phys.old.ram registers.now.table_pointer buffer.old }
-    ensures ok { IfOk result (λ r. (bytes : List ℕ) → Does (keeping T.KEEPS T.OBSERVES) (translate (ram_size PAGES) registers.now access.address access.access_type access.reach)
-        (outside_of phys.old bytes) (outside_of phys.new bytes) r (T.noted notes.old) (T.noted notes.new)) }
+    requires stand { AllStand R.SIZE (R.ram phys.old) registers.now.table_pointer buffer.old }
+    ensures ok { IfOk result (λ r. (bytes : List ℕ) → Does (keeping T.KEEPS T.OBSERVES) (translate R.SIZE registers.now access.address access.access_type access.reach)
+        (record (R.outside bytes phys.old) { ram = R.ram phys.old }) (record (R.outside bytes phys.new) { ram = R.ram phys.new }) r (T.noted notes.old) (T.noted notes.new)) }
     ensures answer { IfOk result (λ r. IsTranslation access.address r) }
-    ensures others { phys.new ≡ record phys.old { ram = phys.new.ram } }
+    ensures others { phys.new ≡ R.with_ram (R.ram phys.new) phys.old }
     ensures err { OnErr result (phys.new ≡ phys.old) }
-    ensures growth { OnErr result (translation_grows T.KEEPS (ram_size PAGES) registers.now access.address access.access_type access.reach (outside_of phys.old []) ≡ true) }
-    ensures stand { AllStand (ram_size PAGES) phys.new.ram registers.now.table_pointer buffer.new }
+    ensures growth { OnErr result (translation_grows T.KEEPS R.SIZE registers.now access.address access.access_type access.reach (record (R.outside [] phys.old) { ram = R.ram phys.old }) ≡ true) }
+    ensures stand { AllStand R.SIZE (R.ram phys.new) registers.now.table_pointer buffer.new }
 {
     let key = Key {
         context: registers.context,
@@ -412,21 +419,21 @@ fn translate_by_tables<const PAGES: usize, T: Touches>(
 /// `AllocError` as for `translate`.
 #[inline(always)]
 #[tactic(auto, unfolding(crate::specs::Translation::translate))]
-pub fn resolve<const PAGES: usize, T: Touches>(
+pub fn resolve<R: TableMemory, T: Touches>(
     registers: &Mmu,
     buffer: &mut Buffer,
-    phys: &mut Phys<PAGES>,
+    phys: &mut R,
     access: VirtualAccess,
     notes: &mut T,
 ) -> Result<Translated, AllocError>
-    requires stand { AllStand (ram_size PAGES) phys.old.ram registers.now.table_pointer buffer.old }
-    ensures ok { IfOk result (λ r. (bytes : List ℕ) → Does (keeping T.KEEPS T.OBSERVES) (translate (ram_size PAGES) registers.now access.address access.access_type access.reach)
-        (outside_of phys.old bytes) (outside_of phys.new bytes) r (T.noted notes.old) (T.noted notes.new)) }
+    requires stand { AllStand R.SIZE (R.ram phys.old) registers.now.table_pointer buffer.old }
+    ensures ok { IfOk result (λ r. (bytes : List ℕ) → Does (keeping T.KEEPS T.OBSERVES) (translate R.SIZE registers.now access.address access.access_type access.reach)
+        (record (R.outside bytes phys.old) { ram = R.ram phys.old }) (record (R.outside bytes phys.new) { ram = R.ram phys.new }) r (T.noted notes.old) (T.noted notes.new)) }
     ensures answer { IfOk result (λ r. IsTranslation access.address r) }
-    ensures others { phys.new ≡ record phys.old { ram = phys.new.ram } }
+    ensures others { phys.new ≡ R.with_ram (R.ram phys.new) phys.old }
     ensures err { OnErr result (phys.new ≡ phys.old) }
-    ensures growth { OnErr result (translation_grows T.KEEPS (ram_size PAGES) registers.now access.address access.access_type access.reach (outside_of phys.old []) ≡ true) }
-    ensures stand { AllStand (ram_size PAGES) phys.new.ram registers.now.table_pointer buffer.new }
+    ensures growth { OnErr result (translation_grows T.KEEPS R.SIZE registers.now access.address access.access_type access.reach (record (R.outside [] phys.old) { ram = R.ram phys.old }) ≡ true) }
+    ensures stand { AllStand R.SIZE (R.ram phys.new) registers.now.table_pointer buffer.new }
 {
     if !registers.translates() {
         return Ok(Translated::At(access.address as u64));

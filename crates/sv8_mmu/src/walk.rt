@@ -3,13 +3,12 @@
 ghost use Rattle.std.specs.Prelude.{◌≡◌, ◌<◌, ◌≤◌, ◌+◌, ◌*◌, ◌/◌, ◌%◌, ◌^◌, [], ◌∷◌, ◌++◌, length, IfSome, MatchOption, nat_lt, true, false};
 ghost use Rattle.sv8_model.specs.Outside.{Outside, word_of};
 ghost use Rattle.sv8_model.specs.Does.{Does, keeping, touching};
-ghost use Rattle.sv8_phys.specs.Memory.{ram_size};
 ghost use Rattle.sv8_mmu.specs.Walk.{table_of, indices_of, looked_up, below_pointer, walk};
 ghost use Rattle.sv8_mmu.specs.Kept.{places_of, reads_of, IsEnd, IsWalk};
 
 use crate::fault_type::FaultType;
 use crate::table_level::TableLevel;
-use sv8_phys::Phys;
+use sv8_model::TableMemory;
 
 /// The end of a walk: the entry of a page with its level and its address, or a fault.
 #[derive(Clone, Copy)]
@@ -100,19 +99,19 @@ pub fn indices_of(va: u32) -> [TableIndex; 3]
 }
 
 /// The entry at an address, where it lies in RAM.
-pub fn entry_at<const PAGES: usize>(phys: &Phys<PAGES>, at: u64, trail: &mut Trail) -> Option<u32>
+pub fn entry_at<R: TableMemory>(phys: &R, at: u64, trail: &mut Trail) -> Option<u32>
     requires aligned { at % 4 ≡ 0 }
     requires room { trail.old.count < 4 }
     ensures count { trail.new.count ≤ trail.old.count + 1 }
-    ensures within { IfSome result (λ _. at + 4 ≤ ram_size PAGES) }
+    ensures within { IfSome result (λ _. at + 4 ≤ R.SIZE) }
     ensures small { IfSome result (λ _. at < 2 ^ 32) }
     ensures entry { MatchOption result
-        ((nat_lt at (ram_size PAGES) ≡ false) × (places_of trail.new ≡ places_of trail.old))
-        (λ e. (nat_lt at (ram_size PAGES) ≡ true) × (e ≡ word_of phys.now.ram (at / 4)) × (places_of trail.new ≡ places_of trail.old ++ at ∷ [])) }
+        ((nat_lt at R.SIZE ≡ false) × (places_of trail.new ≡ places_of trail.old))
+        (λ e. (nat_lt at R.SIZE ≡ true) × (e ≡ word_of (R.ram phys.now) (at / 4)) × (places_of trail.new ≡ places_of trail.old ++ at ∷ [])) }
 {
-    if at < phys.ram_size() {
+    if at < phys.size() {
         trail.push(at as u32);
-        Some(phys.word(at as u32))
+        Some(phys.table_word(at as u32))
     } else {
         None
     }
@@ -121,17 +120,17 @@ pub fn entry_at<const PAGES: usize>(phys: &Phys<PAGES>, at: u64, trail: &mut Tra
 /// What a pointer at a level leads to: the entry of the next level, with the indices into the tables below.
 #[cycle(levels)]
 #[tactic(auto, unfolding(crate::specs::Walk::below_pointer))]
-fn below_pointer<const PAGES: usize>(
-    phys: &Phys<PAGES>,
+fn below_pointer<R: TableMemory>(
+    phys: &R,
     level: TableLevel,
     below: &[TableIndex],
     entry: u32,
     trail: &mut Trail,
 ) -> Walked
     requires room { trail.old.count + length below.now ≤ 4 }
-    ensures end { IsEnd (ram_size PAGES) result }
-    ensures walk { (o : Outside) → Does (keeping true true) (below_pointer (ram_size PAGES) level below.now entry)
-        (record o { ram = phys.now.ram }) (record o { ram = phys.now.ram }) result (touching (reads_of (places_of trail.old))) (touching (reads_of (places_of trail.new))) }
+    ensures end { IsEnd R.SIZE result }
+    ensures walk { (o : Outside) → Does (keeping true true) (below_pointer R.SIZE level below.now entry)
+        (record o { ram = R.ram phys.now }) (record o { ram = R.ram phys.now }) result (touching (reads_of (places_of trail.old))) (touching (reads_of (places_of trail.new))) }
 {
     match below {
         [] => Walked::Fault {
@@ -150,8 +149,8 @@ fn below_pointer<const PAGES: usize>(
 
 /// The entry of a level at an address, and what it leads to, with the indices into the tables below.
 #[cycle(levels)]
-fn look_up<const PAGES: usize>(
-    phys: &Phys<PAGES>,
+fn look_up<R: TableMemory>(
+    phys: &R,
     level: TableLevel,
     below: &[TableIndex],
     at: u64,
@@ -159,9 +158,9 @@ fn look_up<const PAGES: usize>(
 ) -> Walked
     requires aligned { at % 4 ≡ 0 }
     requires room { trail.old.count + length below.now ≤ 3 }
-    ensures end { IsEnd (ram_size PAGES) result }
-    ensures walk { (o : Outside) → Does (keeping true true) (looked_up (ram_size PAGES) level at (below_pointer (ram_size PAGES) level below.now))
-        (record o { ram = phys.now.ram }) (record o { ram = phys.now.ram }) result (touching (reads_of (places_of trail.old))) (touching (reads_of (places_of trail.new))) }
+    ensures end { IsEnd R.SIZE result }
+    ensures walk { (o : Outside) → Does (keeping true true) (looked_up R.SIZE level at (below_pointer R.SIZE level below.now))
+        (record o { ram = R.ram phys.now }) (record o { ram = R.ram phys.now }) result (touching (reads_of (places_of trail.old))) (touching (reads_of (places_of trail.new))) }
 {
     match entry_at(phys, at, trail) {
         None => Walked::Fault {
@@ -189,13 +188,8 @@ fn look_up<const PAGES: usize>(
 
 /// The walk for a context and a virtual address.
 #[tactic(auto, unfolding(crate::specs::Walk::walk))]
-pub fn walk_for<const PAGES: usize>(
-    phys: &Phys<PAGES>,
-    table_pointer: u32,
-    context: u32,
-    va: u32,
-) -> Walk
-    ensures { IsWalk (ram_size PAGES) phys.now.ram table_pointer context va result }
+pub fn walk_for<R: TableMemory>(phys: &R, table_pointer: u32, context: u32, va: u32) -> Walk
+    ensures { IsWalk R.SIZE (R.ram phys.now) table_pointer context va result }
 {
     let mut trail = Trail::new();
     let indices = indices_of(va);

@@ -2,6 +2,7 @@ pub mod Words
 pub mod Size
 pub mod Levels
 pub mod Outside
+pub mod Devices
 pub mod Action
 pub mod Footprint
 pub mod Cells

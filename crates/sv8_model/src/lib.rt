@@ -5,20 +5,24 @@
 #![tactic(auto)]
 
 mod arrivals;
+mod devices;
 pub mod laws;
 mod level;
 mod observation;
 mod refused;
 mod size;
+mod table_memory;
 mod touch;
 mod touches;
 mod words;
 
 pub use arrivals::Arrivals;
+pub use devices::{INPUT, OUTPUT, PENDING, TIMER_COUNT, TIMER_RELOAD, WAITING};
 pub use level::Level;
 pub use observation::{AccessKind, Observation};
 pub use refused::Refused;
 pub use size::Size;
+pub use table_memory::TableMemory;
 pub use touch::{Touch, TouchKind};
 pub use touches::{NoTouches, Touches};
 pub use words::low_word;

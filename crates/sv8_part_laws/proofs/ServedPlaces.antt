@@ -5,7 +5,8 @@ use Rattle.sv8_model.specs.Outside.{Outside}
 use Rattle.sv8_model.specs.Action.{result_of, ◌>>=◌}
 use Rattle.sv8_model.specs.declared.size.Size.{Size}
 use Rattle.sv8_model.specs.declared.size.Size.TheVariants.{Byte, Half, Word, Double}
-use Rattle.sv8_phys.specs.Devices.{device_load, device_store, input_address, waiting_address, output_address, count_address, reload_address, pending_address}
+use Rattle.sv8_model.specs.Devices.{input_address, waiting_address, output_address, count_address, reload_address, pending_address}
+use Rattle.sv8_phys.specs.Devices.{device_load, device_store}
 use Rattle.sv8_mmu.specs.declared.translation.Reach.TheVariants.{Ram}
 use Rattle.sv8_mmu.specs.Translation.{is_served}
 use Rattle.sv8_memory.specs.Units.{Units, is_hidden, failed}

@@ -13,7 +13,8 @@ use Rattle.sv8_model.specs.declared.size.Size.TheVariants.{Byte, Half, Word, Dou
 use Rattle.sv8_phys.specs.declared.timer.Timer.{Timer}
 use Rattle.sv8_phys.specs.declared.fault.BusError.{BusError}
 use Rattle.sv8_phys.specs.Memory.{value_at, with_value}
-use Rattle.sv8_phys.specs.Devices.{ram_load, ram_store, load, store, answered, outside_load, outside_store, device_load, device_store, no_answer, output_address, count_address, reload_address, pending_address, Stored, stored_with, tick}
+use Rattle.sv8_model.specs.Devices.{output_address, count_address, reload_address, pending_address}
+use Rattle.sv8_phys.specs.Devices.{ram_load, ram_store, load, store, answered, outside_load, outside_store, device_load, device_store, no_answer, Stored, stored_with, tick}
 use Rattle.sv8_phys.specs.Notes.{load_touches, store_touches}
 
 -- ---- RAM

@@ -14,3 +14,4 @@ pub mod PieceLemmas
 pub mod Access
 pub mod Console
 pub mod Calls
+pub mod Tables

@@ -6,6 +6,7 @@ use Rattle.sv8_model.specs.declared.size.Size.{Size}
 use Rattle.sv8_model.specs.declared.size.Size.TheVariants.{Byte, Half, Word, Double}
 use Rattle.sv8_phys.specs.declared.timer.Timer.{Timer}
 use Rattle.sv8_model.specs.Levels.{every_level}
+use Rattle.sv8_model.specs.Devices.{input_address, waiting_address, output_address, count_address, reload_address, pending_address}
 
 -- nothing serves the address
 abbrev pub no_answer : BusError
@@ -27,31 +28,7 @@ ram_store Half a v x = store_byte a (v / 2 ^ 8) (store_byte (a + 1) v (done x))
 ram_store Word a v x = store_word (a / 4) (v % 2 ^ 32) (done x)
 ram_store Double a v x = store_word (a / 4) (v / 2 ^ 32 % 2 ^ 32) (store_word (a / 4 + 1) (v % 2 ^ 32) (done x))
 
--- ---- devices, each at the address of a word
-
--- a load takes the oldest waiting byte
-abbrev pub input_address : ℕ
-input_address = 0x8000_0000
-
--- a load tells how many bytes wait
-abbrev pub waiting_address : ℕ
-waiting_address = 0x8000_0004
-
--- a store puts a byte out
-abbrev pub output_address : ℕ
-output_address = 0x8000_0008
-
--- the timer's count
-abbrev pub count_address : ℕ
-count_address = 0x8000_0010
-
--- the timer's reload
-abbrev pub reload_address : ℕ
-reload_address = 0x8000_0014
-
--- the pending levels
-abbrev pub pending_address : ℕ
-pending_address = 0x8000_001c
+-- ---- devices
 
 -- a device serves a load
 abbrev pub answered : ℕ → Action (Result ℕ BusError)

@@ -2,7 +2,7 @@
 use Rattle.std.specs.Prelude.{ℕ, Bool, false, nat_lt, ◌==◌, ◌&&◌, ◌||◌}
 use Rattle.sv8_model.specs.declared.size.Size.{Size}
 use Rattle.sv8_model.specs.declared.size.Size.TheVariants.{Word}
-use Rattle.sv8_phys.specs.Devices.{output_address, pending_address}
+use Rattle.sv8_model.specs.Devices.{output_address, pending_address}
 
 -- a load from what is not RAM asks the levels, which is noted, or touches nothing
 abbrev pub outside_load_grows : Bool → Size → ℕ → Bool

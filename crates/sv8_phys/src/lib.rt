@@ -18,8 +18,9 @@ mod zeros;
 pub use fault::BusError;
 pub use output::OutputPlace;
 pub use page::Page;
-pub use phys::{INPUT, OUTPUT, PENDING, Phys, TIMER_COUNT, TIMER_RELOAD, WAITING};
+pub use phys::Phys;
 pub use sv8_model::{
-    AccessKind, Arrivals, NoTouches, Observation, Size, Touch, TouchKind, Touches,
+    AccessKind, Arrivals, INPUT, NoTouches, OUTPUT, Observation, PENDING, Size, TIMER_COUNT,
+    TIMER_RELOAD, Touch, TouchKind, Touches, WAITING,
 };
 pub use timer::Timer;

@@ -13,13 +13,13 @@ ghost use Rattle.sv8_phys.specs.Pieces.{piece_of};
 mod access;
 mod console;
 mod devices;
+mod tables;
 
 use crate::levels::Pending;
 use crate::output::{Output, OutputPlace};
 use crate::page::Page;
 use crate::ram::Ram;
 use crate::timer::Timer;
-pub use devices::{INPUT, OUTPUT, PENDING, TIMER_COUNT, TIMER_RELOAD, WAITING};
 use std::alloc::{AllocError, Global};
 use std::marker::Model;
 use sv8_model::{Level, Size};

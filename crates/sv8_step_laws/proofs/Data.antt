@@ -20,7 +20,8 @@ use Rattle.sv8_phys.specs.declared.timer.Timer.{Timer}
 use Rattle.sv8_phys.specs.Memory.{ram_size}
 use Rattle.sv8_time.specs.Schedule.{arrived}
 use Rattle.sv8_phys.specs.Contents.{outside_of}
-use Rattle.sv8_phys.specs.Devices.{tick, input_address}
+use Rattle.sv8_model.specs.Devices.{input_address}
+use Rattle.sv8_phys.specs.Devices.{tick}
 use Rattle.sv8_mmu.specs.declared.access_type.AccessType.{AccessType}
 use Rattle.sv8_mmu.specs.declared.registers.Mmu.{Mmu}
 use Rattle.sv8_mmu.specs.declared.registers.Fault.{Fault}

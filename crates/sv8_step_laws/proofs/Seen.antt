@@ -23,7 +23,8 @@ use Rattle.sv8_phys.specs.declared.timer.Timer.{Timer}
 use Rattle.sv8_phys.specs.Memory.{ram_size}
 use Rattle.sv8_time.specs.Schedule.{arrived}
 use Rattle.sv8_phys.specs.Contents.{outside_of}
-use Rattle.sv8_phys.specs.Devices.{stored_with, answered as device_answered, ram_load, ram_store, device_load, device_store, outside_load, outside_store, tick, input_address, waiting_address, output_address, count_address, reload_address, pending_address}
+use Rattle.sv8_model.specs.Devices.{input_address, waiting_address, output_address, count_address, reload_address, pending_address}
+use Rattle.sv8_phys.specs.Devices.{stored_with, answered as device_answered, ram_load, ram_store, device_load, device_store, outside_load, outside_store, tick}
 use Rattle.sv8_mmu.specs.declared.access_type.AccessType.{AccessType}
 use Rattle.sv8_mmu.specs.declared.fault_type.FaultType.{FaultType}
 use Rattle.sv8_mmu.specs.declared.registers.Mmu.{Mmu}

@@ -1,5 +1,4 @@
 use Rattle.std.proofs.Common.{◌≡◌, true, ◌∙◌, rules}
-use Rattle.sv8_phys.specs.Memory.{ram_size}
 use Rattle.sv8_mmu.specs.Registers.{translates}
 use Rattle.sv8_mmu.specs.Place.{only_ram}
 use Rattle.sv8_mmu.proofs.Placing.{by_walk}
@@ -8,6 +7,6 @@ use Rattle.sv8_mmu.proofs.place.place_of.Goals as goal
 pub returns-clause-value : goal.returns-clause-value
 returns-clause-value g c =
     let on : translates c.args.registers.now ≡ true = search rules in
-    let ram = c.args.phys.now.ram in
+    let ram = (g.R.TableMemory.ram c.args.phys.now) in
     c.placed.ensures.value
-    ∙ by_walk (ram_size g.row.PAGES) c.args.registers.now ram c.args.va c.walk_for-walk.result.end on (c.walk_for-walk.ensures.does (only_ram ram)).result
+    ∙ by_walk g.R.TableMemory.SIZE c.args.registers.now ram c.args.va c.walk_for-walk.result.end on (c.walk_for-walk.ensures.does (only_ram ram)).result

@@ -1,6 +1,5 @@
-use Rattle.sv8_phys.specs.Contents.{outside_of}
 use Rattle.sv8_mmu.proofs.Noting.{noted_behind}
 use Rattle.sv8_mmu.proofs.probing.probe_by_address.Goals as goal
 
 pub returns-clause-ok : goal.returns-clause-ok
-returns-clause-ok g c = λ bytes. noted_behind _ _ _ _ _ _ _ (c.probed-value.ensures (outside_of c.args.phys.now bytes)) c.in_ok-note_reads.ensures.ok
+returns-clause-ok g c = λ bytes. noted_behind _ _ _ _ _ _ _ (c.probed-value.ensures (g.R.TableMemory.outside bytes c.args.phys.now)) c.in_ok-note_reads.ensures.ok

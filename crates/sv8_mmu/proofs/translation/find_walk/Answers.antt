@@ -1,5 +1,4 @@
 use Rattle.std.proofs.Common.{sym, subst, inl, inr, Contains}
-use Rattle.sv8_phys.specs.Memory.{ram_size}
 use Rattle.sv8_mmu.specs.Kept.{Stands}
 use Rattle.sv8_mmu.proofs.translation.find_walk.Goals as goal
 
@@ -12,7 +11,7 @@ returns-in-Some-clause-stand g c = λ k m. c.requires.stand k (c.find.ensures.am
 pub returns-in-Page-clause-stand : goal.returns-in-Page-clause-stand
 returns-in-Page-clause-stand g c = λ k m. elim (c.keep.ensures k m) [
   | inl was ↦ c.requires.stand k (c.find.ensures.among k was)
-  | inr p ↦ subst (Stands (ram_size g.row.PAGES) c.args.phys.now.ram c.args.table_pointer) (sym p) c.walk_for-walk.ensures
+  | inr p ↦ subst (Stands g.R.TableMemory.SIZE (g.R.TableMemory.ram c.args.phys.now) c.args.table_pointer) (sym p) c.walk_for-walk.ensures
 ]
 
 pub returns-in_default-end-clause-stand : goal.returns-in_default-end-clause-stand

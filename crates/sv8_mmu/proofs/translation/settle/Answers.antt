@@ -1,5 +1,4 @@
 use Rattle.std.proofs.Common.{◌∙◌, ◌*◌, sym, subst, refl}
-use Rattle.sv8_phys.specs.Memory.{ram_size}
 use Rattle.sv8_mmu.specs.Kept.{IsWalk}
 use Rattle.sv8_mmu.proofs.Translating.{marks_stored}
 use Rattle.sv8_mmu.proofs.translation.settle.Goals as goal
@@ -7,7 +6,7 @@ use Rattle.sv8_mmu.proofs.translation.settle.Goals as goal
 pub returns-in_err-store_marks-in-Page-clause-stand : goal.returns-in_err-store_marks-in-Page-clause-stand
 returns-in_err-store_marks-in-Page-clause-stand g c = λ table_pointer walk stand.
     c.store_marks.ensures.stand table_pointer
-    (subst (λ e. IsWalk (ram_size g.row.PAGES) c.args.phys.now.ram table_pointer c.args.key.context (c.args.key.page * 4096) (record { trail = c.args.walk.trail; end = e })) c.in-Page.is walk) stand
+    (subst (λ e. IsWalk g.R.TableMemory.SIZE (g.R.TableMemory.ram c.args.phys.now) table_pointer c.args.key.context (c.args.key.page * 4096) (record { trail = c.args.walk.trail; end = e })) c.in-Page.is walk) stand
 
 pub returns-in_ok-store_marks-in-Page-clause-ok : goal.returns-in_ok-store_marks-in-Page-clause-ok
 returns-in_ok-store_marks-in-Page-clause-ok g c = λ bytes.
@@ -17,4 +16,4 @@ returns-in_ok-store_marks-in-Page-clause-ok g c = λ bytes.
 pub returns-in_ok-store_marks-in-Page-clause-stand : goal.returns-in_ok-store_marks-in-Page-clause-stand
 returns-in_ok-store_marks-in-Page-clause-stand g c = λ table_pointer walk stand.
     c.store_marks.ensures.stand table_pointer
-    (subst (λ e. IsWalk (ram_size g.row.PAGES) c.args.phys.now.ram table_pointer c.args.key.context (c.args.key.page * 4096) (record { trail = c.args.walk.trail; end = e })) c.in-Page.is walk) stand
+    (subst (λ e. IsWalk g.R.TableMemory.SIZE (g.R.TableMemory.ram c.args.phys.now) table_pointer c.args.key.context (c.args.key.page * 4096) (record { trail = c.args.walk.trail; end = e })) c.in-Page.is walk) stand

@@ -1,4 +1,4 @@
-use Rattle.std.proofs.Common.{◌*◌, ◌+◌, ap, ◌∙◌}
+use Rattle.std.proofs.Common.{ap, ◌∙◌}
 use Rattle.sv8_phys.specs.Memory.{with_page}
 use Rattle.sv8_phys.specs.Parts.{half_bytes, page_bytes}
 use Rattle.sv8_phys.proofs.PageLemmas.{page_put}

@@ -1,4 +1,4 @@
-use Rattle.std.proofs.Common.{◌≡◌, [], ◌∷◌, ◌++◌, ℕ, List, ◌*◌, replicate, ap, ◌∙◌}
+use Rattle.std.proofs.Common.{◌≡◌, [], ◌∷◌, ◌++◌, ◌*◌, replicate, ap, ◌∙◌}
 use Rattle.std.proofs.lemmas.List.{map-append}
 use Rattle.sv8_phys.specs.Parts.{all_bytes, halves_of, half_bytes, ram_bytes}
 use Rattle.sv8_phys.proofs.AllBytes.{more-all}

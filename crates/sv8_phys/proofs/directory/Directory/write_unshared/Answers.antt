@@ -1,6 +1,5 @@
 use Rattle.std.proofs.Common.{◌<◌, ◌/◌, ◌%◌, length, ap, ◌∙◌, arith}
 use Rattle.sv8_phys.specs.Memory.{with_value}
-use Rattle.sv8_phys.specs.Parts.{page_bytes}
 use Rattle.sv8_phys.proofs.Handles.{answers}
 use Rattle.sv8_phys.proofs.BlockLemmas.{in_half}
 use Rattle.sv8_phys.proofs.PageLemmas.{half_written, half_kept}

@@ -1,4 +1,4 @@
-use Rattle.std.proofs.Common.{◌≡◌, refl, ◌∷◌, [], ap₂, sym, ◌++◌, ◌∙◌, arith}
+use Rattle.std.proofs.Common.{◌∷◌, [], ap₂, sym, ◌++◌, ◌∙◌, arith}
 use Rattle.std.proofs.lemmas.List.{take_all}
 use Rattle.sv8_phys.specs.Parts.{all_bytes, half_bytes}
 use Rattle.sv8_phys.proofs.AllBytes.{length-all, part_of-all}

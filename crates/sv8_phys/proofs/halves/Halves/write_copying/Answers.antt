@@ -1,4 +1,4 @@
-use Rattle.std.proofs.Common.{◌/◌, ap}
+use Rattle.std.proofs.Common.{◌/◌}
 use Rattle.std.proofs.lemmas.Result.{err_from_is_err_and}
 use Rattle.sv8_phys.proofs.BlockLemmas.{in_half, half_full}
 use Rattle.sv8_phys.proofs.Handles.{part_written, part_kept}

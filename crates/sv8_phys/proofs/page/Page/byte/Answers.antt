@@ -1,4 +1,4 @@
-use Rattle.std.proofs.Common.{◌/◌, ◌%◌, get_or, ap, ◌∙◌, arith}
+use Rattle.std.proofs.Common.{◌%◌, get_or, ap, ◌∙◌, arith}
 use Rattle.sv8_model.specs.declared.size.Size.TheVariants.{Byte}
 use Rattle.sv8_phys.specs.Memory.{value_at}
 use Rattle.sv8_phys.specs.Parts.{page_bytes}
