@@ -24,6 +24,11 @@ SAYS = 'echo "rt: low is kept: an earlier run"; echo "== $2"; echo "logic=proved
 WAITS = "rt: low: another run on this machine is proving the same; waiting for it"
 
 
+def lanes_here() -> int:
+    """How many crates are proved side by side on this machine."""
+    return ahead.lanes(len(os.sched_getaffinity(0)), ahead.free_memory())
+
+
 class Ahead(InRepository):
     """`low` takes 4 minutes and its tests 1, `side` 2, `high` 6 on `low`; the program stands on `high` and `side`."""
 
@@ -116,8 +121,9 @@ class Ahead(InRepository):
         self.assertEqual(sorted(self.all_calls()), ["ci high", "ci side"])
 
     def test_the_launcher_asks_once_something_is_to_be_proved(self) -> None:
-        if not ahead.lanes(len(os.sched_getaffinity(0)), ahead.free_memory()):
+        if not lanes_here():
             self.skipTest("crates are not proved side by side here")
+        (self.room / "rattle-kept/proof-low-1").mkdir(parents=True)
         again = self.room / "again"
         self.fake(f"if ! [ -e {again} ]; then touch {again}; sleep 100 & wait $!; fi; {PROVES}", ahead=SAYS)
         done = self.sparc8(given="list\n")
@@ -126,9 +132,42 @@ class Ahead(InRepository):
         self.assertEqual((calls[0], sorted(calls[1:4]), calls[4:]), ("ci", ["ci high", "ci low", "ci side"], ["ci"]))
         self.assert_nothing_left()
 
+    def test_where_nothing_is_kept_nothing_is_tried_first(self) -> None:
+        if not lanes_here():
+            self.skipTest("crates are not proved side by side here")
+        self.fake(PROVES, ahead=SAYS)
+        done = self.sparc8(given="list\n")
+        self.assertEqual((done.returncode, done.stdout), (0, "words \nlist\n"))
+        self.assertEqual(self.all_calls()[3:], ["ci"])
+        self.assertEqual(sorted(self.all_calls()[:3]), ["ci high", "ci low", "ci side"])
+
+    def test_the_last_command_is_begun_while_its_libraries_are_under_way(self) -> None:
+        # `high` waits for the command that builds the program.
+        text = f"low:\nhigh: low\n{WORKBENCH}: high\n"
+        self.fake("exit 9", ahead="exit 9")
+        rt, crates = str(self.bin / "rt"), crates_of(text, [WORKBENCH])
+        tasks = tasks_of(Sources(crates, {f"crates/{it.name}/src/lib.rt": b"\n" * 100 for it in crates}), PAGE)
+        begun = f'[ "$2" = high ] && until grep -q "^ci:" {self.log}; do sleep 0.1; done; {SAYS}'
+        self.fake('echo "rt: sparc8 proved"', ahead=begun)
+        proofs = ahead.Ahead(tasks, ByName(rt, self.top, [WORKBENCH]), self.environment(), Progress(tasks, 4, 2))
+        with (
+            mock.patch.object(ahead, "_BEGUN_SECONDS", 0),
+            mock.patch.object(ahead, "_AMPLE_BYTES", 0),
+            contextlib.redirect_stderr(io.StringIO()),
+        ):
+            self.assertTrue(proofs.prove(2, lambda: None))
+        self.assertEqual(sorted(self.all_calls()), ["ci", "ci high", "ci low"])
+
+    def test_a_last_command_that_fails_is_run_again_and_shown(self) -> None:
+        self.fake('echo "rt: sparc8 NOT PROVED"; exit 1', ahead=SAYS)
+        done = self.sparc8(given="list\n")
+        self.assertEqual((done.returncode, done.stdout), (1, ""))
+        self.assertIn("rt: sparc8 NOT PROVED", done.stderr)
+        self.assert_nothing_left()
+
     def test_a_toolchain_that_takes_no_name(self) -> None:
         # Its `rt ci NAME` prints how it is used; each crate is then proved in a folder of its own, the programs last.
-        if not ahead.lanes(len(os.sched_getaffinity(0)), ahead.free_memory()):
+        if not lanes_here():
             self.skipTest("crates are not proved side by side here")
         proves = f"""case $1 in
           ci) sleep 100 & wait $!;;
@@ -141,9 +180,8 @@ class Ahead(InRepository):
         done = self.sparc8(given="list\n")
         self.assertEqual((done.returncode, done.stdout), (0, "words \nlist\n"))
         calls = self.all_calls()
-        self.assertEqual(calls[0], "ci")
-        self.assertEqual(sorted(calls[1:3]), ["ci low", "ci side"])
-        self.assertEqual(sorted(it.split()[0] for it in calls[3:]), ["lib", "lib", "lib", "run"])
+        self.assertEqual(sorted(calls[:2]), ["ci low", "ci side"])
+        self.assertEqual(sorted(it.split()[0] for it in calls[2:]), ["lib", "lib", "lib", "run"])
         self.assertEqual(calls[-1].split()[:2], ["run", "--jobs"])
         self.assertEqual((self.room / "crates").read_text(), "low: \nhigh: low\nside: \nsparc8: high side\n")
         self.assertIn("../low/out", (self.room / "libraries").read_text())

@@ -265,6 +265,7 @@ class Proving(InRepository):
     def test_what_the_gate_proved_goes_before_kept_work(self) -> None:
         self.impatient()
         self.keep_checks(self.top)
+        (self.room / "rattle-kept/proof-low-1").mkdir(parents=True)
         kept = 'echo "rt: $it is kept: by an earlier run"'
         tells = f"for it in low side high sparc8 sparc8_monitor; do {kept}; done; sleep 3\n"
         self.fake(f"{tells}{PROVES}")

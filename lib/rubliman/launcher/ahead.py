@@ -9,7 +9,8 @@ the processors to two others: what waits for it is far, and at the end of the lo
 nothing to do.
 
 A command takes some seconds before it proves anything, the more the more crates lie below. So the next crate is begun
-while the last of its libraries is under way: where commands share what they prove, its own then waits for that.
+while the last of its libraries is under way: where commands share what they prove, its own then waits for that. What
+builds the programs comes last in the same way.
 """
 from __future__ import annotations
 

@@ -188,17 +188,27 @@ def _by_gate(asked: Asked, room: Path, tasks: list[Task], lanes: int, progress: 
             tick = _watch(asked, progress)
             libraries = [it for it in tasks if it.crate not in asked.programs]
             try:
+                if lanes and not toolchain.keeps_some(asked.rt, {it.crate for it in libraries}):
+                    raise _Proves
                 first = _until_it_proves(libraries, progress, tick) if lanes else tick
                 _ran([asked.rt, "ci"], copy, environment, progress, first)
             except _Proves:
-                Ahead(libraries, ByName(asked.rt, copy), environment, progress).prove(lanes, tick)
-                _ran([asked.rt, "ci"], copy, environment, progress, tick)
+                way, wanted = ByName(asked.rt, copy, asked.programs), [*libraries, _building(asked, tasks)]
+                if not Ahead(wanted, way, environment, progress).prove(lanes, tick):
+                    _ran([asked.rt, "ci"], copy, environment, progress, tick)
         except Refused as refused:
             if not progress.is_all_proved():
                 raise
             # The proof is all that a run needs. That a test fails, say, is for the gate to judge.
             say("\n".join(["every crate is proved, but the toolchain refuses something else; it said:", *refused.said]))
     return built(copy, asked.programs)
+
+
+def _building(asked: Asked, tasks: list[Task]) -> Task:
+    """What is left where all libraries are proved: one command proves and builds the programs."""
+    libraries = dict.fromkeys(it.crate for it in tasks if it.crate not in asked.programs)
+    minutes = sum(it.minutes for it in tasks if it.crate in asked.programs and not it.of_tests)
+    return Task(asked.programs[-1], False, tuple(libraries), minutes)
 
 
 def _in_trees(asked: Asked, room: Path, tasks: list[Task], lanes: int, progress: Progress) -> dict[str, Path]:

@@ -6,6 +6,7 @@ import json
 import os
 import shutil
 import subprocess
+from collections.abc import Iterable
 from pathlib import Path
 
 from . import places
@@ -67,6 +68,12 @@ def checked_elsewhere(rt: str) -> set[str]:
             if said["stamp"] and Path(said["folder"], "out", "incremental").is_dir():
                 found.add(note.name.partition(".")[0])
     return found
+
+
+def keeps_some(rt: str, crates: Iterable[str]) -> bool:
+    """Whether a gate on this machine has kept a proof of one of these crates, of whatever state. It is a hint, too."""
+    store = Path(os.path.realpath(rt)).parent.joinpath("../../rattle-kept")
+    return any(True for crate in crates for _ in store.glob(f"proof-{crate}-*"))
 
 
 def environment() -> dict[str, str]:

@@ -36,15 +36,18 @@ class ByName:
     """By `rt ci NAME`, which takes what earlier runs kept and keeps what it proves. Early toolchains do not know it.
 
     Two commands that need the same proof do not both make it: the second waits for the first, and takes what that kept.
+    Programs are built where they are wanted by `rt ci` of all: one with a name works on a copy of its own.
     """
 
     waits = True
 
-    def __init__(self, rt: str, copy: Path) -> None:
-        self._rt, self._copy = rt, copy
+    def __init__(self, rt: str, copy: Path, programs: Iterable[str] = ()) -> None:
+        self._rt, self._copy, self._programs = rt, copy, tuple(programs)
 
     def begin(self, crate: str, jobs: int) -> tuple[list[str], Path]:
         """The toolchain chooses the jobs itself, where it is not to be one."""
+        if crate in self._programs:
+            return [self._rt, "ci"], self._copy
         return [*(["env", "RT_JOBS=1"] if jobs == 1 else []), self._rt, "ci", crate], self._copy
 
     def is_proved(self, crate: str, said: bytes) -> bool:
