@@ -130,7 +130,7 @@ class InRepository(unittest.TestCase):
         self.assertEqual(
             [it.name for it in self.cache.glob("work-*")] + [it.name for it in self.cache.glob("**/new-*")], []
         )
-        self.assertEqual(processes_in(self.room), [])
+        self.assertEqual(left_in(self.room), [])
 
     @contextmanager
     def begun(self, *words: str) -> Iterator[subprocess.Popen[str]]:
@@ -165,8 +165,16 @@ def interrupt(process: subprocess.Popen[str], number: signal.Signals) -> tuple[i
     return process.returncode, said
 
 
-def processes_in(folder: Path) -> list[str]:
-    """The processes that work in a folder, by their words."""
+def left_in(folder: Path) -> list[str]:
+    """The processes that work in a folder, by their words. One that was killed has some seconds to go."""
+    until = time.monotonic() + 5
+    while (found := _processes_in(folder)) and time.monotonic() < until:
+        time.sleep(0.02)
+    return found
+
+
+def _processes_in(folder: Path) -> list[str]:
+    """The processes that work in a folder now."""
     found = []
     for it in Path("/proc").glob("[0-9]*"):
         try:

@@ -14,7 +14,7 @@ from rubliman.launcher.schedule import tasks_of
 from rubliman.launcher.sources import WORKBENCH, Sources, crates_of
 from rubliman.launcher.ways import ByName
 
-from .support import CRATES, PAGE, PROVES, InRepository, processes_in
+from .support import CRATES, PAGE, PROVES, InRepository, left_in
 
 GIB = 1 << 30
 TEXT = "".join(f"{name}: {uses}\n" for name, uses in CRATES.items())
@@ -43,7 +43,7 @@ class Ahead(InRepository):
         with contextlib.redirect_stderr(io.StringIO()) as shown:
             rt = str(self.bin / "rt")
             ahead.Ahead(libraries, ByName(rt, self.top), self.environment(), progress).prove(lanes, progress.tick)
-        self.assertEqual(processes_in(self.top), [])
+        self.assertEqual(left_in(self.top), [])
         return shown.getvalue()
 
     def test_how_many_side_by_side(self) -> None:

@@ -9,7 +9,7 @@ import subprocess
 from pathlib import Path
 from urllib.parse import urlsplit
 
-from .support import PROVES, TOP, InRepository, interrupt, processes_in
+from .support import PROVES, TOP, InRepository, interrupt, left_in
 
 SCRIPT = TOP / "tests/gdb/programs/boot.txt"
 
@@ -96,4 +96,4 @@ class Page(InRepository):
             self.assertIn("step 0 run\n", self.asked(address, "POST", f"/ask?{name}", "regs 0\n"))
             self.assertEqual(interrupt(process, signal.SIGINT)[0], 0)
         self.assertTrue((prefix / "share/doc/rubliman/PAGE.md").is_file())
-        self.assertEqual(processes_in(Path(self.room)), [])
+        self.assertEqual(left_in(Path(self.room)), [])
