@@ -8,6 +8,7 @@ use crate::told::Told;
 use std::alloc::{AllocError, Global};
 use std::test::Fail;
 use sv8_mmu::*;
+use sv8_model::TableMemory;
 use sv8_phys::{NoTouches, Observation, Phys, Size, Touch, Touches};
 
 /// Has no memory for a note.
@@ -159,7 +160,7 @@ fn remap(buffer: &mut Buffer, memory: &mut Phys<2>) -> Result<(), AllocError>
     requires { AllStand (ram_size 2) memory.old.ram 0x10 buffer.old }
     ensures { AllStand (ram_size 2) memory.new.ram 0x10 buffer.new }
 {
-    memory.write_ram(0x90c, Size::Word, 0x2e, &mut NoTouches)?;
+    memory.store_table_word(0x90c, 0x2e, &mut NoTouches)?;
     buffer.forget_page(0);
     Ok(())
 }
