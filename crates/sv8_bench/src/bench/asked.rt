@@ -7,15 +7,21 @@ use sv8_time::TimelineEdit;
 use sv8_workbench::{BenchFault, Shown, Workbench};
 
 impl<const NW: usize, const PAGES: usize, const K: u32> Workbench for Bench<NW, PAGES, K> {
-    ghost use Rattle.sv8_trace.specs.Recording.{recorded};
+    ghost use Rattle.std.proofs.Common.{ap, sym};
+    ghost use Rattle.sv8_workbench.specs.Kept.{Kept};
+    ghost use Rattle.sv8_workbench.specs.Shown.{machine_state};
     ghost use Rattle.sv8_bench.specs.Alike.{StaysAlike};
-    ghost use Rattle.sv8_bench.proofs.Alike.{same_alike};
 
     ghost kept = { λ bench. bench.kept };
 
     ghost Alike = { λ old new. StaysAlike K old new };
 
-    ghost kept_alike = { λ old new same. same_alike (recorded K new.recording) old.kept new.kept same };
+    ghost kept_alike = { λ old new same. record {
+      processors = λ n below. record {
+        processor = ap (λ (k : Kept). (machine_state k n).processor) (sym same);
+        mmu = ap (λ (k : Kept). (machine_state k n).mmu) (sym same);
+      };
+    } };
 
     fn replace_lines(
         &mut self,
