@@ -1,4 +1,3 @@
 pub mod AnswerLemmas
 pub mod EffectLemmas
 pub mod OrderLemmas
-pub mod EditLemmas
