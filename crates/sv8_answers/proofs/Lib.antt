@@ -1,3 +1,4 @@
 pub mod AnswerLemmas
 pub mod EffectLemmas
 pub mod OrderLemmas
+pub mod EditLemmas

@@ -15,6 +15,7 @@ ghost use Rattle.sv8_workbench.specs.Kept.{edited};
 ghost use Rattle.sv8_bench.specs.Workbench.{IsRun, IsNew, IsEdited, IsSized};
 
 mod affected;
+mod asked;
 mod copies;
 mod edits;
 mod intervals;

@@ -17,6 +17,7 @@ use crate::piece::tell_pieces;
 use crate::question::Query;
 use crate::window_lines::put_windows;
 use std::io::Write;
+use sv8_answers::listing::add_lines;
 use sv8_answers::refusal_of;
 use sv8_bench::{Bench, DefinedName, LAST_STEP, NO_SUCH_LINE, STEP_TOO_LARGE};
 use sv8_commands::put::{WriteFault, accept, done, refuse};
@@ -25,7 +26,6 @@ use sv8_cpu::Place;
 use sv8_model::Refused;
 use sv8_regs::Regs;
 use sv8_search::steps;
-use sv8_shell::listing::add_lines;
 use sv8_time::Timeline;
 
 /// Answers a question of a workbench.
@@ -37,7 +37,7 @@ pub fn answer_query<const NW: usize, const PAGES: usize, const K: u32, W: Write>
     ensures { Replies result (W.contents writer.old) (W.contents writer.new) bench.old.kept (query_outcome query bench.old.kept) bench.new.kept }
 {
     match query {
-        Query::Workbench(query) => sv8_shell::answer_query(bench, writer, query),
+        Query::Workbench(query) => sv8_answers::answer_query(bench, writer, query),
         Query::Steps {
             from,
             to,

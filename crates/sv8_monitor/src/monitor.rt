@@ -20,14 +20,13 @@ use crate::question::{Question, parse_question};
 use std::alloc::{AllocError, Global};
 use std::io::Write;
 use std::marker::Model;
-use sv8_answers::refusal_of;
+use sv8_answers::{Effect, answer_line, begins, lose_lines, refusal_of, refuse_line};
 use sv8_bench::{Bench, LAST_STEP};
 use sv8_commands::put::{WriteFault, accept, done, refuse};
 use sv8_commands::text::Text;
 use sv8_model::Refused;
 use sv8_search::{differ, part};
 use sv8_session::{Begun, Commands};
-use sv8_shell::{Effect, Shell, answer_line};
 
 /// A workbench that is edited, and the one that was kept of it.
 #[derive(Drop)]
@@ -129,7 +128,7 @@ impl<const NW: usize, const PAGES: usize, const K: u32> Commands for Monitoring<
 
     fn begins(text: &[u8]) -> Begun {
         match parse_question(text) {
-            None => Shell::<NW, PAGES, K>::begins(text),
+            None => begins(text),
             Some(_) => Begun::Takes(0),
         }
     }
@@ -147,11 +146,11 @@ impl<const NW: usize, const PAGES: usize, const K: u32> Commands for Monitoring<
     }
 
     fn refuse<W: Write>(writer: &mut W) -> Result<(), WriteFault> {
-        Shell::<NW, PAGES, K>::refuse(writer)
+        refuse_line(writer)
     }
 
     fn lose<W: Write>(writer: &mut W) -> Result<(), WriteFault> {
-        Shell::<NW, PAGES, K>::lose(writer)
+        lose_lines(writer)
     }
 }
 

@@ -1,8 +1,0 @@
-use Rattle.sv8_shell.proofs.EditLemmas.{reply-timeline, unless-edited}
-use Rattle.sv8_shell.proofs.answers.answer_timeline.Goals as goal
-
-pub returns-clause-replies : goal.returns-clause-replies
-returns-clause-replies g c = reply-timeline c.tell_edit.result c.edit.result _ _ g.row.K c.args.edit.now _ _ c.edit.ensures c.tell_edit.ensures.told
-
-pub returns-clause-unchanged : goal.returns-clause-unchanged
-returns-clause-unchanged g c = unless-edited c.edit.result c.tell_edit.result _ _ c.edit.ensures.unchanged c.tell_edit.ensures.edited
