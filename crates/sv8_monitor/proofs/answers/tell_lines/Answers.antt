@@ -7,7 +7,7 @@ use Rattle.sv8_monitor.proofs.QueryLemmas.{lines-there, lines-by-places}
 use Rattle.sv8_monitor.proofs.answers.tell_lines.Goals as goal
 
 pub add_lines-requires : goal.add_lines-requires
-add_lines-requires g c = let there = lines-there c.args.first c.args.last (length c.args.bench.now.kept.source.lines) c.requires in (omega arith, (omega arith, omega arith))
+add_lines-requires g c = let there = lines-there c.args.first c.args.last (length c.args.bench.now.kept.source.lines) c.requires in record { ordered = omega arith; listed = omega arith }
 
 pub returns : goal.returns
 returns g c =
