@@ -10,7 +10,7 @@ from unittest import mock
 
 from rubliman.launcher import ahead
 from rubliman.launcher.progress import Progress
-from rubliman.launcher.schedule import tasks_of
+from rubliman.launcher.schedule import Task, tasks_of
 from rubliman.launcher.sources import WORKBENCH, Sources, crates_of
 from rubliman.launcher.ways import ByName
 
@@ -100,6 +100,23 @@ class Ahead(InRepository):
         ends = f'[ "$2" = low ] && until grep -q "ci high" {self.log}; do sleep 0.1; done; true'
         self.prove(f'echo "$2 ${{RT_JOBS:-any}}" >>{jobs}; {SAYS}; {ends}')
         self.assertEqual(sorted(jobs.read_text().splitlines()), ["high any", "low any", "side 1"])
+
+    def test_crates_with_ways_of_one_length_have_a_processor_each(self) -> None:
+        # Each of the four ends once all are begun. With places for three and no number of processors the fourth waits.
+        tasks = [
+            Task(it, False, ("low", "long", "side", "small") if it == "high" else (), 6.0 if it == "high" else 2.0)
+            for it in ("low", "long", "side", "small", "high")
+        ]
+        jobs = self.room / "jobs"
+        begun = f'echo "$2 ${{RT_JOBS:-any}}" >>{jobs}; [ "$2" = high ] || until [ $(wc -l <{jobs}) -ge 4 ]; do sleep 0.1; done'
+        self.fake("exit 9", ahead=f"{begun}; {SAYS}")
+        proofs = ahead.Ahead(
+            tasks, ByName(str(self.bin / "rt"), self.top), self.environment(), Progress(tasks, 4, 3), processors=4
+        )
+        with mock.patch.object(ahead, "_AMPLE_BYTES", 0), contextlib.redirect_stderr(io.StringIO()):
+            self.assertTrue(proofs.prove(3, lambda: None))
+        due = ["high any", "long 1", "low 1", "side 1", "small 1"]
+        self.assertEqual(sorted(jobs.read_text().splitlines()), due)
 
     def test_tests_hold_no_other_crate_back(self) -> None:
         # `low` is proved, and its tests wait for `high`, which can only come once `low` counts as proved.

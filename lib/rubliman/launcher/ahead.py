@@ -6,7 +6,8 @@ at a time on four processors. The one on the longest way has two jobs, and the p
 each, which takes less processor time than two, and go on with what is left. Where a crate at work has a shorter way
 than one that becomes ready, the second does not wait for it. A crate with a far shorter way than the longest one leaves
 the processors to two others: what waits for it is far, and at the end of the longest way there are processors with
-nothing to do.
+nothing to do. Where as many crates as there are processors could be at work, with ways that are nearly as long as the
+longest one, each has one job, and none of them waits for a place.
 
 A command takes some seconds before it proves anything, the more the more crates lie below. So the next crate is begun
 while the last of its libraries is under way: where commands share what they prove, its own then waits for that. What
@@ -44,6 +45,8 @@ _NICENESS, _NICEST = 10, 19
 _BEGUN_SECONDS = 20
 # While two crates are at work, one whose way is a smaller part of the longest way than this can wait.
 _NEAR = 0.4
+# A way that is no smaller a part of the longest way than this is nearly as long.
+_ALIKE = 0.85
 # A command counts the memory that is free when it begins, and with less it may give its crate one job.
 _AMPLE_BYTES = 16 << 30
 
@@ -86,10 +89,17 @@ class Ahead:
     """The crates that are left, and those that are under way."""
 
     def __init__(
-        self, tasks: Iterable[Task], way: Way, environment: dict[str, str], progress: Progress, jobs: int = 2
+        self,
+        tasks: Iterable[Task],
+        way: Way,
+        environment: dict[str, str],
+        progress: Progress,
+        jobs: int = 2,
+        processors: int = 0,
     ) -> None:
         self._tasks = list(tasks)
         self._way, self._environment, self._progress, self._jobs = way, environment, progress, jobs
+        self._processors = processors
         self._proved = set(progress.proved)
         self._ways = schedule.ways_above([it for it in self._tasks if not it.of_tests])
         self._order = schedule.longest_first(self._ways)
@@ -122,7 +132,7 @@ class Ahead:
     def _begin(self, number: int) -> bool:
         """Begins crates whose libraries are proved, and the one that comes next. Gives whether one is under way."""
         for crate in [it for it in self._left if self._is_ready(it)]:
-            has_place = len(self._at_work()) < number or self._overtakes(crate, number)
+            has_place = len(self._at_work()) < self._places(number) or self._overtakes(crate, number)
             if has_place and not self._can_wait(crate):
                 self._begin_one(crate)
         following = self._following()
@@ -142,6 +152,17 @@ class Ahead:
     def _at_work(self) -> list[str]:
         """The crates under way that wait for no other one."""
         return [it.crate for it in self._under_way if self._is_ready(it.crate)]
+
+    def _places(self, number: int) -> int:
+        """How many crates may be at work: so many, or one for each processor where their ways are nearly as long."""
+        return max(number, self._processors) if self._are_alike() and free_memory() >= _AMPLE_BYTES else number
+
+    def _are_alike(self) -> bool:
+        """Whether there is a crate for each processor, at work or ready, whose way is nearly as long as the longest."""
+        waiting = {*self._left, *(it.crate for it in self._under_way)} - self._proved
+        longest = max((self._ways[it] for it in waiting), default=0.0)
+        near = [it for it in waiting if self._is_ready(it) and self._ways[it] >= _ALIKE * longest]
+        return 0 < self._processors <= len(near)
 
     def _overtakes(self, crate: str, number: int) -> bool:
         """Whether a crate need not wait for a place: its way is longer than that of a crate at work."""
@@ -176,8 +197,9 @@ class Ahead:
 
     def _of(self, crate: str) -> _Begun:
         """The proof of a crate that is left, begun."""
+        jobs = self._jobs if self._part_of_longest(crate) >= 1 and not self._are_alike() else 1
         self._left.remove(crate)
-        words, folder = self._way.begin(crate, self._jobs if self._part_of_longest(crate) >= 1 else 1)
+        words, folder = self._way.begin(crate, jobs)
         others = (it.crate for it in self._under_way if it.crate not in self._below[crate])
         longer = sum(self._order.index(it) < self._order.index(crate) for it in others)
         if longer:

@@ -194,7 +194,8 @@ def _by_gate(asked: Asked, room: Path, tasks: list[Task], lanes: int, progress: 
                 _ran([asked.rt, "ci"], copy, environment, progress, first)
             except _Proves:
                 way, wanted = ByName(asked.rt, copy, asked.programs), [*libraries, _building(asked, tasks)]
-                if not Ahead(wanted, way, environment, progress).prove(lanes, tick):
+                processors = len(os.sched_getaffinity(0))
+                if not Ahead(wanted, way, environment, progress, processors=processors).prove(lanes, tick):
                     _ran([asked.rt, "ci"], copy, environment, progress, tick)
         except Refused as refused:
             if not progress.is_all_proved():
