@@ -108,8 +108,9 @@ class Ahead(InRepository):
             for it in ("low", "long", "side", "small", "high")
         ]
         jobs = self.room / "jobs"
-        begun = f'echo "$2 ${{RT_JOBS:-any}}" >>{jobs}; [ "$2" = high ] || until [ $(wc -l <{jobs}) -ge 4 ]; do sleep 0.1; done'
-        self.fake("exit 9", ahead=f"{begun}; {SAYS}")
+        until = f"until [ $(wc -l <{jobs}) -ge 4 ]; do sleep 0.1; done"
+        says = f'echo "$2 ${{RT_JOBS:-any}}" >>{jobs}; [ "$2" = high ] || {until}; {SAYS}'
+        self.fake("exit 9", ahead=says)
         proofs = ahead.Ahead(
             tasks, ByName(str(self.bin / "rt"), self.top), self.environment(), Progress(tasks, 4, 3), processors=4
         )

@@ -155,13 +155,14 @@ class Ahead:
 
     def _places(self, number: int) -> int:
         """How many crates may be at work: so many, or one for each processor where their ways are nearly as long."""
-        return max(number, self._processors) if self._are_alike() and free_memory() >= _AMPLE_BYTES else number
+        are_alike = self._are_alike(self._proved) and free_memory() >= _AMPLE_BYTES
+        return max(number, self._processors) if are_alike else number
 
-    def _are_alike(self) -> bool:
-        """Whether there is a crate for each processor, at work or ready, whose way is nearly as long as the longest."""
-        waiting = {*self._left, *(it.crate for it in self._under_way)} - self._proved
+    def _are_alike(self, proved: set[str]) -> bool:
+        """Whether each processor has a crate, over what is proved, with a way nearly as long as the longest."""
+        waiting = {*self._left, *(it.crate for it in self._under_way)} - proved
         longest = max((self._ways[it] for it in waiting), default=0.0)
-        near = [it for it in waiting if self._is_ready(it) and self._ways[it] >= _ALIKE * longest]
+        near = [it for it in waiting if self._below[it] <= proved and self._ways[it] >= _ALIKE * longest]
         return 0 < self._processors <= len(near)
 
     def _overtakes(self, crate: str, number: int) -> bool:
@@ -197,7 +198,8 @@ class Ahead:
 
     def _of(self, crate: str) -> _Begun:
         """The proof of a crate that is left, begun."""
-        jobs = self._jobs if self._part_of_longest(crate) >= 1 and not self._are_alike() else 1
+        are_alike = self._are_alike(self._proved | self._below[crate])
+        jobs = self._jobs if self._part_of_longest(crate) >= 1 and not are_alike else 1
         self._left.remove(crate)
         words, folder = self._way.begin(crate, jobs)
         others = (it.crate for it in self._under_way if it.crate not in self._below[crate])
