@@ -10,9 +10,7 @@ use Rattle.sv8_workbench.specs.Kept.{edited, with_timeline}
 use Rattle.sv8_workbench.specs.Faults.{edit_refusal}
 use Rattle.sv8_time.specs.declared.fault.TimeFault.{TimeFault}
 use Rattle.sv8_time.specs.declared.fault.TimeFault.TheVariants as time
-use Rattle.sv8_time.specs.declared.edit.TimelineEdit.{TimelineEdit}
 use Rattle.sv8_time.specs.declared.edit.TimelineEdit.TheVariants.{SetInput}
-use Rattle.sv8_time.specs.Edits.{timeline_fault, with_edit}
 use Rattle.sv8_time.specs.Schedule.{Schedule, with_input, set_input_fault, has_input, is_one_too_many}
 use Rattle.sv8_syntax.specs.declared.fault.LineFault.TheVariants as line
 use Rattle.sv8_source.specs.declared.fault.SourceFault.{SourceFault}
@@ -152,15 +150,6 @@ pub reply-source : {A E : Type 0} (r : Result A E) (edit : Result (Unit {0}) (Re
     → Puts r a b (edit_text edit) → Replies r a b s (edit_outcome first last kept s) l
 reply-source r (Ok u) a b s l first last lines kept e ok new err old put = reply-edited r a b s l first last lines kept e ok new put
 reply-source r (Err f) a b s l first last lines kept e ok new err old put = reply-not-edited r a b s l first last lines kept f e err old put
-
--- what follows where a call answers, and where it is refused
-pub on_ok : {A E P Q : Type 0} (r : Result A E) → (P → Q) → OnOk r P → OnOk r Q
-on_ok (Ok x) f p = f p
-on_ok (Err e) f p = tt
-
-pub on_err : {A E P Q : Type 0} (r : Result A E) → (P → Q) → OnErr r P → OnErr r Q
-on_err (Ok x) f p = tt
-on_err (Err e) f p = f p
 
 -- ---- an input of which at most 1,025 bytes were handed on
 

@@ -1,11 +1,9 @@
 -- Lemmas on what commands do to their workbench.
-use Rattle.std.proofs.Common.{◌≡◌, ◌∙◌, ℕ, List, Option, Result, Ok, Err, OnOk, OnErr, IfOk, refl, sym, ap, subst}
+use Rattle.std.proofs.Common.{◌≡◌, ℕ, List, Option, Result, Ok, Err, IfOk, refl, sym, subst}
 use Rattle.std.specs.Result.{result_map_both}
-use Rattle.sv8_model.specs.declared.refused.Refused.{Refused}
-use Rattle.sv8_workbench.specs.declared.fault.BenchFault.{BenchFault}
 use Rattle.sv8_session.specs.Put.{Puts}
 use Rattle.sv8_answers.specs.declared.effect.Effect.{Effect}
-use Rattle.sv8_answers.specs.declared.effect.Effect.TheVariants.{Edited, Unchanged}
+use Rattle.sv8_answers.specs.declared.effect.Effect.TheVariants.{Unchanged}
 use Rattle.sv8_answers.specs.Outcome.{Outcome}
 use Rattle.sv8_answers.specs.Put.{Replies}
 use Rattle.sv8_answers.specs.Session.{State}

@@ -26,7 +26,7 @@ pub(crate) fn answer<B: Workbench, W: Write>(
 ) -> Result<Effect, WriteFault>
     ensures replies { Replies result (W.contents writer.old) (W.contents writer.new) (B.kept bench.old) (outcome_of command.entry (B.kept bench.old)) (B.kept bench.new) }
     ensures alike { B.Alike bench.old bench.new }
-    ensures unchanged { IfOk result (λ effect. effect ≡ Unchanged → (B.kept bench.new) ≡ (B.kept bench.old)) }
+    ensures unchanged { IfOk result (λ effect. effect ≡ Unchanged → B.kept bench.new ≡ B.kept bench.old) }
 {
     match command {
         Command::Edit { first, last, .. } => answer_edit(bench, writer, first, last, &[]),
@@ -48,7 +48,7 @@ pub fn answer_edit<B: Workbench, W: Write>(
     ensures replies { (kept : List (List ℕ)) → texts lines.now ≡ take 65537 kept →
         Replies result (W.contents writer.old) (W.contents writer.new) (B.kept bench.old) (edit_outcome first last kept (B.kept bench.old)) (B.kept bench.new) }
     ensures alike { B.Alike bench.old bench.new }
-    ensures unchanged { IfOk result (λ effect. effect ≡ Unchanged → (B.kept bench.new) ≡ (B.kept bench.old)) }
+    ensures unchanged { IfOk result (λ effect. effect ≡ Unchanged → B.kept bench.new ≡ B.kept bench.old) }
 {
     tell_edit(writer, bench.replace_lines(first, last, lines))
 }
@@ -60,7 +60,7 @@ fn answer_timeline<B: Workbench, W: Write>(
 ) -> Result<Effect, WriteFault>
     ensures replies { Replies result (W.contents writer.old) (W.contents writer.new) (B.kept bench.old) (timeline_outcome edit.now (B.kept bench.old)) (B.kept bench.new) }
     ensures alike { B.Alike bench.old bench.new }
-    ensures unchanged { IfOk result (λ effect. effect ≡ Unchanged → (B.kept bench.new) ≡ (B.kept bench.old)) }
+    ensures unchanged { IfOk result (λ effect. effect ≡ Unchanged → B.kept bench.new ≡ B.kept bench.old) }
 {
     tell_edit(writer, bench.edit(edit))
 }
@@ -74,7 +74,7 @@ fn answer_input<B: Workbench, W: Write>(
 ) -> Result<Effect, WriteFault>
     ensures replies { Replies result (W.contents writer.old) (W.contents writer.new) (B.kept bench.old) (outcome_of (Input step bytes.entry) (B.kept bench.old)) (B.kept bench.new) }
     ensures alike { B.Alike bench.old bench.new }
-    ensures unchanged { IfOk result (λ effect. effect ≡ Unchanged → (B.kept bench.new) ≡ (B.kept bench.old)) }
+    ensures unchanged { IfOk result (λ effect. effect ≡ Unchanged → B.kept bench.new ≡ B.kept bench.old) }
 {
     let first = bytes.first();
     let bytes = InputBytes::new(first.as_slice());
@@ -88,7 +88,7 @@ pub fn answer_query<B: Workbench, W: Write>(
     query: Query,
 ) -> Result<(), WriteFault>
     ensures replies { Replies result (W.contents writer.old) (W.contents writer.new) (B.kept bench.old) (query_outcome query (B.kept bench.old)) (B.kept bench.new) }
-    ensures kept { (B.kept bench.new) ≡ (B.kept bench.old) }
+    ensures kept { B.kept bench.new ≡ B.kept bench.old }
 {
     match query {
         Query::Listing => answer_listing(bench, writer),
@@ -116,7 +116,7 @@ fn answer_regs<B: Workbench, W: Write>(
     step: u32,
 ) -> Result<(), WriteFault>
     ensures replies { Replies result (W.contents writer.old) (W.contents writer.new) (B.kept bench.old) (query_outcome (Regs step) (B.kept bench.old)) (B.kept bench.new) }
-    ensures kept { (B.kept bench.new) ≡ (B.kept bench.old) }
+    ensures kept { B.kept bench.new ≡ B.kept bench.old }
 {
     match bench.regs_at(step) {
         Ok(shown) => tell_regs(writer, step, &shown),
@@ -132,7 +132,7 @@ fn answer_mem<B: Workbench, W: Write>(
     count: u32,
 ) -> Result<(), WriteFault>
     ensures replies { Replies result (W.contents writer.old) (W.contents writer.new) (B.kept bench.old) (query_outcome (Mem step address count) (B.kept bench.old)) (B.kept bench.new) }
-    ensures kept { (B.kept bench.new) ≡ (B.kept bench.old) }
+    ensures kept { B.kept bench.new ≡ B.kept bench.old }
 {
     match bench.words_at(step, address, count) {
         Ok(words) => tell_words(writer, address, words.as_slice()),
@@ -146,7 +146,7 @@ fn answer_out<B: Workbench, W: Write>(
     step: u32,
 ) -> Result<(), WriteFault>
     ensures replies { Replies result (W.contents writer.old) (W.contents writer.new) (B.kept bench.old) (query_outcome (Out step) (B.kept bench.old)) (B.kept bench.new) }
-    ensures kept { (B.kept bench.new) ≡ (B.kept bench.old) }
+    ensures kept { B.kept bench.new ≡ B.kept bench.old }
 {
     match bench.output_at(step) {
         Ok(bytes) => tell_output(writer, bytes.as_slice()),

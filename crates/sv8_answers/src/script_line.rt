@@ -46,7 +46,7 @@ pub fn answer_line<B: Workbench, W: Write>(
     ensures replies { (all : List (List ℕ)) → texts lines.now ≡ take 65537 all →
         session.Replies language result (W.contents writer.old) (W.contents writer.new) (B.kept bench.old) (language.order text.now all) (B.kept bench.new) }
     ensures alike { B.Alike bench.old bench.new }
-    ensures unchanged { IfOk result (λ effect. effect ≡ Unchanged → (B.kept bench.new) ≡ (B.kept bench.old)) }
+    ensures unchanged { IfOk result (λ effect. effect ≡ Unchanged → B.kept bench.new ≡ B.kept bench.old) }
 {
     match parse_command(text) {
         Ok(command) => match range(&command) {

@@ -19,8 +19,6 @@ use Rattle.sv8_cpu.specs.Recorded.{machine, put, AreEvents}
 use Rattle.sv8_cpu.proofs.Common.{framed}
 use Rattle.sv8_reset.specs.Reset.{run_of}
 use Rattle.sv8_reset.proofs.Runs.{state_is}
-use Rattle.sv8_bench.specs.Alike.{AreAlikeUpTo}
-use Rattle.sv8_workbench.specs.Kept.{Kept}
 use Rattle.sv8_workbench.specs.Shown.{machine_state}
 
 -- ---- processors
@@ -30,19 +28,6 @@ same_then r s t h i = record { processor = h.processor ∙ i.processor; mmu = h.
 
 same_as : (s t : State) → s ≡ t → IsSameProcessor s t
 same_as s t e = record { processor = ap (λ (x : State). x.processor) e; mmu = ap (λ (x : State). x.mmu) e }
-
--- ---- what is kept
-
--- it has not changed
-pub same_alike : (last : ℕ) (old new : Kept) → new ≡ old → AreAlikeUpTo last old new
-same_alike last old new same = record { processors = λ n l. same_as (machine_state old n) (machine_state new n) (ap (λ (k : Kept). machine_state k n) (sym same)) }
-
--- two changes, one after the other
-pub alike_then : (first second last : ℕ) (old mid new : Kept) → last ≤ first → last ≤ second → AreAlikeUpTo first old mid → AreAlikeUpTo second mid new → AreAlikeUpTo last old new
-alike_then first second last old mid new low high h i = record {
-  processors = λ n l.
-      same_then (machine_state old n) (machine_state mid n) (machine_state new n) (h.processors n (omega (arith, l, low))) (i.processors n (omega (arith, l, high)));
-}
 
 -- ---- steps below what stays recorded
 

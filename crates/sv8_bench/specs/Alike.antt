@@ -1,5 +1,5 @@
 -- Workbenches whose processors are the same at their first steps.
-use Rattle.std.specs.Prelude.{◌≡◌, ℕ, ◌≤◌}
+use Rattle.std.specs.Prelude.{ℕ, ◌≤◌}
 use Rattle.sv8_cpu.specs.Sameness.{IsSameProcessor}
 use Rattle.sv8_trace.specs.Recording.{recorded}
 use Rattle.sv8_workbench.specs.Kept.{Kept}
