@@ -12,7 +12,7 @@ use Rattle.sv8_time.specs.declared.fault.TimeFault.{TimeFault}
 use Rattle.sv8_time.specs.declared.fault.TimeFault.TheVariants as time
 use Rattle.sv8_time.specs.declared.edit.TimelineEdit.TheVariants.{SetInput}
 use Rattle.sv8_time.specs.Schedule.{Schedule, with_input, set_input_fault, has_input, is_one_too_many}
-use Rattle.sv8_syntax.specs.declared.fault.LineFault.TheVariants as line
+use Rattle.sv8_statements.specs.declared.fault.LineFault.TheVariants as line
 use Rattle.sv8_source.specs.declared.fault.SourceFault.{SourceFault}
 use Rattle.sv8_source.specs.declared.fault.SourceFault.TheVariants as source
 use Rattle.sv8_source.specs.Text.{Text, replaced, is_range, text_fault, edit_fault}

@@ -2,9 +2,9 @@
 use Rattle.std.specs.Prelude.{ℕ, List, codes, Some, None}
 use Rattle.sv8_model.specs.declared.refused.Refused.{Refused}
 use Rattle.sv8_model.specs.declared.refused.Refused.TheVariants.{OutOfMemory, By}
-use Rattle.sv8_syntax.specs.declared.fault.LineFault.{LineFault}
-use Rattle.sv8_syntax.specs.declared.fault.LineFault.TheVariants.{LineTooLong, NotAscii, Syntax, UnknownName, DuplicateLabel, OutOfRange, BadAlignment, OrgBackwards, ImageTooLarge}
-use Rattle.sv8_syntax.specs.Faults.{rank}
+use Rattle.sv8_statements.specs.declared.fault.LineFault.{LineFault}
+use Rattle.sv8_statements.specs.declared.fault.LineFault.TheVariants.{LineTooLong, NotAscii, Syntax, UnknownName, DuplicateLabel, OutOfRange, BadAlignment, OrgBackwards, ImageTooLarge}
+use Rattle.sv8_statements.specs.Faults.{rank}
 use Rattle.sv8_source.specs.declared.fault.SourceFault.TheVariants.{NoSuchLine, TooManyLines, Line}
 use Rattle.sv8_time.specs.declared.fault.TimeFault.TheVariants.{StepTooLarge, BadAddress, BadLevel, NothingThere, TooManyEvents, InputTooLong}
 use Rattle.sv8_commands.specs.Refusal.{Refusal, refusal}

@@ -7,7 +7,7 @@ ghost use Rattle.sv8_answers.specs.Refusal.{name_of, refusal_of};
 use sv8_commands::Refusal;
 use sv8_model::Refused;
 use sv8_source::SourceFault;
-use sv8_syntax::LineFault;
+use sv8_statements::LineFault;
 use sv8_time::TimeFault;
 use sv8_workbench::BenchFault;
 

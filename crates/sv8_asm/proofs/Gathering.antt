@@ -2,8 +2,8 @@
 use Rattle.std.proofs.Common.{◌≡◌, ℕ, nat_lt, Bool, true, false, cond, refl, sym, ap, arith, List, [], ◌++◌, Option, Some, None, append_assoc, append-nil}
 use Rattle.std.specs.Prelude.{Result, Ok, Err}
 use Rattle.std.proofs.lemmas.Bool.{lt-ltb, le-ltb, ltb-true, ltb-false}
-use Rattle.sv8_syntax.specs.Faults.{rank, least}
-use Rattle.sv8_syntax.specs.declared.fault.LineFault.{LineFault}
+use Rattle.sv8_statements.specs.Faults.{rank, least}
+use Rattle.sv8_statements.specs.declared.fault.LineFault.{LineFault}
 use Rattle.sv8_asm.specs.Code.{before}
 use Rattle.sv8_asm.specs.Gathering.{carried}
 

@@ -4,15 +4,15 @@ use Rattle.std.specs.Int.{w32, to_be_bytes}
 use Rattle.std.specs.Result.{result_unwrap_or}
 use Rattle.sv8_isa.specs.Encoding.{encoding}
 use Rattle.sv8_isa.specs.declared.instr.Instr.{Instr}
-use Rattle.sv8_syntax.specs.declared.fault.LineFault.{LineFault}
-use Rattle.sv8_syntax.specs.declared.fault.LineFault.TheVariants.{BadAlignment, ImageTooLarge}
-use Rattle.sv8_syntax.specs.declared.value.Expr.{Expr}
-use Rattle.sv8_syntax.specs.declared.statement.Width.{Width}
-use Rattle.sv8_syntax.specs.declared.statement.Width.TheVariants as width
-use Rattle.sv8_syntax.specs.declared.statement.Statement.{Statement}
-use Rattle.sv8_syntax.specs.declared.statement.Statement.TheVariants as statement
-use Rattle.sv8_syntax.specs.declared.statement.Stmt.{Stmt}
-use Rattle.sv8_syntax.specs.Registers.{number_of_register}
+use Rattle.sv8_statements.specs.declared.fault.LineFault.{LineFault}
+use Rattle.sv8_statements.specs.declared.fault.LineFault.TheVariants.{BadAlignment, ImageTooLarge}
+use Rattle.sv8_statements.specs.declared.value.Expr.{Expr}
+use Rattle.sv8_statements.specs.declared.statement.Width.{Width}
+use Rattle.sv8_statements.specs.declared.statement.Width.TheVariants as width
+use Rattle.sv8_statements.specs.declared.statement.Statement.{Statement}
+use Rattle.sv8_statements.specs.declared.statement.Statement.TheVariants as statement
+use Rattle.sv8_statements.specs.declared.statement.Stmt.{Stmt}
+use Rattle.sv8_statements.specs.Registers.{number_of_register}
 use Rattle.sv8_asm.specs.Names.{Names}
 use Rattle.sv8_asm.specs.Value.{word_of, within, value_of}
 use Rattle.sv8_asm.specs.Size.{aligned, plain, fits_simm13, has_no_low_bits, set_count, bytes_of_width, text_size, size_of_statement, size}

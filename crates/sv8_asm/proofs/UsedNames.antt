@@ -4,17 +4,17 @@ use Rattle.std.specs.List.{list_any, list_all}
 use Rattle.std.specs.Str.{bytes_eq}
 use Rattle.std.proofs.lemmas.Bool.Decides.{Decides-int_eq}
 use Rattle.std.proofs.lemmas.Slice.Eq.{bytes_eq-Decides}
-use Rattle.sv8_syntax.specs.declared.fault.LineFault.{LineFault}
-use Rattle.sv8_syntax.specs.declared.value.Expr.{Expr}
-use Rattle.sv8_syntax.specs.declared.value.Expr.TheVariants as expr
-use Rattle.sv8_syntax.specs.declared.value.Imm.TheVariants as imm
-use Rattle.sv8_syntax.specs.declared.value.RegOrImm.TheVariants as operand
-use Rattle.sv8_syntax.specs.declared.value.Upper.TheVariants as upper
-use Rattle.sv8_syntax.specs.declared.statement.Instruction.TheVariants as instruction
-use Rattle.sv8_syntax.specs.declared.statement.Width.{Width}
-use Rattle.sv8_syntax.specs.declared.statement.Statement.{Statement}
-use Rattle.sv8_syntax.specs.declared.statement.Statement.TheVariants as statement
-use Rattle.sv8_syntax.specs.Registers.{number_of_register}
+use Rattle.sv8_statements.specs.declared.fault.LineFault.{LineFault}
+use Rattle.sv8_statements.specs.declared.value.Expr.{Expr}
+use Rattle.sv8_statements.specs.declared.value.Expr.TheVariants as expr
+use Rattle.sv8_statements.specs.declared.value.Imm.TheVariants as imm
+use Rattle.sv8_statements.specs.declared.value.RegOrImm.TheVariants as operand
+use Rattle.sv8_statements.specs.declared.value.Upper.TheVariants as upper
+use Rattle.sv8_statements.specs.declared.statement.Instruction.TheVariants as instruction
+use Rattle.sv8_statements.specs.declared.statement.Width.{Width}
+use Rattle.sv8_statements.specs.declared.statement.Statement.{Statement}
+use Rattle.sv8_statements.specs.declared.statement.Statement.TheVariants as statement
+use Rattle.sv8_statements.specs.Registers.{number_of_register}
 use Rattle.sv8_isa.specs.declared.instr.Instr.TheVariants as instr
 use Rattle.sv8_isa.specs.declared.instr.Operand.TheVariants as source
 use Rattle.sv8_asm.specs.Names.{Names, get}

@@ -1,7 +1,7 @@
 -- How the code gathers the bytes of values: what was done so far, and what the rest gives.
 use Rattle.std.specs.Prelude.{ℕ, List, ◌++◌, Option, Some, None, Result, Ok, Err}
-use Rattle.sv8_syntax.specs.Faults.{least}
-use Rattle.sv8_syntax.specs.declared.fault.LineFault.{LineFault}
+use Rattle.sv8_statements.specs.Faults.{least}
+use Rattle.sv8_statements.specs.declared.fault.LineFault.{LineFault}
 
 -- the least fault so far and the bytes so far, and what the rest gives
 abbrev pub carried : Option LineFault → List ℕ → Result (List ℕ) LineFault → Result (List ℕ) LineFault

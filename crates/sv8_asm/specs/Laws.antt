@@ -1,6 +1,6 @@
 -- What a statement's names decide.
 use Rattle.std.specs.Prelude.{◌≡◌, ℕ, true, List}
-use Rattle.sv8_syntax.specs.declared.statement.Stmt.{Stmt}
+use Rattle.sv8_statements.specs.declared.statement.Stmt.{Stmt}
 use Rattle.sv8_asm.specs.Names.{Names, get}
 use Rattle.sv8_asm.specs.Uses.{uses, agree}
 use Rattle.sv8_asm.specs.Code.{bytes as line_code}

@@ -1,7 +1,7 @@
 -- The names of a source and its local labels, with what they stand for.
 use Rattle.std.specs.Prelude.{ℕ, ℤ, pos, ◌-◌, ◌==◌, List, [], ◌∷◌, ◌++◌, nat_le, nat_lt, Option, Some, None, slice_index_or, slice_set, replicate, if◌then◌else◌}
 use Rattle.std.specs.Str.{bytes_eq}
-use Rattle.sv8_syntax.specs.Spelling.{is_reference}
+use Rattle.sv8_statements.specs.Names.{is_reference}
 
 -- a line that has a local label, and its location
 pub record Mark : Type 0 where

@@ -1,17 +1,17 @@
 -- How far a statement moves the location.
 use Rattle.std.specs.Prelude.{ℕ, ℤ, pos, ◌-◌, ◌*◌, ◌%◌, ◌^◌, ◌==◌, ◌&&◌, neg_ℤ, not, Bool, nat_lt, length, Option, Some, None, Result, Ok, Err, if◌then◌else◌}
 use Rattle.sv8_model.specs.Words.{word_of_number}
-use Rattle.sv8_syntax.specs.declared.fault.LineFault.{LineFault}
-use Rattle.sv8_syntax.specs.declared.fault.LineFault.TheVariants.{OutOfRange, BadAlignment, OrgBackwards, ImageTooLarge}
-use Rattle.sv8_syntax.specs.declared.value.Expr.{Expr}
-use Rattle.sv8_syntax.specs.declared.value.Expr.TheVariants as expr
-use Rattle.sv8_syntax.specs.declared.statement.Width.{Width}
-use Rattle.sv8_syntax.specs.declared.statement.Width.TheVariants as width
-use Rattle.sv8_syntax.specs.declared.statement.Motion.{Motion}
-use Rattle.sv8_syntax.specs.declared.statement.Motion.TheVariants as motion
-use Rattle.sv8_syntax.specs.declared.statement.Statement.{Statement}
-use Rattle.sv8_syntax.specs.declared.statement.Statement.TheVariants as statement
-use Rattle.sv8_syntax.specs.declared.statement.Stmt.{Stmt}
+use Rattle.sv8_statements.specs.declared.fault.LineFault.{LineFault}
+use Rattle.sv8_statements.specs.declared.fault.LineFault.TheVariants.{OutOfRange, BadAlignment, OrgBackwards, ImageTooLarge}
+use Rattle.sv8_statements.specs.declared.value.Expr.{Expr}
+use Rattle.sv8_statements.specs.declared.value.Expr.TheVariants as expr
+use Rattle.sv8_statements.specs.declared.statement.Width.{Width}
+use Rattle.sv8_statements.specs.declared.statement.Width.TheVariants as width
+use Rattle.sv8_statements.specs.declared.statement.Motion.{Motion}
+use Rattle.sv8_statements.specs.declared.statement.Motion.TheVariants as motion
+use Rattle.sv8_statements.specs.declared.statement.Statement.{Statement}
+use Rattle.sv8_statements.specs.declared.statement.Statement.TheVariants as statement
+use Rattle.sv8_statements.specs.declared.statement.Stmt.{Stmt}
 use Rattle.sv8_asm.specs.Value.{is_outside}
 
 -- so many bytes, at a multiple of a number

@@ -3,18 +3,18 @@ use Rattle.std.specs.Prelude.{ℕ, ℤ, Bool, true, false, List, [], ◌∷◌, 
 use Rattle.std.specs.List.{list_any, list_all}
 use Rattle.std.specs.Ordering.{int_eq}
 use Rattle.std.specs.Str.{bytes_eq}
-use Rattle.sv8_syntax.specs.declared.value.Expr.{Expr}
-use Rattle.sv8_syntax.specs.declared.value.Expr.TheVariants as expr
-use Rattle.sv8_syntax.specs.declared.value.Imm.TheVariants as imm
-use Rattle.sv8_syntax.specs.declared.value.RegOrImm.{RegOrImm}
-use Rattle.sv8_syntax.specs.declared.value.RegOrImm.TheVariants as operand
-use Rattle.sv8_syntax.specs.declared.value.Upper.{Upper}
-use Rattle.sv8_syntax.specs.declared.value.Upper.TheVariants as upper
-use Rattle.sv8_syntax.specs.declared.statement.Instruction.{Instruction}
-use Rattle.sv8_syntax.specs.declared.statement.Instruction.TheVariants as instruction
-use Rattle.sv8_syntax.specs.declared.statement.Statement.{Statement}
-use Rattle.sv8_syntax.specs.declared.statement.Statement.TheVariants as statement
-use Rattle.sv8_syntax.specs.declared.statement.Stmt.{Stmt}
+use Rattle.sv8_statements.specs.declared.value.Expr.{Expr}
+use Rattle.sv8_statements.specs.declared.value.Expr.TheVariants as expr
+use Rattle.sv8_statements.specs.declared.value.Imm.TheVariants as imm
+use Rattle.sv8_statements.specs.declared.value.RegOrImm.{RegOrImm}
+use Rattle.sv8_statements.specs.declared.value.RegOrImm.TheVariants as operand
+use Rattle.sv8_statements.specs.declared.value.Upper.{Upper}
+use Rattle.sv8_statements.specs.declared.value.Upper.TheVariants as upper
+use Rattle.sv8_statements.specs.declared.statement.Instruction.{Instruction}
+use Rattle.sv8_statements.specs.declared.statement.Instruction.TheVariants as instruction
+use Rattle.sv8_statements.specs.declared.statement.Statement.{Statement}
+use Rattle.sv8_statements.specs.declared.statement.Statement.TheVariants as statement
+use Rattle.sv8_statements.specs.declared.statement.Stmt.{Stmt}
 use Rattle.sv8_asm.specs.Names.{Names, get}
 
 -- ---- the expressions of a statement

@@ -3,7 +3,7 @@
 ghost use Rattle.std.specs.Prelude.{ℕ, List, Result, ◌≡◌, ℤ, pos, negsuc, ◌≤ℤ◌, ◌-◌, ◌^◌, ◌++◌, IsOk, IfOk, MatchResult, Ok, Err};
 ghost use Rattle.std.specs.Int.{w16, w32, to_be_bytes};
 ghost use Rattle.sv8_model.specs.Refused.{ByFault};
-ghost use Rattle.sv8_syntax.specs.declared.fault.LineFault.{LineFault};
+ghost use Rattle.sv8_statements.specs.declared.fault.LineFault.{LineFault};
 ghost use Rattle.sv8_asm.specs.Size.{size};
 ghost use Rattle.sv8_asm.specs.Code.{on_ok, least_datum, most_datum, datum_bytes, datum, data_bytes, instruction_bytes, code, before, bytes, instructions_of};
 ghost use Rattle.sv8_asm.specs.Coded.{listed, listed_any};
@@ -16,7 +16,7 @@ use byteorder::{BigEndian, ByteOrder};
 use std::alloc::{AllocError, Global};
 use sv8_isa::{Instr, encode};
 use sv8_model::Refused;
-use sv8_syntax::{Expr, LineFault, Statement, Stmt, Width};
+use sv8_statements::{Expr, LineFault, Statement, Stmt, Width};
 
 /// The least number that a value in memory may be.
 fn least_datum(width: Width) -> i128

@@ -5,14 +5,14 @@ ghost use Rattle.sv8_asm.specs.Code.{below, on_ok, format_3, instruction_of, set
 ghost use Rattle.sv8_asm.specs.Coded.{listed};
 ghost use Rattle.sv8_asm.specs.Size.{plain};
 ghost use Rattle.sv8_asm.specs.Value.{word_of};
-ghost use Rattle.sv8_syntax.specs.Registers.{number_of_register};
+ghost use Rattle.sv8_statements.specs.Registers.{number_of_register};
 
 use crate::operand::{below, second_source, upper_bits};
 use crate::size::{fits_simm13, has_no_low_bits, plain};
 use crate::symbols::Symbols;
 use crate::value::{call_displacement, displacement, word};
 use sv8_isa::{ArithOp, Cond, Instr, MemoryOp, Operand};
-use sv8_syntax::{Expr, Instruction, LineFault, Operation, Register};
+use sv8_statements::{Expr, Instruction, LineFault, Operation, Register};
 
 /// One instruction, or two.
 #[derive(Clone, Copy)]

@@ -6,7 +6,7 @@ ghost use Rattle.sv8_asm.specs.Code.{least_immediate, most_immediate, immediate,
 use crate::symbols::Symbols;
 use crate::value::{value, within, word};
 use sv8_isa::Operand;
-use sv8_syntax::{Imm, LineFault, Operation, RegOrImm, Upper};
+use sv8_statements::{Imm, LineFault, Operation, RegOrImm, Upper};
 
 /// The least number that may stand in the place of the second source.
 fn least_immediate(operation: Operation) -> i128

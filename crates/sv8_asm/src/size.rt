@@ -4,7 +4,7 @@ ghost use Rattle.std.specs.Prelude.{◌≡◌, ℤ, pos, negsuc, ◌≤ℤ◌, �
 ghost use Rattle.sv8_asm.specs.Size.{aligned, plain, fits_simm13, has_no_low_bits, set_count, bytes_of_width, is_alignment, motion_size, text_size, size};
 
 use crate::value::word_of_number;
-use sv8_syntax::{Expr, LineFault, Motion, Statement, Stmt, Width};
+use sv8_statements::{Expr, LineFault, Motion, Statement, Stmt, Width};
 
 /// So many bytes, at a multiple of a number.
 fn aligned(unit: u32, at: u32, bytes: u32) -> Result<u32, LineFault>

@@ -6,7 +6,7 @@ ghost use Rattle.sv8_asm.specs.Uses.{source_exprs, upper_exprs, instruction_expr
 
 use crate::symbols::Symbols;
 use std::slice;
-use sv8_syntax::{Expr, Imm, Instruction, RegOrImm, Statement, Stmt, Upper};
+use sv8_statements::{Expr, Imm, Instruction, RegOrImm, Statement, Stmt, Upper};
 
 /// The expressions of a second source.
 fn source_exprs(source: &RegOrImm) -> &[Expr]

@@ -5,7 +5,7 @@ ghost use Rattle.sv8_model.specs.Words.{word_of_number, signed};
 ghost use Rattle.sv8_asm.specs.Value.{value_of, within, word_of, whole_words, displacement, call_words, call_displacement, call_target};
 
 use crate::symbols::Symbols;
-use sv8_syntax::{Expr, LineFault};
+use sv8_statements::{Expr, LineFault};
 
 /// The value of an expression in a line, or none where its name has no value.
 pub(crate) fn value(expr: &Expr, line: u32, names: &Symbols) -> Option<i128>

@@ -4,7 +4,7 @@ use Rattle.std.specs.Int.{w32, to_be_bytes}
 use Rattle.sv8_isa.specs.Encoding.{encoding}
 use Rattle.sv8_isa.specs.declared.instr.Instr.{Instr}
 use Rattle.sv8_assembler_laws.proofs.Forth.{forth}
-use Rattle.sv8_syntax.specs.declared.fault.LineFault.{LineFault}
+use Rattle.sv8_statements.specs.declared.fault.LineFault.{LineFault}
 use Rattle.sv8_asm.specs.Code.{word_and, instruction_bytes}
 use Rattle.sv8_assembler_laws.specs.StatementLaws.{AreWordsOf}
 

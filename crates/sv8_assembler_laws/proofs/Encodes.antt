@@ -4,9 +4,9 @@ use Rattle.std.specs.List.{list_all}
 use Rattle.std.specs.Option.{is_some}
 use Rattle.sv8_isa.specs.Encoding.{encoding}
 use Rattle.sv8_isa.specs.declared.instr.Instr.{Instr}
-use Rattle.sv8_syntax.specs.declared.fault.LineFault.{LineFault}
-use Rattle.sv8_syntax.specs.declared.statement.Statement.TheVariants as statement
-use Rattle.sv8_syntax.specs.Registers.{number_of_register}
+use Rattle.sv8_statements.specs.declared.fault.LineFault.{LineFault}
+use Rattle.sv8_statements.specs.declared.statement.Statement.TheVariants as statement
+use Rattle.sv8_statements.specs.Registers.{number_of_register}
 use Rattle.sv8_asm.specs.Size.{plain}
 use Rattle.sv8_asm.specs.Value.{word_of}
 use Rattle.sv8_asm.specs.Code.{on_ok, instruction_of, set_instructions, word_and, instruction_bytes, code}

@@ -11,21 +11,21 @@ use Rattle.sv8_isa.specs.declared.instr.Instr.TheVariants as instr
 use Rattle.sv8_isa.specs.declared.instr.Operand.{Operand}
 use Rattle.sv8_isa.specs.declared.instr.Operand.TheVariants as source
 use Rattle.sv8_model.specs.Words.{word_of_number}
-use Rattle.sv8_syntax.specs.declared.fault.LineFault.{LineFault}
-use Rattle.sv8_syntax.specs.declared.fault.LineFault.TheVariants.{OutOfRange}
-use Rattle.sv8_syntax.specs.declared.register.Register.{Register}
-use Rattle.sv8_syntax.specs.declared.value.Expr.{Expr}
-use Rattle.sv8_syntax.specs.declared.value.Imm.TheVariants as imm
-use Rattle.sv8_syntax.specs.declared.value.RegOrImm.{RegOrImm}
-use Rattle.sv8_syntax.specs.declared.value.RegOrImm.TheVariants as operand
-use Rattle.sv8_syntax.specs.declared.value.Upper.{Upper}
-use Rattle.sv8_syntax.specs.declared.value.Upper.TheVariants as upper
-use Rattle.sv8_syntax.specs.declared.statement.Operation.{Operation}
-use Rattle.sv8_syntax.specs.declared.statement.Operation.TheVariants as operation
-use Rattle.sv8_syntax.specs.declared.statement.Instruction.{Instruction}
-use Rattle.sv8_syntax.specs.declared.statement.Instruction.TheVariants as instruction
-use Rattle.sv8_syntax.specs.declared.statement.Statement.TheVariants as statement
-use Rattle.sv8_syntax.specs.Registers.{number_of_register}
+use Rattle.sv8_statements.specs.declared.fault.LineFault.{LineFault}
+use Rattle.sv8_statements.specs.declared.fault.LineFault.TheVariants.{OutOfRange}
+use Rattle.sv8_statements.specs.declared.register.Register.{Register}
+use Rattle.sv8_statements.specs.declared.value.Expr.{Expr}
+use Rattle.sv8_statements.specs.declared.value.Imm.TheVariants as imm
+use Rattle.sv8_statements.specs.declared.value.RegOrImm.{RegOrImm}
+use Rattle.sv8_statements.specs.declared.value.RegOrImm.TheVariants as operand
+use Rattle.sv8_statements.specs.declared.value.Upper.{Upper}
+use Rattle.sv8_statements.specs.declared.value.Upper.TheVariants as upper
+use Rattle.sv8_statements.specs.declared.statement.Operation.{Operation}
+use Rattle.sv8_statements.specs.declared.statement.Operation.TheVariants as operation
+use Rattle.sv8_statements.specs.declared.statement.Instruction.{Instruction}
+use Rattle.sv8_statements.specs.declared.statement.Instruction.TheVariants as instruction
+use Rattle.sv8_statements.specs.declared.statement.Statement.TheVariants as statement
+use Rattle.sv8_statements.specs.Registers.{number_of_register}
 use Rattle.sv8_asm.specs.Names.{Names}
 use Rattle.sv8_asm.specs.Size.{plain, has_no_low_bits}
 use Rattle.sv8_asm.specs.Value.{is_outside, within, value_of, as_word, word_of, whole_words, displacement, call_words, call_target, call_displacement}

@@ -1,8 +1,8 @@
 -- Parts that are joined with commas, and cut apart again.
 use Rattle.std.proofs.Common.{◌≡◌, ℕ, Bool, true, false, cond, List, [], ◌∷◌, ◌++◌, None, refl, sym, ap, subst, ◌∙◌}
 use Rattle.std.specs.List.{AllByRecursion}
-use Rattle.sv8_syntax.specs.Token.{Token, Word, Mark, Local}
-use Rattle.sv8_syntax.specs.declared.token.Mark.TheVariants as mark
+use Rattle.sv8_tokens.specs.Token.{Token, Word, Mark, Local}
+use Rattle.sv8_tokens.specs.declared.token.Mark.TheVariants as mark
 use Rattle.sv8_syntax.specs.Grammar.{joined}
 use Rattle.sv8_syntax.specs.Reading.{is_comma, put_first, parts, parts_of, behind_annul}
 

@@ -1,16 +1,16 @@
 -- Which fault is named.
 use Rattle.std.proofs.Common.{◌≡◌, ◌∙◌, ℕ, ℤ, pos, neg_ℤ, IfSome, suc, ◌-◌, ◌+◌, ◌*◌, ◌%◌, ◌^◌, ◌==◌, ◌≤◌, ◌⊎◌, inl, inr, List, [], ◌∷◌, ◌++◌, length, Option, Some, None, Result, Ok, Err, Bool, true, false, cond, nat_lt, is_some, refl, sym, ap, arith}
-use Rattle.sv8_syntax.specs.declared.fault.LineFault.{LineFault}
-use Rattle.sv8_syntax.specs.declared.fault.LineFault.TheVariants.{DuplicateLabel, OutOfRange, BadAlignment, OrgBackwards, ImageTooLarge}
-use Rattle.sv8_syntax.specs.declared.statement.Label.{Label}
-use Rattle.sv8_syntax.specs.declared.statement.Label.TheVariants as label
-use Rattle.sv8_syntax.specs.declared.statement.Motion.TheVariants as motion
-use Rattle.sv8_syntax.specs.declared.statement.Statement.{Statement}
-use Rattle.sv8_syntax.specs.declared.statement.Statement.TheVariants as statement
-use Rattle.sv8_syntax.specs.declared.statement.Stmt.{Stmt}
-use Rattle.sv8_syntax.specs.declared.value.Expr.TheVariants as expr
-use Rattle.sv8_syntax.specs.Faults.{rank}
-use Rattle.sv8_syntax.specs.Names.{Defines, IsDefinition}
+use Rattle.sv8_statements.specs.declared.fault.LineFault.{LineFault}
+use Rattle.sv8_statements.specs.declared.fault.LineFault.TheVariants.{DuplicateLabel, OutOfRange, BadAlignment, OrgBackwards, ImageTooLarge}
+use Rattle.sv8_statements.specs.declared.statement.Label.{Label}
+use Rattle.sv8_statements.specs.declared.statement.Label.TheVariants as label
+use Rattle.sv8_statements.specs.declared.statement.Motion.TheVariants as motion
+use Rattle.sv8_statements.specs.declared.statement.Statement.{Statement}
+use Rattle.sv8_statements.specs.declared.statement.Statement.TheVariants as statement
+use Rattle.sv8_statements.specs.declared.statement.Stmt.{Stmt}
+use Rattle.sv8_statements.specs.declared.value.Expr.TheVariants as expr
+use Rattle.sv8_statements.specs.Faults.{rank}
+use Rattle.sv8_statements.specs.Names.{Defines, IsDefinition}
 use Rattle.sv8_asm.specs.Code.{bytes}
 use Rattle.sv8_asm.specs.Names.{Names, defined, with_name}
 use Rattle.sv8_asm.specs.Size.{plain, set_count, bytes_of_width, size, size_of_statement, is_alignment}

@@ -5,10 +5,10 @@ use Rattle.std.specs.Int.Signed.{lt_z}
 use Rattle.std.proofs.lemmas.Bool.Decides.{nat_tests}
 use Rattle.sv8_isa.specs.Encoding.{is_register, is_signed, is_unsigned}
 use Rattle.sv8_model.specs.Words.{word_of_number, signed}
-use Rattle.sv8_syntax.specs.declared.fault.LineFault.TheVariants.{OutOfRange, BadAlignment}
-use Rattle.sv8_syntax.specs.declared.register.Register.{Register}
-use Rattle.sv8_syntax.specs.declared.register.Register.TheVariants as r
-use Rattle.sv8_syntax.specs.Registers.{number_of_register}
+use Rattle.sv8_statements.specs.declared.fault.LineFault.TheVariants.{OutOfRange, BadAlignment}
+use Rattle.sv8_statements.specs.declared.register.Register.{Register}
+use Rattle.sv8_statements.specs.declared.register.Register.TheVariants as r
+use Rattle.sv8_statements.specs.Registers.{number_of_register}
 use Rattle.sv8_asm.specs.Value.{is_outside, within, whole_words, call_words}
 
 pub reg : (x : Register) → is_register (number_of_register x) ≡ true

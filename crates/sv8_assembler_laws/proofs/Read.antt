@@ -4,31 +4,32 @@ use Rattle.std.specs.Str.{bytes_eq}
 use Rattle.std.specs.Option.{option_or}
 use Rattle.std.proofs.lemmas.Slice.Eq.{bytes_eq-Decides}
 use Rattle.std.proofs.lemmas.List.{append-nil}
-use Rattle.sv8_syntax.specs.declared.token.Percent.TheVariants as percent
-use Rattle.sv8_syntax.specs.declared.token.Mark.TheVariants as mark
-use Rattle.sv8_syntax.specs.declared.mnemonic.Shape.{Shape}
-use Rattle.sv8_syntax.specs.declared.value.Expr.{Expr}
-use Rattle.sv8_syntax.specs.declared.value.Expr.TheVariants as expr
-use Rattle.sv8_syntax.specs.declared.value.Imm.{Imm}
-use Rattle.sv8_syntax.specs.declared.value.Imm.TheVariants as imm
-use Rattle.sv8_syntax.specs.declared.value.RegOrImm.{RegOrImm}
-use Rattle.sv8_syntax.specs.declared.value.RegOrImm.TheVariants as source
-use Rattle.sv8_syntax.specs.Address.{Address}
-use Rattle.sv8_syntax.specs.Address as address
-use Rattle.sv8_syntax.specs.Operand.{Operand}
-use Rattle.sv8_syntax.specs.Operand as operand
-use Rattle.sv8_syntax.specs.declared.statement.Statement.{Statement}
-use Rattle.sv8_syntax.specs.declared.statement.Stmt.{Stmt}
-use Rattle.sv8_syntax.specs.Mnemonics.{shape_named}
-use Rattle.sv8_syntax.specs.Token.{Token, Word, Number, Percent, Mark, Quoted, Local}
-use Rattle.sv8_syntax.specs.Spelling.{is_reference}
-use Rattle.sv8_syntax.specs.declared.statement.Label.{Label}
-use Rattle.sv8_syntax.specs.declared.statement.Label.TheVariants as label
-use Rattle.sv8_syntax.specs.Forms.{form_of, annulled}
+use Rattle.sv8_tokens.specs.declared.token.Percent.TheVariants as percent
+use Rattle.sv8_tokens.specs.declared.token.Mark.TheVariants as mark
+use Rattle.sv8_forms.specs.declared.mnemonic.Shape.{Shape}
+use Rattle.sv8_statements.specs.declared.value.Expr.{Expr}
+use Rattle.sv8_statements.specs.declared.value.Expr.TheVariants as expr
+use Rattle.sv8_statements.specs.declared.value.Imm.{Imm}
+use Rattle.sv8_statements.specs.declared.value.Imm.TheVariants as imm
+use Rattle.sv8_statements.specs.declared.value.RegOrImm.{RegOrImm}
+use Rattle.sv8_statements.specs.declared.value.RegOrImm.TheVariants as source
+use Rattle.sv8_statements.specs.Address.{Address}
+use Rattle.sv8_statements.specs.Address as address
+use Rattle.sv8_statements.specs.Operand.{Operand}
+use Rattle.sv8_statements.specs.Operand as operand
+use Rattle.sv8_statements.specs.declared.statement.Statement.{Statement}
+use Rattle.sv8_statements.specs.declared.statement.Stmt.{Stmt}
+use Rattle.sv8_forms.specs.Mnemonics.{shape_named}
+use Rattle.sv8_tokens.specs.Token.{Token, Word, Number, Percent, Mark, Quoted, Local}
+use Rattle.sv8_statements.specs.Names.{is_reference}
+use Rattle.sv8_statements.specs.declared.statement.Label.{Label}
+use Rattle.sv8_statements.specs.declared.statement.Label.TheVariants as label
+use Rattle.sv8_forms.specs.Forms.{form_of, annulled}
 use Rattle.sv8_syntax.specs.Grammar.{blank, stated, stated_annulled, unlabelled, labelled, numbered, register, expression, in_parentheses, immediate, register_or_immediate, place, spelled, joined, IsStatement, IsLine, line}
-use Rattle.sv8_syntax.specs.Lexing.{◌>>=◌}
-use Rattle.sv8_syntax.specs.Reading.{parts_of, behind_annul, flagged, shaped, ended, behind_paren, expr_front, parenthesized_front, imm_front, source_front, behind_immediate, address_front, closed, bracketed_operand, high_operand, plain_operand, marked_operand, operand_of, operands_of, statement_of, label_front, line_of}
-use Rattle.sv8_syntax.proofs.Steps.{bind_some, some_is, test_true}
+use Rattle.sv8_statements.specs.Steps.{◌>>=◌}
+use Rattle.sv8_syntax.specs.Reading.{parts_of, behind_annul, flagged, shaped, operands_of, statement_of, label_front, line_of}
+use Rattle.sv8_tokens.specs.Reading.{ended, behind_paren, expr_front, parenthesized_front, imm_front, source_front, behind_immediate, address_front, closed, bracketed_operand, high_operand, plain_operand, marked_operand, operand_of}
+use Rattle.sv8_statements.proofs.Steps.{bind_some, some_is, test_true}
 use Rattle.sv8_assembler_laws.proofs.Joined.{joined-parts_of}
 
 ended-read : {X : Type 0} (x y : X) (ts : List Token) → ended (x, ts) ≡ Some y → (x ≡ y) × (ts ≡ [])

@@ -2,19 +2,20 @@
 use Rattle.std.proofs.Common.{◌≡◌, ℕ, ◌≤◌, Bool, true, false, cond, ltb, List, length, Option, Some, None, Result, Ok, Err, refl, ap, ◌∙◌}
 use Rattle.std.specs.List.{list_all}
 use Rattle.std.proofs.lemmas.Bool.{ltb-true, ltb-false}
-use Rattle.sv8_syntax.specs.declared.fault.LineFault.{LineFault}
-use Rattle.sv8_syntax.specs.declared.fault.LineFault.TheVariants.{LineTooLong, NotAscii, Syntax}
-use Rattle.sv8_syntax.specs.declared.statement.Stmt.{Stmt}
-use Rattle.sv8_syntax.specs.Spelling.{AllPass}
+use Rattle.sv8_statements.specs.declared.fault.LineFault.{LineFault}
+use Rattle.sv8_statements.specs.declared.fault.LineFault.TheVariants.{LineTooLong, NotAscii, Syntax}
+use Rattle.sv8_statements.specs.declared.statement.Stmt.{Stmt}
+use Rattle.sv8_tokens.specs.Spelling.{AllPass}
 use Rattle.sv8_syntax.specs.Grammar.{ReadsAs, IsFault, is_text_byte}
-use Rattle.sv8_syntax.specs.Lexing.{◌>>=◌, tokens_of}
-use Rattle.sv8_syntax.specs.Names.{Defines}
+use Rattle.sv8_statements.specs.Steps.{◌>>=◌}
+use Rattle.sv8_tokens.specs.Lexing.{tokens_of}
+use Rattle.sv8_statements.specs.Names.{Defines}
 use Rattle.sv8_syntax.specs.Reading.{line_of, or_syntax, reading}
 use Rattle.sv8_syntax.proofs.Defined.{line-defines}
 use Rattle.sv8_syntax.proofs.Lines.{reading-text}
-use Rattle.sv8_syntax.proofs.Steps.{bind_some}
-use Rattle.sv8_syntax.proofs.Tokens.{tokens_of-again, tokens_of-read}
-use Rattle.sv8_syntax.proofs.Words.{passes, passed}
+use Rattle.sv8_statements.proofs.Steps.{bind_some}
+use Rattle.sv8_tokens.proofs.Texts.{tokens_of-again, tokens_of-read}
+use Rattle.sv8_tokens.proofs.Words.{passes, passed}
 use Rattle.sv8_assembler_laws.proofs.Read.{line-read}
 use Rattle.sv8_assembler_laws.proofs.Written.{line-again}
 

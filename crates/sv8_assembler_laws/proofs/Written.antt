@@ -1,28 +1,29 @@
 -- What is written by the grammar is read again.
 use Rattle.std.proofs.Common.{◌≡◌, false, ℕ, List, [], ◌∷◌, ◌++◌, map, Option, Some, None, refl, sym, ap, ◌∙◌, append_assoc}
 use Rattle.std.proofs.lemmas.List.{append-nil}
-use Rattle.sv8_syntax.specs.declared.token.Percent.TheVariants as percent
-use Rattle.sv8_syntax.specs.declared.token.Mark.TheVariants as mark
-use Rattle.sv8_syntax.specs.declared.register.Register.{Register}
-use Rattle.sv8_syntax.specs.declared.value.Expr.{Expr}
-use Rattle.sv8_syntax.specs.declared.value.Expr.TheVariants as expr
-use Rattle.sv8_syntax.specs.declared.value.Imm.{Imm}
-use Rattle.sv8_syntax.specs.declared.value.Imm.TheVariants as imm
-use Rattle.sv8_syntax.specs.declared.value.RegOrImm.{RegOrImm}
-use Rattle.sv8_syntax.specs.declared.value.RegOrImm.TheVariants as source
-use Rattle.sv8_syntax.specs.Address.{Address}
-use Rattle.sv8_syntax.specs.Address as address
-use Rattle.sv8_syntax.specs.Operand.{Operand}
-use Rattle.sv8_syntax.specs.Operand as operand
-use Rattle.sv8_syntax.specs.declared.statement.Statement.{Statement}
-use Rattle.sv8_syntax.specs.declared.statement.Stmt.{Stmt}
-use Rattle.sv8_syntax.specs.Spelling.{is_reference}
-use Rattle.sv8_syntax.specs.declared.statement.Label.{Label}
-use Rattle.sv8_syntax.specs.declared.statement.Label.TheVariants as label
-use Rattle.sv8_syntax.specs.Token.{Token, Word, Number, Percent, Mark, Local}
+use Rattle.sv8_tokens.specs.declared.token.Percent.TheVariants as percent
+use Rattle.sv8_tokens.specs.declared.token.Mark.TheVariants as mark
+use Rattle.sv8_statements.specs.declared.register.Register.{Register}
+use Rattle.sv8_statements.specs.declared.value.Expr.{Expr}
+use Rattle.sv8_statements.specs.declared.value.Expr.TheVariants as expr
+use Rattle.sv8_statements.specs.declared.value.Imm.{Imm}
+use Rattle.sv8_statements.specs.declared.value.Imm.TheVariants as imm
+use Rattle.sv8_statements.specs.declared.value.RegOrImm.{RegOrImm}
+use Rattle.sv8_statements.specs.declared.value.RegOrImm.TheVariants as source
+use Rattle.sv8_statements.specs.Address.{Address}
+use Rattle.sv8_statements.specs.Address as address
+use Rattle.sv8_statements.specs.Operand.{Operand}
+use Rattle.sv8_statements.specs.Operand as operand
+use Rattle.sv8_statements.specs.declared.statement.Statement.{Statement}
+use Rattle.sv8_statements.specs.declared.statement.Stmt.{Stmt}
+use Rattle.sv8_statements.specs.Names.{is_reference}
+use Rattle.sv8_statements.specs.declared.statement.Label.{Label}
+use Rattle.sv8_statements.specs.declared.statement.Label.TheVariants as label
+use Rattle.sv8_tokens.specs.Token.{Token, Word, Number, Percent, Mark, Local}
 use Rattle.sv8_syntax.specs.Grammar.{blank, stated, stated_annulled, unlabelled, labelled, numbered, register, expression, in_parentheses, immediate, register_or_immediate, place, spelled, IsStatement, IsLine, line}
-use Rattle.sv8_syntax.specs.Lexing.{◌>>=◌}
-use Rattle.sv8_syntax.specs.Reading.{ended, closed, expr_front, parenthesized_front, imm_front, source_front, behind_immediate, address_front, bracketed_operand, high_operand, plain_operand, marked_operand, operand_of, operands_of, shaped, behind_annul, flagged, statement_of, label_front, line_of}
+use Rattle.sv8_statements.specs.Steps.{◌>>=◌}
+use Rattle.sv8_tokens.specs.Reading.{ended, closed, expr_front, parenthesized_front, imm_front, source_front, behind_immediate, address_front, bracketed_operand, high_operand, plain_operand, marked_operand, operand_of}
+use Rattle.sv8_syntax.specs.Reading.{operands_of, shaped, behind_annul, flagged, statement_of, label_front, line_of}
 use Rattle.sv8_assembler_laws.proofs.Joined.{HasNoComma, HasNoComma-append, HaveNoComma, AreParts, parts_none, parts_some, parts_of-joined, parts-no_annul, starts_with_label, statement-no_label}
 
 -- ---- operands

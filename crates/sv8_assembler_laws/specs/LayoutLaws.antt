@@ -1,12 +1,12 @@
 -- What the layout pass leaves: where lines stand, what their names stand for, and that nothing is placed at the limit or above it.
 use Rattle.std.specs.Prelude.{◌≡◌, ℕ, zero, suc, ℤ, pos, ◌+◌, ◌<◌, ◌≤◌, ◌==◌, Bool, true, false, List, [], ◌∷◌, Option, Some, None, Result, Ok, Err}
 use Rattle.std.specs.List.{list_any}
-use Rattle.sv8_syntax.specs.declared.fault.LineFault.{LineFault}
-use Rattle.sv8_syntax.specs.declared.statement.Label.{Label}
-use Rattle.sv8_syntax.specs.declared.statement.Label.TheVariants as label
-use Rattle.sv8_syntax.specs.declared.statement.Statement.TheVariants as statement
-use Rattle.sv8_syntax.specs.declared.statement.Stmt.{Stmt}
-use Rattle.sv8_syntax.specs.declared.value.Expr.{Expr}
+use Rattle.sv8_statements.specs.declared.fault.LineFault.{LineFault}
+use Rattle.sv8_statements.specs.declared.statement.Label.{Label}
+use Rattle.sv8_statements.specs.declared.statement.Label.TheVariants as label
+use Rattle.sv8_statements.specs.declared.statement.Statement.TheVariants as statement
+use Rattle.sv8_statements.specs.declared.statement.Stmt.{Stmt}
+use Rattle.sv8_statements.specs.declared.value.Expr.{Expr}
 use Rattle.sv8_syntax.specs.Reading.{reading}
 use Rattle.sv8_asm.specs.Names.{defined, get, reference_of, forward, backward}
 use Rattle.sv8_asm.specs.Size.{plain, size}

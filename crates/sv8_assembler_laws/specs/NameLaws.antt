@@ -2,10 +2,10 @@
 use Rattle.std.specs.Prelude.{◌≡◌, ℕ, ℤ, List, Some, Ok}
 use Rattle.std.specs.List.{Contains}
 use Rattle.std.specs.declared.cmp.Ordering.TheVariants.{Less}
-use Rattle.sv8_syntax.specs.declared.statement.Label.TheVariants as label
-use Rattle.sv8_syntax.specs.declared.statement.Statement.TheVariants as statement
-use Rattle.sv8_syntax.specs.declared.statement.Stmt.{Stmt}
-use Rattle.sv8_syntax.specs.declared.value.Expr.{Expr}
+use Rattle.sv8_statements.specs.declared.statement.Label.TheVariants as label
+use Rattle.sv8_statements.specs.declared.statement.Statement.TheVariants as statement
+use Rattle.sv8_statements.specs.declared.statement.Stmt.{Stmt}
+use Rattle.sv8_statements.specs.declared.value.Expr.{Expr}
 use Rattle.sv8_asm.specs.Size.{plain}
 use Rattle.sv8_source.specs.Layout.{Layout}
 use Rattle.sv8_assembler_laws.specs.LayoutLaws.{ReadsAs, location}

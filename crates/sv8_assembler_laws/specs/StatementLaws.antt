@@ -7,16 +7,16 @@ use Rattle.std.specs.Int.{w32, to_be_bytes}
 use Rattle.sv8_isa.specs.Encoding.{encoding}
 use Rattle.sv8_isa.specs.Table.{meaning}
 use Rattle.sv8_isa.specs.declared.instr.Instr.{Instr}
-use Rattle.sv8_syntax.specs.declared.fault.LineFault.{LineFault}
-use Rattle.sv8_syntax.specs.declared.value.Imm.TheVariants as imm
-use Rattle.sv8_syntax.specs.declared.value.RegOrImm.{RegOrImm}
-use Rattle.sv8_syntax.specs.declared.value.RegOrImm.TheVariants as operand
-use Rattle.sv8_syntax.specs.declared.statement.Operation.{Operation}
-use Rattle.sv8_syntax.specs.declared.statement.Operation.TheVariants as operation
-use Rattle.sv8_syntax.specs.declared.statement.Instruction.TheVariants as instruction
-use Rattle.sv8_syntax.specs.declared.statement.Statement.TheVariants as statement
-use Rattle.sv8_syntax.specs.declared.statement.Statement.{Statement}
-use Rattle.sv8_syntax.specs.declared.statement.Stmt.{Stmt}
+use Rattle.sv8_statements.specs.declared.fault.LineFault.{LineFault}
+use Rattle.sv8_statements.specs.declared.value.Imm.TheVariants as imm
+use Rattle.sv8_statements.specs.declared.value.RegOrImm.{RegOrImm}
+use Rattle.sv8_statements.specs.declared.value.RegOrImm.TheVariants as operand
+use Rattle.sv8_statements.specs.declared.statement.Operation.{Operation}
+use Rattle.sv8_statements.specs.declared.statement.Operation.TheVariants as operation
+use Rattle.sv8_statements.specs.declared.statement.Instruction.TheVariants as instruction
+use Rattle.sv8_statements.specs.declared.statement.Statement.TheVariants as statement
+use Rattle.sv8_statements.specs.declared.statement.Statement.{Statement}
+use Rattle.sv8_statements.specs.declared.statement.Stmt.{Stmt}
 use Rattle.sv8_syntax.specs.Reading.{reading}
 use Rattle.sv8_asm.specs.Names.{Names}
 use Rattle.sv8_asm.specs.Size.{size}

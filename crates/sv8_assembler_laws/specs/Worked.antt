@@ -1,16 +1,16 @@
 -- Short words for the lines that are worked out.
 use Rattle.std.specs.Prelude.{◌≡◌, ℕ, List, Some, None, Result, Ok, Err}
 use Rattle.std.specs.List.{AllByRecursion}
-use Rattle.sv8_syntax.specs.declared.fault.LineFault.{LineFault}
-use Rattle.sv8_syntax.specs.declared.fault.LineFault.TheVariants.{Syntax}
-use Rattle.sv8_syntax.specs.declared.value.Expr.{Expr}
-use Rattle.sv8_syntax.specs.declared.value.Imm.TheVariants as imm
-use Rattle.sv8_syntax.specs.declared.value.RegOrImm.{RegOrImm}
-use Rattle.sv8_syntax.specs.declared.value.RegOrImm.TheVariants as source
-use Rattle.sv8_syntax.specs.declared.statement.Instruction.{Instruction}
-use Rattle.sv8_syntax.specs.declared.statement.Statement.{Statement}
-use Rattle.sv8_syntax.specs.declared.statement.Statement.TheVariants as statement
-use Rattle.sv8_syntax.specs.declared.statement.Stmt.{Stmt}
+use Rattle.sv8_statements.specs.declared.fault.LineFault.{LineFault}
+use Rattle.sv8_statements.specs.declared.fault.LineFault.TheVariants.{Syntax}
+use Rattle.sv8_statements.specs.declared.value.Expr.{Expr}
+use Rattle.sv8_statements.specs.declared.value.Imm.TheVariants as imm
+use Rattle.sv8_statements.specs.declared.value.RegOrImm.{RegOrImm}
+use Rattle.sv8_statements.specs.declared.value.RegOrImm.TheVariants as source
+use Rattle.sv8_statements.specs.declared.statement.Instruction.{Instruction}
+use Rattle.sv8_statements.specs.declared.statement.Statement.{Statement}
+use Rattle.sv8_statements.specs.declared.statement.Statement.TheVariants as statement
+use Rattle.sv8_statements.specs.declared.statement.Stmt.{Stmt}
 use Rattle.sv8_syntax.specs.Grammar.{line}
 use Rattle.sv8_syntax.specs.Reading.{reading}
 

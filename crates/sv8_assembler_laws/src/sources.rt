@@ -1,7 +1,7 @@
 //! What is true of every source, as contracts of functions that do nothing, and some sources worked out.
 
 ghost use Rattle.std.specs.Prelude.{◌≡◌, Some, codes, map, [], ◌∷◌, pos, negsuc};
-ghost use Rattle.sv8_syntax.specs.declared.fault.LineFault.TheVariants.{Syntax, UnknownName, DuplicateLabel, OutOfRange, BadAlignment, OrgBackwards, ImageTooLarge};
+ghost use Rattle.sv8_statements.specs.declared.fault.LineFault.TheVariants.{Syntax, UnknownName, DuplicateLabel, OutOfRange, BadAlignment, OrgBackwards, ImageTooLarge};
 ghost use Rattle.sv8_source.specs.declared.fault.SourceFault.TheVariants.{Line};
 ghost use Rattle.sv8_source.specs.Listing.{listing};
 ghost use Rattle.sv8_source.specs.Names.{names, label_named, number_named};

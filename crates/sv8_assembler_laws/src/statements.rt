@@ -1,7 +1,7 @@
 //! What is true of every statement, as contracts of functions that do nothing, and some lines worked out.
 
 ghost use Rattle.std.specs.Prelude.{◌≡◌, Ok, Err, codes, pos, [], ◌∷◌};
-ghost use Rattle.sv8_syntax.specs.declared.fault.LineFault.TheVariants.{UnknownName, OutOfRange, BadAlignment, OrgBackwards};
+ghost use Rattle.sv8_statements.specs.declared.fault.LineFault.TheVariants.{UnknownName, OutOfRange, BadAlignment, OrgBackwards};
 ghost use Rattle.sv8_asm.specs.Laws.{UsedNamesDecide, AgreeingNamesDecide};
 ghost use Rattle.sv8_assembler_laws.specs.StatementLaws.{BytesFitSize, InstructionsDecode, InstructionsEncode, ValuesFitFields, line_bytes, line_size};
 ghost use Rattle.sv8_asm.specs.Names.{no_names, with_name, with_mark};

@@ -1,14 +1,14 @@
 -- What an edit makes of a workbench, once its changes are made of the trace.
 use Rattle.std.proofs.Common.{◌≡◌, ◌∙◌, ℕ, ◌+◌, ◌*◌, ◌<◌, ◌≤◌, List, length, Option, Some, None, refl, sym, subst, arith, mul-le-mul_left}
 use Rattle.sv8_history.specs.Machine.{Run, state_at}
-use Rattle.sv8_history.specs.Trace.{Trace, IsTraceOf, Agrees}
+use Rattle.sv8_history.specs.Trace.{Trace, IsTraceOf, Agrees, Near}
 use Rattle.sv8_history.specs.Changes.{Change}
 use Rattle.sv8_history.specs.Reads.{IsFirstRead}
 use Rattle.sv8_history.specs.Input as history_input
 use Rattle.sv8_history.specs.Input.{IsFirstTake}
 use Rattle.sv8_history.specs.Patches as history
 use Rattle.sv8_history.specs.Laws.{IsRightCount}
-use Rattle.sv8_history.proofs.Common.{edit_keeps, edit_counts, input_edit_keeps, input_edit_counts, agrees_keeps, later_keeps}
+use Rattle.sv8_history.proofs.Common.{edit_keeps, edit_counts, input_edit_keeps, input_edit_counts, agrees_keeps, agrees_along, near_agrees, later_keeps}
 use Rattle.sv8_time.specs.declared.edit.TimelineEdit.{TimelineEdit}
 use Rattle.sv8_time.specs.declared.edit.TimelineEdit.TheVariants.{SetPoke, ClearPoke, SetPokeByte, ClearPokeByte, SetInput, ClearInput, SetRequest, ClearRequest}
 use Rattle.sv8_time.specs.Edits.{with_edit}
@@ -22,9 +22,9 @@ use Rattle.sv8_reset.specs.Reset.{run_of}
 use Rattle.sv8_edits.specs.Changes.{RunChange, cells, input}
 use Rattle.sv8_edits.specs.EditLaws.{CanRun, Edits, Refeeds, Makes}
 use Rattle.sv8_trace.specs.Recording.{Recording, signs_of, recorded, trace_of}
-use Rattle.sv8_trace.specs.Prepared.{prepared_trace, IsPlaced, Near, Preparation}
+use Rattle.sv8_trace.specs.Prepared.{prepared_trace, IsPlaced, Preparation}
 use Rattle.sv8_trace.specs.Signs.{signs_among}
-use Rattle.sv8_trace.proofs.Common.{near_agrees, agrees_along, signs_alike}
+use Rattle.sv8_trace.proofs.Common.{signs_alike}
 use Rattle.sv8_workbench.specs.Kept.{Kept}
 use Rattle.sv8_bench.specs.Edits.{IsReadyFor, IsCommitted}
 use Rattle.sv8_bench.specs.Alike.{StaysAlike}

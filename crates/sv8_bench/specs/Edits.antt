@@ -8,7 +8,8 @@ use Rattle.sv8_time.specs.declared.edit.TimelineEdit.{TimelineEdit}
 use Rattle.sv8_time.specs.Edits.{timeline_fault, with_edit}
 use Rattle.sv8_cpu.specs.Recorded.{machine}
 use Rattle.sv8_edits.specs.Changes.{RunChange, cells, input, edit_change}
-use Rattle.sv8_trace.specs.Prepared.{Preparation, Near, prepared_trace, IsPreparedFor, IsPlaced}
+use Rattle.sv8_history.specs.Trace.{Near}
+use Rattle.sv8_trace.specs.Prepared.{Preparation, prepared_trace, IsPreparedFor, IsPlaced}
 use Rattle.sv8_trace.specs.Recording.{Recording, trace_of}
 use Rattle.sv8_bench.specs.Alike.{StaysAlike}
 use Rattle.sv8_workbench.specs.declared.fault.BenchFault.{BenchFault}

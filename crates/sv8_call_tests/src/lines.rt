@@ -4,7 +4,8 @@
 use std::alloc::Global;
 use std::test::*;
 use sv8_model::Refused;
-use sv8_syntax::{LineFault, parse_line};
+use sv8_statements::LineFault;
+use sv8_syntax::parse_line;
 
 fn fault(alloc: Global, text: &[u8]) -> Option<Refused<LineFault>> {
     match parse_line(alloc, text) {

@@ -8,7 +8,7 @@ use sv8_bench::BenchFault::{self, Source, Time};
 use sv8_bench::{Bench, Shown};
 use sv8_model::Refused::{self, By};
 use sv8_source::SourceFault;
-use sv8_syntax::LineFault;
+use sv8_statements::LineFault;
 use sv8_time::TimeFault;
 
 /// The refusals that edits and queries share, written out here.

@@ -16,9 +16,6 @@ pub record Wrote (old now : Option (List ℕ)) (bytes rest : List ℕ) (turns : 
   pub gained : Appends old now front
   pub turned : turns ≤ length front
 
-pub Wrote-start : (a : Option (List ℕ)) (bytes : List ℕ) → Wrote a a bytes bytes 0
-Wrote-start a bytes = record { front = []; is = refl; gained = Appends-nil a; turned = omega arith }
-
 pub Wrote-more : (a b c : Option (List ℕ)) (bytes rest : List ℕ) (turns n : ℕ) → Wrote a b bytes rest turns → Appends b c (take n rest) → 0 < n → n ≤ length rest
     → Wrote a c bytes (drop n rest) (turns + 1)
 Wrote-more a b c bytes rest turns n w h some fits = record {
@@ -28,25 +25,9 @@ Wrote-more a b c bytes rest turns n w h some fits = record {
   turned = (let t = w.turned in omega (arith, length-append w.front (take n rest), length-take n rest));
 }
 
-pub Wrote-part : (a b c : Option (List ℕ)) (bytes rest : List ℕ) (turns : ℕ) → Wrote a b bytes rest turns → Keeps b c → AppendsPart a c bytes
-Wrote-part a b c bytes rest turns w k = record { part = w.front; first = record { rest = rest; is = w.is }; gained = Appends-kept a b c w.front w.gained k }
-
-pub Appends-none : (a b : Option (List ℕ)) → Appends a b [] → Keeps a b
-Appends-none None b h = tt
-Appends-none (Some x) None h = absurd h
-Appends-none (Some x) (Some y) h = h ∙ append-nil x
-
-pub Wrote-all : (a b : Option (List ℕ)) (bytes rest : List ℕ) (turns : ℕ) → Wrote a b bytes rest turns → rest ≡ [] → Appends a b bytes
-Wrote-all a b bytes rest turns w e = subst (Appends a b) (sym (w.is ∙ ap (λ l. w.front ++ l) e ∙ append-nil w.front)) w.gained
-
 none_left : (xs : List ℕ) → length xs ≤ 0 → xs ≡ []
 none_left [] h = refl
 none_left (x ∷ xs) h = absurd (omega arith)
-
-pub Wrote-end : (a b : Option (List ℕ)) (bytes rest : List ℕ) (turns : ℕ) → Wrote a b bytes rest turns → length bytes ≤ turns → Appends a b bytes
-Wrote-end a b bytes rest turns w h =
-    let t = w.turned in
-    Wrote-all a b bytes rest turns w (none_left rest (omega (arith, ap length w.is, length-append w.front rest)))
 
 -- ---- one after the other
 
@@ -72,11 +53,6 @@ Puts-after (Err _) a b c xs ys h p = part-after a b c xs ys h p
 pub Wrote-range : (a b c : Option (List ℕ)) (bytes rest : List ℕ) (turns n : ℕ) → Wrote a b bytes rest turns → Appends b c (take n rest) → 0 < n → n ≤ length rest
     → Wrote a c bytes (take (length rest - n) (drop n rest)) (turns + 1)
 Wrote-range a b c bytes rest turns n w h some fits = rw take_rest (Wrote-more a b c bytes rest turns n w h some fits)
-
--- a flush after the bytes
-pub Puts-kept : {A E : Type 0} (r : Result A E) (a b c : Option (List ℕ)) (xs : List ℕ) → Appends a b xs → Keeps b c → Puts r a c xs
-Puts-kept (Ok _) a b c xs h k = Appends-kept a b c xs h k
-Puts-kept (Err _) a b c xs h k = record { part = xs; first = record { rest = []; is = sym (append-nil xs) }; gained = Appends-kept a b c xs h k }
 
 -- ---- with a text that waits
 
@@ -119,10 +95,6 @@ gains-failed (Err e) a b w x s h p = p
 -- what waited was put, and then more
 pub Puts-gained : {A E : Type 0} (r : Result A E) (a b c : Option (List ℕ)) (w x s t : List ℕ) → Gained a b w x s → Puts r b c (x ++ t) → Puts r a c (w ++ (s ++ t))
 Puts-gained r a b c w x s t g h = subst (Puts r a c) (sym (joined w x s g.written t g.is)) (Puts-after r a b c g.written (x ++ t) g.put h)
-
--- all that waited was put
-pub gained-put : (a b : Option (List ℕ)) (w x : List ℕ) → Appends a b w → x ≡ [] → Gained a b w x []
-gained-put a b w x h e = record { written = w; put = h; is = ap (λ l. w ++ l) (sym e) }
 
 -- nothing waits any more
 all_put : (a b : Option (List ℕ)) (w x : List ℕ) → Gained a b w x [] → x ≡ [] → Appends a b w

@@ -9,21 +9,10 @@ use Rattle.sv8_commands.specs.Words.{is_gap, closed, words_from, words_of, start
 pub words_from-gap : (w : List ℕ) (b : ℕ) (bs : List ℕ) → is_gap b ≡ true → words_from w (b ∷ bs) ≡ closed w ++ words_from [] bs
 words_from-gap w b bs h = rw h refl
 
-pub words_from-letter : (w : List ℕ) (b : ℕ) (bs : List ℕ) → is_gap b ≡ false → words_from w (b ∷ bs) ≡ words_from (w ++ b ∷ []) bs
-words_from-letter w b bs h = rw h refl
-
 -- a gap before the first word is passed over
 pub words_of-gap : (b : ℕ) (bs : List ℕ) → is_gap b ≡ true → words_of bs ≡ words_of (b ∷ bs)
 unfolding words_of
 words_of-gap b bs h = sym (words_from-gap [] b bs h)
-
--- the first word goes on
-pub word-goes : (text : List ℕ) (i : ℕ) → i < length text → is_gap (get_or text i 0) ≡ false → words_from (take i text) (drop i text) ≡ words_of text
-    → words_from (take (i + 1) text) (drop (i + 1) text) ≡ words_of text
-word-goes text i h letter was = rw (add-one, take-suc text i 0 h) (sym (words_from-letter (take i text) (get_or text i 0) (drop (suc i) text) letter) ∙ ap (words_from (take i text)) (sym (drop-cons text i 0 h)) ∙ was)
-
-closed-cons : (x : ℕ) (w : List ℕ) (rest : List (List ℕ)) → closed (x ∷ w) ++ rest ≡ (x ∷ w) ∷ rest
-closed-cons x w rest = refl
 
 -- the first word ends at a gap
 pub word-ends : (text : List ℕ) (i : ℕ) → i < length text → starts_word text ≡ true → is_gap (get_or text i 0) ≡ true → words_from (take i text) (drop i text) ≡ words_of text

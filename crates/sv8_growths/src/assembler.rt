@@ -5,7 +5,8 @@ use std::alloc::{AllocError, Global};
 use sv8_asm::{Symbols, assemble, size_of};
 use sv8_model::Refused;
 use sv8_source::{DefinedName, Source};
-use sv8_syntax::{Stmt, parse_line};
+use sv8_statements::Stmt;
+use sv8_syntax::parse_line;
 
 /// Lines, and what each places as line 3 at location 16, where `x` is 8 and the local label 1 stands in line 2 at 4 and in line 5 at 32.
 const LINES: [(&[u8], &[u8]); 6] = [

@@ -16,5 +16,7 @@ pub mod States
 pub mod Edits
 pub mod Input
 pub mod Words
+pub mod Nearness
+pub mod Spreading
 pub mod Acting
 pub mod Common

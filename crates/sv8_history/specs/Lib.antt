@@ -6,5 +6,6 @@ pub mod Growing
 pub mod Changes
 pub mod Reads
 pub mod Patches
+pub mod Patching
 pub mod Input
 pub mod Laws

@@ -52,3 +52,10 @@ pub record Agrees (m : Machine) (k : ℕ) (trace other : Trace m) : Type 0 where
   pub points : (i : ℕ) → i ≤ trace.count → other.point (k * i) ≡ trace.point (k * i)
   pub notes : (n : ℕ) → n < k * trace.count → SameFootprint (other.notes n) (trace.notes n)
   pub kept : (n : ℕ) (a : m.Cell) → other.kept n a ≡ trace.kept n a
+
+-- The traces show the same, and have one set of notes.
+pub record Near (m : Machine) (k : ℕ) (v w : Trace m) : Type 0 where
+  pub count : v.count ≡ w.count
+  pub points : (i : ℕ) → i ≤ w.count → v.point (k * i) ≡ w.point (k * i)
+  pub notes : v.notes ≡ w.notes
+  pub kept : (n : ℕ) (c : m.Cell) → v.kept n c ≡ w.kept n c

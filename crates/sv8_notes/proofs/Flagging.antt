@@ -68,9 +68,6 @@ flag_unless xs ys f Spared h spared = record {
 abbrev pub below : (ℕ → Bool) → ℕ → ℕ → Bool
 below f place i = nat_lt i place && f i
 
-pub flag_first : (xs : List Bool) (f : ℕ → Bool) → IsFlagged (below f 0) xs xs
-flag_first xs f = flag_none xs (below f 0) (λ i h. let none : nat_lt i 0 ≡ false = grind (arith, nat_tests) in ap (λ b. b && f i) none)
-
 module _ (xs ys : List Bool) (f : ℕ → Bool) (p : ℕ) (inside : p < length xs) (before : IsFlagged (below f p) xs ys) where
   one_more : (i : ℕ) → below f (p + 1) i ≡ (below f p i || ((p == i) && f i))
   one_more i = elim (cases_lt i p) [
@@ -120,10 +117,3 @@ module _ (xs ys : List Bool) (f : ℕ → Bool) (p : ℕ) (inside : p < length x
       missed i (inr other) =
           let apart : (p == i) ≡ false = grind (arith, nat_tests, other) in
           ap (λ b. b && f i) apart
-
--- all of them
-pub flag_end : (xs ys : List Bool) (f : ℕ → Bool) (p : ℕ) → length xs ≤ p → IsFlagged (below f p) xs ys → IsFlagged f xs ys
-flag_end xs ys f p all h = record {
-  count = h.count;
-  flags = λ i inside. let less : nat_lt i p ≡ true = grind (arith, nat_tests, inside, all) in h.flags i inside ∙ ap (λ b. get_or xs i false || (b && f i)) less;
-}

@@ -127,63 +127,6 @@ module _ (offset : ℕ) (s : Steps) where
       reads waiting_bytes j = none _ (j == offset)
       reads (pending_level l) j = none _ (j == offset)
 
-  -- that of a word that is read as data
-  pub gains_load : (a : ℕ) → Gains offset (Read a ∷ []) (Read a ∷ []) s (record s { reads = s.reads ++ record { address = a; offset = offset } ∷ [] })
-  gains_load a = record {
-    reads = λ c j. reads c j;
-    writes = λ c j. none_written a c j;
-    uses = λ c j. uses c j;
-    takes = λ j. none (is_among j s.inputs) (j == offset);
-  }
-    where
-      reads : (c : Cell) (j : ℕ) → reads_in (record s { reads = s.reads ++ word a ∷ [] }) c j ≡ (reads_in s c j || (j == offset && is_read (Read a ∷ []) c))
-      reads (ram_byte i) j =
-          let w = word_address i in
-          ap (λ b. has_word s.fetches w j || b) (noted s.reads a w j) ∙ or_groups (has_word s.fetches w j) (has_word s.reads w j) (j == offset && (a == w || false))
-      reads waiting_bytes j = none _ (j == offset)
-      reads (pending_level l) j = none _ (j == offset)
-
-      uses : (c : Cell) (j : ℕ) → data_in (record s { reads = s.reads ++ word a ∷ [] }) c j ≡ (data_in s c j || (j == offset && are_of (Read a ∷ []) c))
-      uses (ram_byte i) j =
-          let w = word_address i in
-          ap (λ b. b || has_word s.writes w j) (noted s.reads a w j)
-          ∙ turned (has_word s.reads w j) (j == offset && (a == w || false)) (has_word s.writes w j)
-          ∙ ap (λ b. (has_word s.reads w j || has_word s.writes w j) || (j == offset && b)) (sym (or_none (a == w || false)))
-      uses waiting_bytes j = none _ (j == offset)
-      uses (pending_level l) j = none _ (j == offset)
-
-  pub gains_write : (a : ℕ) → Gains offset (Write a ∷ []) (Write a ∷ []) s (record s { writes = s.writes ++ record { address = a; offset = offset } ∷ [] })
-  gains_write a = record {
-    reads = λ c j. reads c j;
-    writes = λ c j. writes c j;
-    uses = λ c j. uses c j;
-    takes = λ j. none (is_among j s.inputs) (j == offset);
-  }
-    where
-      reads : (c : Cell) (j : ℕ) → reads_in s c j ≡ (reads_in s c j || (j == offset && is_read (Write a ∷ []) c))
-      reads (ram_byte i) j = none _ (j == offset)
-      reads waiting_bytes j = none _ (j == offset)
-      reads (pending_level l) j = none _ (j == offset)
-
-      writes : (c : Cell) (j : ℕ) → writes_in (record s { writes = s.writes ++ record { address = a; offset = offset } ∷ [] }) c j ≡ (writes_in s c j || (j == offset && is_told_written (Write a ∷ []) c))
-      writes (ram_byte i) j = noted s.writes a (word_address i) j
-      writes waiting_bytes j = none _ (j == offset)
-      writes (pending_level l) j = (gains_nothing offset s).writes (pending_level l) j
-
-      uses : (c : Cell) (j : ℕ) → data_in (record s { writes = s.writes ++ record { address = a; offset = offset } ∷ [] }) c j ≡ (data_in s c j || (j == offset && are_of (Write a ∷ []) c))
-      uses (ram_byte i) j =
-          let w = word_address i in
-          ap (λ b. has_word s.reads w j || b) (noted s.writes a w j) ∙ or_groups (has_word s.reads w j) (has_word s.writes w j) (j == offset && (a == w || false))
-      uses waiting_bytes j = none _ (j == offset)
-      uses (pending_level l) j = none _ (j == offset)
-
-  among : (xs : List ℕ) (j : ℕ) → is_among j (xs ++ offset ∷ []) ≡ (is_among j xs || (j == offset && true))
-  among xs j = any_one (λ o. o == j) xs offset ∙ ap (λ b. is_among j xs || b) (swap offset j ∙ yes (j == offset))
-    where
-      yes : (b : Bool) → b ≡ (b && true)
-      yes true = refl
-      yes false = refl
-
   -- what touches no word is no data
   abbrev NoWord : Touch → Type 0
   NoWord t = (address : ℕ) → is_touch_of address t ≡ false
@@ -192,47 +135,6 @@ module _ (offset : ℕ) (s : Steps) where
   data_stays t apart (ram_byte i) j = none _ (j == offset) ∙ ap (λ b. data_in s (ram_byte i) j || (j == offset && (b || false))) (sym (apart (word_address i)))
   data_stays t apart waiting_bytes j = none _ (j == offset)
   data_stays t apart (pending_level l) j = none _ (j == offset)
-
-  pub gains_input : Gains offset (Input ∷ []) (Input ∷ []) s (record s { inputs = s.inputs ++ offset ∷ [] })
-  gains_input = record {
-    reads = λ c j. reads c j;
-    writes = λ c j. writes c j;
-    uses = λ c j. data_stays Input (λ w. refl) c j;
-    takes = λ j. among s.inputs j;
-  }
-    where
-      reads : (c : Cell) (j : ℕ) → reads_in (record s { inputs = s.inputs ++ offset ∷ [] }) c j ≡ (reads_in s c j || (j == offset && is_read (Input ∷ []) c))
-      reads (ram_byte i) j = none _ (j == offset)
-      reads waiting_bytes j = among s.inputs j
-      reads (pending_level l) j = none _ (j == offset)
-
-      writes : (c : Cell) (j : ℕ) → writes_in s c j ≡ (writes_in s c j || (j == offset && is_told_written (Input ∷ []) c))
-      writes (ram_byte i) j = none _ (j == offset)
-      writes waiting_bytes j = none _ (j == offset)
-      writes (pending_level l) j = (gains_nothing offset s).writes (pending_level l) j
-
-  pub gains_expiry : Gains offset (Expiry ∷ []) (Expiry ∷ []) s (record s { expiries = s.expiries ++ offset ∷ [] })
-  gains_expiry = record {
-    reads = λ c j. reads c j;
-    writes = λ c j. writes c j;
-    uses = λ c j. data_stays Expiry (λ w. refl) c j;
-    takes = λ j. none (is_among j s.inputs) (j == offset);
-  }
-    where
-      reads : (c : Cell) (j : ℕ) → reads_in s c j ≡ (reads_in s c j || (j == offset && is_read (Expiry ∷ []) c))
-      reads (ram_byte i) j = none _ (j == offset)
-      reads waiting_bytes j = none _ (j == offset)
-      reads (pending_level l) j = none _ (j == offset)
-
-      writes : (c : Cell) (j : ℕ) → writes_in (record s { expiries = s.expiries ++ offset ∷ [] }) c j ≡ (writes_in s c j || (j == offset && is_told_written (Expiry ∷ []) c))
-      writes (ram_byte i) j = none _ (j == offset)
-      writes waiting_bytes j = none _ (j == offset)
-      writes (pending_level l) j = ap (λ b. l == timer_level && b) (among s.expiries j) ∙ level (l == timer_level) (is_among j s.expiries) (j == offset)
-        where
-          level : (t x o : Bool) → (t && (x || (o && true))) ≡ ((t && x) || (o && (t && true)))
-          level true x o = refl
-          level false x true = refl
-          level false x false = refl
 
   pub gains_levels : (levels : ℕ) (new : Steps) → new ≡ record s { levels = new.levels }
       → ((l j : ℕ) → list_any (is_asked_in l j) new.levels ≡ (list_any (is_asked_in l j) s.levels || (j == offset && bit levels l))) → Gains offset (Levels levels ∷ []) (Levels levels ∷ []) s new

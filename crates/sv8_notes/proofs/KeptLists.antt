@@ -45,12 +45,6 @@ pair_true a b c d h = go (a == b) (same_cell c d) refl refl h
     go true false p q h = absurd (true≢false (sym h))
     go false y p q h = absurd (true≢false (sym h))
 
-pub pair_swap : (a b : ℕ) (c d : model.Cell) → (a == b && same_cell c d) ≡ (b == a && same_cell d c)
-pair_swap a b c d = flip (a == b && same_cell c d) (b == a && same_cell d c) (one a b c d) (one b a d c)
-  where
-    one : (a b : ℕ) (c d : model.Cell) → (a == b && same_cell c d) ≡ true → (b == a && same_cell d c) ≡ true
-    one a b c d h = let p = pair_true a b c d h in rw (eq-eqb b a (sym p.0), ← p.1) (same_self c)
-
 none_twice : (b : Bool) (o : Option Value) → o ≡ None → o ≡ cond b None o
 none_twice true o e = e
 none_twice false o e = refl

@@ -16,22 +16,6 @@ use Rattle.sv8_notes.specs.Marks.{mark_of, IsUntouched}
 pub longer : {A : Type 0} (xs ys : List A) (x : A) → ys ≡ xs ++ x ∷ [] → length ys ≡ length xs + 1
 longer xs ys x e = ap length e ∙ length-append xs (x ∷ [])
 
--- one element of a list is another, not below what stood there
-pub set_grows : (xs : List ℕ) (i v : ℕ) → i < length xs → get_or xs i 0 ≤ v → (j : ℕ) → get_or xs j 0 ≤ get_or (set xs i v) j 0
-set_grows xs i v h le j = go (cases_eq j i)
-  where
-    go : (j ≡ i) ⊎ (j ≢ i) → get_or xs j 0 ≤ get_or (set xs i v) j 0
-    go (inl e) = rw (e, get_or-set_same xs i v 0 h) le
-    go (inr n) = rw (get_or-set_other xs i j v 0 n) (omega arith)
-
--- one page has other marks, not below what stood there
-pub page_grows : (ps : List (List ℕ)) (p : ℕ) (q : List ℕ) → p < length ps → ((j : ℕ) → get_or (get_or ps p []) j 0 ≤ get_or q j 0) → (a : ℕ) → mark_of ps a ≤ mark_of (set ps p q) a
-page_grows ps p q h le a = go (cases_eq (a / 4096) p)
-  where
-    go : (a / 4096 ≡ p) ⊎ (a / 4096 ≢ p) → mark_of ps a ≤ mark_of (set ps p q) a
-    go (inl e) = rw (e, get_or-set_same ps p q [] h) (le (a % 4096 / 4))
-    go (inr n) = rw (get_or-set_other ps p (a / 4096) q [] n) (omega arith)
-
 -- a page without marks more is as none
 pub same_marks : (ps qs : List (List ℕ)) (a : ℕ) → qs ≡ ps ++ [] ∷ [] → mark_of qs a ≡ mark_of ps a
 same_marks ps qs a e = rw e (ap (λ q. get_or q (a % 4096 / 4) 0) (no_page ps (a / 4096)))

@@ -86,11 +86,6 @@ pub extended : (b : Bool) (rs : List WordRun) (n : ℕ) (r q : WordRun) (note : 
 extended true rs n r q note last is law = longer rs n q r note last (law ∙ ap (λ (x : WordRun). words_of_run x ++ note ∷ []) is)
 extended false rs n r q note last is law = ap (λ x. set rs n x) (law ∙ is) ∙ set-get_or rs n r
 
--- whether some note is of a word, by the runs
-pub any_run : (f : WordNote → Bool) (rs : List WordRun) → list_any f (words_of rs) ≡ list_any (λ r. list_any f (words_of_run r)) rs
-any_run f [] = refl
-any_run f (r ∷ rs) = any_append f (words_of_run r) (words_of rs) ∙ ap (λ b. list_any f (words_of_run r) || b) (any_run f rs)
-
 -- ---- notes in a range
 
 module _ (f : WordNote → Bool) (a o count p : ℕ) (below : p < count) where

@@ -45,17 +45,6 @@ module _ (keeps : Keeps) (limit : ℕ) (timer : Timer) (size : Size) (a : ℕ) (
       does_if_true keeps (nat_lt a limit) (ram_load size a >>= answered) (outside_load timer size a) o o (Ok v) ns ns1 (lt-ltb a limit below)
       (does_map keeps (ram_load size a) (λ w. Ok w) o o v (Ok v) ns ns1 h refl)
 
-  pub load_outside : (o : Outside) (r : Result ℕ BusError) → limit ≤ a → Does keeps (outside_load timer size a) o o r ns ns1 → Does keeps (load limit timer size a) o o r ns ns1
-  load_outside o r above h = does_if_false keeps (nat_lt a limit) (ram_load size a >>= answered) (outside_load timer size a) o o r ns ns1 (le-ltb a limit above) h
-
-  pub store_in_ram : (v : ℕ) (o o1 : Outside) (x : Stored) → a < limit → Does keeps (ram_store size a v (stored_with timer)) o o1 x ns ns1 → Does keeps (store limit timer size a v) o o1 x ns ns1
-  store_in_ram v o o1 x below h =
-      does_if_true keeps (nat_lt a limit) (ram_store size a v (stored_with timer)) (outside_store timer size a v) o o1 x ns ns1 (lt-ltb a limit below) h
-
-  pub store_outside : (v : ℕ) (o o1 : Outside) (x : Stored) → limit ≤ a → Does keeps (outside_store timer size a v) o o1 x ns ns1 → Does keeps (store limit timer size a v) o o1 x ns ns1
-  store_outside v o o1 x above h =
-      does_if_false keeps (nat_lt a limit) (ram_store size a v (stored_with timer)) (outside_store timer size a v) o o1 x ns ns1 (le-ltb a limit above) h
-
 -- ---- devices
 
 -- two numbers that differ

@@ -32,12 +32,6 @@ module _ (a m i size : ℕ) (e : a ≡ m + i) (inside : i < size) (start : m % 8
   next_inside : a % 8 ≡ 0 → 4 * (i / 4 + 1) + 3 < size
   next_inside h = omega arith
 
-  pub aligned_inside : (width : Size) → a % bytes_in width ≡ 0 → i % bytes_in width ≡ 0
-  aligned_inside Byte h = omega arith
-  aligned_inside Half h = omega arith
-  aligned_inside Word h = omega arith
-  aligned_inside Double h = omega arith
-
 module _ (size : ℕ) (bytes : List ℕ) (p : ℕ) where
   byte_read : (a i : ℕ) → a ≡ size * p + i → i < size → get_or (part_of size bytes p) i 0 ≡ get_or bytes a 0
   byte_read a i e i_in = get_or-take size (drop (size * p) bytes) i 0 i_in ∙ get_or-drop (size * p) bytes i 0 ∙ ap (λ k. get_or bytes k 0) (sym e)

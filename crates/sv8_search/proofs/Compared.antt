@@ -9,15 +9,6 @@ use Rattle.sv8_watch.specs.declared.condition.Condition.TheVariants.{Change}
 use Rattle.sv8_watch.specs.Conditions.{bytes_from, AreOld, IsWithin}
 use Rattle.sv8_search.specs.Search.{is_inside, are_inside, old_count, olds_count, old_of, olds_of}
 
--- one byte more
-pub bytes_more : (ram first now more : List ℕ) (address i b : ℕ) → address + i < length ram → b ≡ get_or ram (address + i) 0
-    → now ≡ first ++ bytes_from address i ram → more ≡ now ++ b ∷ [] → more ≡ first ++ bytes_from address (i + 1) ram
-bytes_more ram first now more address i b within read e f =
-    let long = length-drop address ram in
-    let next : take (i + 1) (drop address ram) ≡ take i (drop address ram) ++ b ∷ [] =
-    take_more (drop address ram) i 0 (omega (arith, long, within)) ∙ ap (λ x. take i (drop address ram) ++ x ∷ []) (get_or-drop address ram i 0 ∙ sym read) in
-    f ∙ ap (λ xs. xs ++ b ∷ []) e ∙ append_assoc first (bytes_from address i ram) (b ∷ []) ∙ ap (λ xs. first ++ xs) (sym next)
-
 -- no condition has more bytes than it compares
 few_old : (c : Condition) (ram : List ℕ) → length (old_of c ram) ≤ old_count c
 few_old (Change address count) ram = let long = length-take count (drop address ram) in omega (arith, long)
@@ -60,12 +51,6 @@ module _ (c : Condition) (cs : List Condition) (ram old : List ℕ) (e : old ≡
 pub are_old : (c : Condition) (own : List ℕ) (s : State) → own ≡ old_of c s.memory.ram → AreOld c own s
 are_old (Change address count) own s e = e
 are_old c own s e = tt
-
-pub within_ram : (size : ℕ) (c : Condition) (own : List ℕ) → is_inside size c ≡ true → length own ≡ old_count c → IsWithin size c own
-within_ram size (Change address count) own e f =
-    let inside = leb-true (address + count) size e in
-    omega (arith, inside, f)
-within_ram size c own e f = tt
 
 -- ---- one condition after the other
 

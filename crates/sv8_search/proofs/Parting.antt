@@ -102,29 +102,3 @@ below_more P from n below here m low high = elim (cases_eq m n) [
   | inl same ↦ subst P (sym same) here
   | inr differs ↦ below m low (omega (arith, high, differs))
 ]
-
--- ---- steps at which both are known to be alike
-
-module _ (before now : Kept) (from common to : ℕ) (alike : AreAlikeUpTo common before now) where
-  -- one of them, or one behind them all
-  alike_from : (m : ℕ) → from ≤ m → (max from common ≤ m → AreAlike before now m) → AreAlike before now m
-  alike_from m low behind = go (ltb common m) refl where
-    go : (b : Bool) → ltb common m ≡ b → AreAlike before now m
-    go true e = let above : common < m = search (arith, tests) in behind (omega arith)
-    go false e = let below : m ≤ common = search (arith, tests) in alike.processors m below
-
-  -- so a range may begin there
-  pub parted_from : (step : Option ℕ) → IsParted before now (max from common) to step → IsParted before now from to step
-  parted_from (Some n) h =
-      let low = h.0 in (
-        omega (arith, low),
-        h.1,
-        λ m above below. alike_from m above (λ behind. h.2 m behind below),
-        h.3,
-      )
-  parted_from None h = λ m above below. alike_from m above (λ behind. h m behind below)
-
-  -- and none is looked at where there is no other
-  pub unparted : (to < from) ⊎ (to ≤ common) → IsParted before now from to None
-  unparted (inl empty) = λ m above below. absurd (omega (arith, empty, above, below))
-  unparted (inr known) = λ m above below. alike.processors m (omega (arith, known, below))

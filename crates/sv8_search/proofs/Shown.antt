@@ -131,20 +131,6 @@ none_traps_of k w type from to b Q h e n low below =
 
 -- ---- multiples
 
--- a number from one on and below the next multiple behind it is none
-pub no_multiple : (number from to past : ℕ) → 0 < number → past ≡ from % number → 0 < past → to ≤ from - past + number
-    → (n : ℕ) → from ≤ n → n < to → (nat_lt 0 number && n % number == 0) ≡ false
-no_multiple number from to past pos e some near n low below =
-    let split = div-add-mod from number in
-    let turned = mul_comm number (from / number) in
-    let least : from / number * number + past ≤ n = omega (arith, split, turned, e, low) in
-    let few : n - from / number * number < number = omega (arith, split, turned, e, low, below, near) in
-    let whole : from / number * number + (n - from / number * number) ≡ n = omega (arith, least) in
-    let rest : n % number ≡ n - from / number * number = ap (λ x. x % number) (sym whole) ∙ mod-mul-add (from / number) number (n - from / number * number) few in
-    let more : 0 < n % number = omega (arith, rest, least, some) in
-    let test : (n % number == 0) ≡ false = grind (arith, nat_tests, more) in
-    ap (λ b. nat_lt 0 number && b) test ∙ and-false (nat_lt 0 number)
-
 -- ---- checkpoints
 
 -- what is said of what was found

@@ -4,7 +4,7 @@ use Rattle.std.proofs.lemmas.List.{length-map}
 use Rattle.sv8_model.specs.declared.refused.Refused.{Refused}
 use Rattle.sv8_model.specs.declared.refused.Refused.TheVariants.{OutOfMemory, By}
 use Rattle.sv8_model.specs.Refused.{ByFault}
-use Rattle.sv8_syntax.specs.declared.fault.LineFault.{LineFault}
+use Rattle.sv8_statements.specs.declared.fault.LineFault.{LineFault}
 use Rattle.sv8_source.specs.declared.fault.SourceFault.{SourceFault}
 use Rattle.sv8_source.specs.Fault.{after_line}
 use Rattle.sv8_source.specs.Text.{texts, place_texts}

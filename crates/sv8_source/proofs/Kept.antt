@@ -1,8 +1,8 @@
 -- What the layout pass keeps of the lines.
 use Rattle.std.proofs.Common.{◌≡◌, ◌∙◌, ℕ, ◌+◌, ◌-◌, take, drop, List, [], ◌∷◌, ◌++◌, Ok, Err, Result, sym, refl, append_assoc, append-nil}
 use Rattle.std.proofs.lemmas.List.{map-append, take-map, drop-map}
-use Rattle.sv8_syntax.specs.declared.fault.LineFault.{LineFault}
-use Rattle.sv8_syntax.specs.declared.statement.Stmt.{Stmt}
+use Rattle.sv8_statements.specs.declared.fault.LineFault.{LineFault}
+use Rattle.sv8_statements.specs.declared.statement.Stmt.{Stmt}
 use Rattle.sv8_syntax.specs.Reading.{reading}
 use Rattle.sv8_asm.specs.Names.{Names}
 use Rattle.sv8_source.specs.Fault.{after_line}

@@ -3,8 +3,8 @@ use Rattle.std.proofs.Common.{◌≡◌, ◌∙◌, ℕ, ℤ, Bool, true, false,
 use Rattle.std.specs.Option.{option_or}
 use Rattle.std.specs.Str.{bytes_eq}
 use Rattle.std.proofs.lemmas.Slice.Eq.{bytes_eq-Decides}
-use Rattle.sv8_syntax.specs.declared.fault.LineFault.{LineFault}
-use Rattle.sv8_syntax.specs.declared.fault.LineFault.TheVariants.{DuplicateLabel}
+use Rattle.sv8_statements.specs.declared.fault.LineFault.{LineFault}
+use Rattle.sv8_statements.specs.declared.fault.LineFault.TheVariants.{DuplicateLabel}
 use Rattle.sv8_asm.specs.Names.{Names, defined, with_name}
 use Rattle.sv8_source.specs.Layout.{define}
 

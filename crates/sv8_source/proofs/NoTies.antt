@@ -5,10 +5,10 @@ use Rattle.std.specs.Option.{option_to_list}
 use Rattle.std.specs.Ordering.{ordering_then}
 use Rattle.std.specs.Cmp.Lexicographic.{slice_cmp, bytes_decides}
 use Rattle.std.proofs.lemmas.Map.Text.{is_eq-slice_cmp}
-use Rattle.sv8_syntax.specs.declared.statement.Label.{Label}
-use Rattle.sv8_syntax.specs.declared.statement.Label.TheVariants as label
-use Rattle.sv8_syntax.specs.declared.statement.Statement.{Statement}
-use Rattle.sv8_syntax.specs.declared.statement.Statement.TheVariants as statement
+use Rattle.sv8_statements.specs.declared.statement.Label.{Label}
+use Rattle.sv8_statements.specs.declared.statement.Label.TheVariants as label
+use Rattle.sv8_statements.specs.declared.statement.Statement.{Statement}
+use Rattle.sv8_statements.specs.declared.statement.Statement.TheVariants as statement
 use Rattle.sv8_asm.specs.Names.{Names, no_names, defined, with_mark}
 use Rattle.sv8_asm.specs.Size.{plain}
 use Rattle.sv8_model.specs.Words.{word_of_number}

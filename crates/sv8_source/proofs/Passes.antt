@@ -39,15 +39,6 @@ laid_count limit front back lines l h =
 pub made_texts : (s : Text) (a : Assembly) → assembled s ≡ Ok a → place_texts a.layout.places ≡ s.lines
 made_texts s a h = (made_of s a h).texts
 
--- one line behind all
-pub replaced_behind : (first last : ℕ) (lines : List (List ℕ)) (text : List ℕ) (ps : List Place) → is_range first last (length ps) ≡ true → first ≡ length ps + 1 → lines ≡ text ∷ []
-    → replaced_lines first last lines (place_texts ps) ≡ place_texts ps ++ text ∷ []
-replaced_behind first last lines text ps r e f =
-    let many : length (place_texts ps) ≡ length ps = length-map ps (λ p. p.text) in
-    let low : length (place_texts ps) ≤ first - 1 = omega arith in
-    let high : length ps ≤ last = grind (arith, nat_tests) in
-    rw (f, take_all (first - 1) (place_texts ps) low, drop_of_length-le (place_texts ps) {i = last} (omega arith)) (append-nil (place_texts ps ++ text ∷ []))
-
 pub replaced_count : (first last : ℕ) (lines : List (List ℕ)) (ps qs : List Place) → place_texts qs ≡ replaced_lines first last lines (place_texts ps) → is_range first last (length ps) ≡ true
     → length qs ≡ (first - 1) + length lines + (length ps - last)
 replaced_count first last lines ps qs h r =

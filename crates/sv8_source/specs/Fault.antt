@@ -2,7 +2,7 @@
 use Rattle.std.specs.Prelude.{ℕ, Result, Ok, Err}
 use Rattle.sv8_model.specs.declared.refused.Refused.{Refused}
 use Rattle.sv8_model.specs.declared.refused.Refused.TheVariants.{OutOfMemory, By}
-use Rattle.sv8_syntax.specs.declared.fault.LineFault.{LineFault}
+use Rattle.sv8_statements.specs.declared.fault.LineFault.{LineFault}
 use Rattle.sv8_source.specs.declared.fault.SourceFault.{SourceFault}
 use Rattle.sv8_source.specs.declared.fault.SourceFault.TheVariants.{Line}
 

@@ -1,7 +1,7 @@
 -- Where the places of a layout stand.
 use Rattle.std.specs.Prelude.{ℕ, ◌+◌, ◌≤◌, List, [], ◌∷◌}
 use Rattle.std.specs.Result.{result_unwrap_or}
-use Rattle.sv8_syntax.specs.declared.statement.Stmt.{Stmt}
+use Rattle.sv8_statements.specs.declared.statement.Stmt.{Stmt}
 use Rattle.sv8_asm.specs.Size.{size}
 use Rattle.sv8_source.specs.Layout.{Place, HasSize}
 

@@ -22,7 +22,7 @@ use std::alloc::{AllocError, Global};
 use std::rc::Rc;
 use sv8_asm::{assemble, size_of};
 use sv8_model::Refused;
-use sv8_syntax::{Label, Statement, Stmt};
+use sv8_statements::{Label, Statement, Stmt};
 
 /// The assembly that an edit leads to, and the words of the image that may differ: those from `first` up to `end`.
 #[derive(Drop)]

@@ -4,7 +4,7 @@ ghost use Rattle.std.specs.Prelude.{◌≡◌};
 ghost use Rattle.sv8_source.specs.Fault.{refused_in};
 
 use sv8_model::Refused;
-use sv8_syntax::LineFault;
+use sv8_statements::LineFault;
 use thiserror::Error;
 
 /// Why an edit is refused, however much memory there is.

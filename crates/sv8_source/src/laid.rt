@@ -5,7 +5,7 @@
 
 ghost use Rattle.std.specs.Prelude.{◌≡◌, ◌+◌, ◌-◌, ◌^◌, ◌<◌, ◌≤◌, [], IfSome, IfOk, MatchResult, Ok, Err, length, All};
 ghost use Rattle.sv8_model.specs.Refused.{ByFault};
-ghost use Rattle.sv8_syntax.specs.Names.{IsLabel, Defines};
+ghost use Rattle.sv8_statements.specs.Names.{IsLabel, Defines};
 ghost use Rattle.sv8_syntax.specs.Reading.{reading};
 ghost use Rattle.sv8_source.specs.Layout.{define, define_label, define_equ, moved, with_stmt, with_line, laid, valued, start, HasSize};
 ghost use Rattle.sv8_source.specs.Edits.{Sound};
@@ -22,7 +22,7 @@ use std::marker::Model;
 use std::rc::Rc;
 use sv8_asm::{Symbols, constant, size_of};
 use sv8_model::Refused;
-use sv8_syntax::{Label, LineFault, Name, Statement, Stmt};
+use sv8_statements::{Label, LineFault, Name, Statement, Stmt};
 
 /// A line as it was read, and the location before its statement. The line is shared by all sources that have it.
 #[derive(Drop)]

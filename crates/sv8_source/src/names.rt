@@ -9,7 +9,7 @@ ghost use Rattle.sv8_source.specs.View.{named_of};
 use crate::laid::Placed;
 use std::alloc::{AllocError, Global};
 use sv8_asm::constant;
-use sv8_syntax::{Label, Statement};
+use sv8_statements::{Label, Statement};
 
 /// What defines a name.
 #[derive(Drop, Clone, Copy)]

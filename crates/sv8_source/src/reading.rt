@@ -2,14 +2,15 @@
 
 ghost use Rattle.std.specs.Prelude.{◌≡◌, Ok, Err, MatchResult};
 ghost use Rattle.sv8_model.specs.Refused.{ByFault};
-ghost use Rattle.sv8_syntax.specs.Names.{Defines};
+ghost use Rattle.sv8_statements.specs.Names.{Defines};
 ghost use Rattle.sv8_syntax.specs.Reading.{reading};
 
 use std::alloc::Global;
 use std::marker::Model;
 use std::rc::Rc;
 use sv8_model::Refused;
-use sv8_syntax::{LineFault, Stmt, parse_line};
+use sv8_statements::{LineFault, Stmt};
+use sv8_syntax::parse_line;
 
 /// A line's text with what it was read as.
 #[derive(Drop)]
@@ -20,7 +21,7 @@ pub struct ReadLine {
 
 impl Model for ReadLine {
     ghost use Rattle.std.specs.Prelude.{◌≡◌, Ok};
-    ghost use Rattle.sv8_syntax.specs.Names.{Defines};
+    ghost use Rattle.sv8_statements.specs.Names.{Defines};
     ghost use Rattle.sv8_syntax.specs.Reading.{reading};
     ghost use Rattle.sv8_source.specs.Kept.{Reading};
 

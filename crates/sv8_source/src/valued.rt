@@ -15,7 +15,7 @@ use std::alloc::{AllocError, Global};
 use std::rc::Rc;
 use sv8_asm::{Symbols, agree, assemble};
 use sv8_model::Refused;
-use sv8_syntax::LineFault;
+use sv8_statements::LineFault;
 
 /// Where the lines behind an edit begin, counted from 0, and where they began before it.
 #[derive(Clone, Copy)]

@@ -103,35 +103,3 @@ module _ (w : ℕ) where
       by_case : (b : Bool) → touches_data ts w ≡ b → b ≡ true
       by_case true e = refl
       by_case false e = absurd (true≢false (sym h ∙ no_data ts e))
-
-  -- what is not touched at all is no data
-  unstored : (f d : ℕ) (b : Bool) → of (Read f ∷ Write d ∷ []) ≡ false → of (if b then (Read f ∷ Write d ∷ []) else (Write d ∷ [])) ≡ false
-  unstored f d true h = h
-  unstored f d false h = behind_all (Read f ∷ Write d ∷ []) h
-
-  none_behind : (ts : List Touch) → of ts ≡ false → of (behind_fetch ts) ≡ false
-  none_behind [] h = h
-  none_behind (Read f ∷ []) h = refl
-  none_behind (Read f ∷ Read d ∷ []) h = behind_all (Read f ∷ Read d ∷ []) h
-  none_behind (Read f ∷ Read d ∷ t ∷ ts) h = h
-  none_behind (Read f ∷ Write d ∷ []) h = unstored f d (f == d) h
-  none_behind (Read f ∷ Write d ∷ t ∷ ts) h = h
-  none_behind (Read f ∷ Input ∷ ts) h = h
-  none_behind (Read f ∷ Levels word ∷ ts) h = h
-  none_behind (Read f ∷ Expiry ∷ ts) h = h
-  none_behind (Write a ∷ ts) h = h
-  none_behind (Input ∷ ts) h = h
-  none_behind (Levels word ∷ ts) h = h
-  none_behind (Expiry ∷ ts) h = h
-
-  none_at_all : (ts : List Touch) → of ts ≡ false → touches_data ts w ≡ false
-  none_at_all [] h = h
-  none_at_all (Read a ∷ ts) h = none_behind (Read a ∷ ts) h
-  none_at_all (Write a ∷ ts) h = none_behind (Write a ∷ ts) h
-  none_at_all (Input ∷ ts) h = none_behind (Input ∷ ts) h
-  none_at_all (Levels word ∷ ts) h = none_behind ts h
-  none_at_all (Expiry ∷ ts) h = none_behind (Expiry ∷ ts) h
-
-pub untouched_as : (kind : TouchKind) (address count : ℕ) (ts : List Touch) → AreUntouched Any address count ts → AreUntouched kind address count ts
-untouched_as Any address count ts h = h
-untouched_as Data address count ts h = λ i low high. none_at_all (word_address i) ts (sym (touched_is ts i) ∙ h i low high)

@@ -3,33 +3,34 @@ use Rattle.std.proofs.Common.{◌≡◌, ℕ, ◌-◌, ◌<◌, Bool, true, fals
 use Rattle.std.specs.Prelude.{IfSome, IfOk, Result, Ok, Err}
 use Rattle.std.proofs.lemmas.Bool.{leb-true}
 use Rattle.sv8_model.specs.declared.refused.Refused.{Refused}
-use Rattle.sv8_syntax.specs.declared.fault.LineFault.{LineFault}
-use Rattle.sv8_syntax.specs.declared.mnemonic.Directive.{Directive}
-use Rattle.sv8_syntax.specs.declared.mnemonic.Directive.TheVariants as directive
-use Rattle.sv8_syntax.specs.declared.mnemonic.Shape.{Shape}
-use Rattle.sv8_syntax.specs.declared.value.Expr.{Expr}
-use Rattle.sv8_syntax.specs.declared.value.Expr.TheVariants as expr
-use Rattle.sv8_syntax.specs.declared.statement.Motion.{Motion}
-use Rattle.sv8_syntax.specs.declared.statement.Width.{Width}
-use Rattle.sv8_syntax.specs.declared.statement.Statement.{Statement}
-use Rattle.sv8_syntax.specs.declared.statement.Statement.TheVariants as statement
-use Rattle.sv8_syntax.specs.declared.statement.Stmt.{Stmt}
-use Rattle.sv8_syntax.specs.Operand.{Operand}
-use Rattle.sv8_syntax.specs.declared.token.Mark.TheVariants as mark
-use Rattle.sv8_syntax.specs.declared.statement.Label.{Label}
-use Rattle.sv8_syntax.specs.declared.statement.Label.TheVariants as label
-use Rattle.sv8_syntax.specs.Token.{Token, Word, Mark, Local}
-use Rattle.sv8_syntax.specs.Spelling.{is_digit, is_reference, Spells, label_text, IsCutInto, cut_token}
-use Rattle.sv8_syntax.specs.Lexing.{◌>>=◌}
-use Rattle.sv8_syntax.specs.Taking.{register_in, expr_in, number_in, text_in, name_of, name_in, is_signed, signed_in, exprs_in}
-use Rattle.sv8_syntax.specs.Forms.{instruction_of, set_of, motion_of, data_of, ascii_of, equ_of, directive_of, directive_in, directive_or_instruction, form_of}
-use Rattle.sv8_syntax.specs.Names.{IsLabel, IsConstant, IsDefinition, Defines}
+use Rattle.sv8_statements.specs.declared.fault.LineFault.{LineFault}
+use Rattle.sv8_forms.specs.declared.mnemonic.Directive.{Directive}
+use Rattle.sv8_forms.specs.declared.mnemonic.Directive.TheVariants as directive
+use Rattle.sv8_forms.specs.declared.mnemonic.Shape.{Shape}
+use Rattle.sv8_statements.specs.declared.value.Expr.{Expr}
+use Rattle.sv8_statements.specs.declared.value.Expr.TheVariants as expr
+use Rattle.sv8_statements.specs.declared.statement.Motion.{Motion}
+use Rattle.sv8_statements.specs.declared.statement.Width.{Width}
+use Rattle.sv8_statements.specs.declared.statement.Statement.{Statement}
+use Rattle.sv8_statements.specs.declared.statement.Statement.TheVariants as statement
+use Rattle.sv8_statements.specs.declared.statement.Stmt.{Stmt}
+use Rattle.sv8_statements.specs.Operand.{Operand}
+use Rattle.sv8_tokens.specs.declared.token.Mark.TheVariants as mark
+use Rattle.sv8_statements.specs.declared.statement.Label.{Label}
+use Rattle.sv8_statements.specs.declared.statement.Label.TheVariants as label
+use Rattle.sv8_tokens.specs.Token.{Token, Word, Mark, Local}
+use Rattle.sv8_statements.specs.Names.{is_digit, is_reference}
+use Rattle.sv8_tokens.specs.Spelling.{Spells, label_text, IsCutInto, cut_token}
+use Rattle.sv8_statements.specs.Steps.{◌>>=◌}
+use Rattle.sv8_forms.specs.Taking.{register_in, expr_in, number_in, text_in, name_of, name_in, is_signed, signed_in, exprs_in}
+use Rattle.sv8_forms.specs.Forms.{instruction_of, set_of, motion_of, data_of, ascii_of, equ_of, directive_of, directive_in, directive_or_instruction, form_of}
+use Rattle.sv8_statements.specs.Names.{IsLabel, IsConstant, IsDefinition, Defines}
 use Rattle.sv8_syntax.specs.Grammar.{line}
-use Rattle.sv8_syntax.specs.Mnemonics.{shape_named}
-use Rattle.sv8_syntax.specs.Outcome.{Gives}
+use Rattle.sv8_forms.specs.Mnemonics.{shape_named}
+use Rattle.sv8_statements.specs.Outcome.{Gives}
 use Rattle.sv8_syntax.specs.Reading.{operands_of, parts_of, shaped, behind_annul, flagged, statement_of, label_front, line_of}
-use Rattle.sv8_syntax.proofs.Steps.{bind_some, some_is, test_true}
-use Rattle.sv8_syntax.proofs.Words.{and_true}
+use Rattle.sv8_statements.proofs.Steps.{bind_some, some_is, test_true}
+use Rattle.sv8_tokens.proofs.Words.{and_true}
 
 -- ---- .equ
 

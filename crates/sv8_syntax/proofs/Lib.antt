@@ -1,8 +1,3 @@
-pub mod Steps
-pub mod Loops
-pub mod Words
-pub mod Cut
-pub mod Tokens
 pub mod Parts
 pub mod Split
 pub mod Lines

@@ -1,8 +1,8 @@
 -- Parts between commas.
 use Rattle.std.proofs.Common.{◌≡◌, ℕ, suc, ◌+◌, ◌<◌, ◌≤◌, Bool, true, false, cond, List, [], ◌∷◌, length, take, drop, refl, sym, ap, ◌∙◌, add-one, arith}
-use Rattle.sv8_syntax.specs.declared.token.Token.{Token as Held}
-use Rattle.sv8_syntax.specs.Token.{views, Token}
-use Rattle.sv8_syntax.specs.Outcome.{part_len}
+use Rattle.sv8_tokens.specs.declared.token.Token.{Token as Held}
+use Rattle.sv8_tokens.specs.Token.{views, Token}
+use Rattle.sv8_syntax.specs.Parts.{part_len}
 use Rattle.sv8_syntax.specs.Reading.{is_comma, put_first, parts, parts_of}
 
 pub part_len-le : (ts : List Token) → part_len ts ≤ length ts

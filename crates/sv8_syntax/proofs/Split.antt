@@ -2,14 +2,15 @@
 use Rattle.std.proofs.Common.{◌≡◌, ℕ, zero, suc, ◌+◌, ◌-◌, ◌<◌, ◌≤◌, List, [], ◌∷◌, ◌++◌, length, take, drop, Option, Some, None, refl, sym, ap, ◌∙◌, append_assoc, arith, Bor, length-drop, length-append, add-one}
 use Rattle.std.proofs.Math.Seq.{take-length}
 use Rattle.std.proofs.lemmas.List.{map_push, take-map, drop-map, append-nil}
-use Rattle.sv8_syntax.specs.declared.token.Token.{Token as Held}
-use Rattle.sv8_syntax.specs.Token.{Token, views, view}
-use Rattle.sv8_syntax.specs.declared.operand.Operand.{Operand as OperandRef}
-use Rattle.sv8_syntax.specs.Operand.{Operand, operand_view, operand_views}
-use Rattle.sv8_syntax.specs.Lexing.{◌>>=◌}
-use Rattle.sv8_syntax.specs.Outcome.{part_len}
-use Rattle.sv8_syntax.specs.Reading.{parts, parts_of, operand_of, operands_of}
-use Rattle.sv8_syntax.proofs.Steps.{some}
+use Rattle.sv8_tokens.specs.declared.token.Token.{Token as Held}
+use Rattle.sv8_tokens.specs.Token.{Token, views, view}
+use Rattle.sv8_statements.specs.declared.operand.Operand.{Operand as OperandRef}
+use Rattle.sv8_statements.specs.Operand.{Operand, operand_view, operand_views}
+use Rattle.sv8_statements.specs.Steps.{◌>>=◌}
+use Rattle.sv8_syntax.specs.Parts.{part_len}
+use Rattle.sv8_syntax.specs.Reading.{parts, parts_of, operands_of}
+use Rattle.sv8_tokens.specs.Reading.{operand_of}
+use Rattle.sv8_statements.proofs.Steps.{some}
 use Rattle.sv8_syntax.proofs.Parts.{parts-last, parts-first, part_len-le, parts_of-few}
 
 -- how much is left to cut

@@ -1,29 +1,30 @@
 -- The lines, over their tokens.
 use Rattle.std.specs.Prelude.{◌≡◌, ℕ, ◌≤◌, ◌<◌, List, [], ◌∷◌, ◌++◌, length, map, Bool, false, Option, Some, None, codes, ◌||◌, ◌&&◌, ◌==◌, nat_le}
-use Rattle.sv8_syntax.specs.declared.fault.LineFault.{LineFault}
-use Rattle.sv8_syntax.specs.declared.fault.LineFault.TheVariants.{LineTooLong, NotAscii, Syntax}
-use Rattle.sv8_syntax.specs.declared.token.Percent.TheVariants as percent
-use Rattle.sv8_syntax.specs.declared.token.Mark.TheVariants as mark
-use Rattle.sv8_syntax.specs.declared.mnemonic.Shape.{Shape}
-use Rattle.sv8_syntax.specs.declared.register.Register.{Register}
-use Rattle.sv8_syntax.specs.declared.value.Expr.{Expr}
-use Rattle.sv8_syntax.specs.declared.value.Expr.TheVariants as expr
-use Rattle.sv8_syntax.specs.declared.value.Imm.{Imm}
-use Rattle.sv8_syntax.specs.declared.value.Imm.TheVariants as imm
-use Rattle.sv8_syntax.specs.declared.value.RegOrImm.{RegOrImm}
-use Rattle.sv8_syntax.specs.declared.value.RegOrImm.TheVariants as source
-use Rattle.sv8_syntax.specs.Address.{Address}
-use Rattle.sv8_syntax.specs.Address as address
-use Rattle.sv8_syntax.specs.Operand.{Operand}
-use Rattle.sv8_syntax.specs.Operand as operand
-use Rattle.sv8_syntax.specs.declared.statement.Statement.{Statement}
-use Rattle.sv8_syntax.specs.declared.statement.Label.{Label}
-use Rattle.sv8_syntax.specs.declared.statement.Label.TheVariants as label
-use Rattle.sv8_syntax.specs.declared.statement.Stmt.{Stmt}
-use Rattle.sv8_syntax.specs.Token.{Token, Word, Number, Percent, Mark, Quoted, Local}
-use Rattle.sv8_syntax.specs.Spelling.{AllPass, is_reference, IsCutInto}
-use Rattle.sv8_syntax.specs.Mnemonics.{shape_named}
-use Rattle.sv8_syntax.specs.Forms.{form_of, annulled}
+use Rattle.sv8_statements.specs.declared.fault.LineFault.{LineFault}
+use Rattle.sv8_statements.specs.declared.fault.LineFault.TheVariants.{LineTooLong, NotAscii, Syntax}
+use Rattle.sv8_tokens.specs.declared.token.Percent.TheVariants as percent
+use Rattle.sv8_tokens.specs.declared.token.Mark.TheVariants as mark
+use Rattle.sv8_forms.specs.declared.mnemonic.Shape.{Shape}
+use Rattle.sv8_statements.specs.declared.register.Register.{Register}
+use Rattle.sv8_statements.specs.declared.value.Expr.{Expr}
+use Rattle.sv8_statements.specs.declared.value.Expr.TheVariants as expr
+use Rattle.sv8_statements.specs.declared.value.Imm.{Imm}
+use Rattle.sv8_statements.specs.declared.value.Imm.TheVariants as imm
+use Rattle.sv8_statements.specs.declared.value.RegOrImm.{RegOrImm}
+use Rattle.sv8_statements.specs.declared.value.RegOrImm.TheVariants as source
+use Rattle.sv8_statements.specs.Address.{Address}
+use Rattle.sv8_statements.specs.Address as address
+use Rattle.sv8_statements.specs.Operand.{Operand}
+use Rattle.sv8_statements.specs.Operand as operand
+use Rattle.sv8_statements.specs.declared.statement.Statement.{Statement}
+use Rattle.sv8_statements.specs.declared.statement.Label.{Label}
+use Rattle.sv8_statements.specs.declared.statement.Label.TheVariants as label
+use Rattle.sv8_statements.specs.declared.statement.Stmt.{Stmt}
+use Rattle.sv8_tokens.specs.Token.{Token, Word, Number, Percent, Mark, Quoted, Local}
+use Rattle.sv8_tokens.specs.Spelling.{AllPass, IsCutInto}
+use Rattle.sv8_statements.specs.Names.{is_reference}
+use Rattle.sv8_forms.specs.Mnemonics.{shape_named}
+use Rattle.sv8_forms.specs.Forms.{form_of, annulled}
 
 -- ---- how each operand is spelled
 

@@ -2,27 +2,24 @@
 
 ghost use Rattle.std.specs.Prelude.{◌≡◌, option_map, ◌≤◌, ◌+◌, length, ◌<◌, ◌∷◌, IfSome, IfOk, IsTrue, ◌↔◌, MatchResult, Ok, Err};
 ghost use Rattle.sv8_model.specs.Refused.{ByFault};
-ghost use Rattle.sv8_syntax.specs.Token.{views};
-ghost use Rattle.sv8_syntax.specs.Operand.{operand_views};
-ghost use Rattle.sv8_syntax.specs.Spelling.{AllPass};
-ghost use Rattle.sv8_syntax.specs.Names.{Defines};
+ghost use Rattle.sv8_tokens.specs.Token.{views};
+ghost use Rattle.sv8_statements.specs.Operand.{operand_views};
+ghost use Rattle.sv8_tokens.specs.Spelling.{AllPass};
+ghost use Rattle.sv8_statements.specs.Names.{Defines};
 ghost use Rattle.sv8_syntax.specs.Grammar.{is_text_byte};
-ghost use Rattle.sv8_syntax.specs.Outcome.{Gives, part_len, parts_behind};
+ghost use Rattle.sv8_statements.specs.Outcome.{Gives};
+ghost use Rattle.sv8_syntax.specs.Parts.{part_len, parts_behind};
 ghost use Rattle.sv8_syntax.specs.Reading.{parts, parts_of, operands_of, shaped, behind_annul, flagged, statement_of, label_front, line_of, reading};
 
-use crate::fault::{LineFault, Read, SYNTAX};
-use crate::form::{annulled, form};
-use crate::lexer::{is_reference, tokens};
-use crate::mnemonic::{Shape, shape_of};
-use crate::operand::Operand;
-use crate::reader::operand_of;
-use crate::statement::{Label, Statement, Stmt};
-use crate::token::{Mark, Token};
-use crate::value::Name;
 use std::alloc::{AllocError, Global};
+use sv8_forms::{Shape, annulled, form, shape_of};
 use sv8_model::Refused;
+use sv8_statements::{
+    Label, LineFault, Name, Operand, Read, SYNTAX, Statement, Stmt, is_reference,
+};
+use sv8_tokens::{Mark, Token, operand_of, tokens};
 
-#[tactic(auto, unfolding(crate::specs::Outcome::part_len))]
+#[tactic(auto, unfolding(crate::specs::Parts::part_len))]
 fn part_len(tokens: &[Token<'_>]) -> usize
     ensures place { result ≡ part_len (views tokens.now) }
     ensures within { result ≤ length tokens.now }

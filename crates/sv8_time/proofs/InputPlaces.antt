@@ -17,11 +17,6 @@ pub prefix_map : {X Y : Type 0} (p : Y → Bool) (f : X → Y) (xs : List X) →
 prefix_map p f [] = refl
 prefix_map p f (x ∷ xs) = rw (prefix_map p f xs) refl
 
-pub slice_get_map : {X Y : Type 0} (f : X → Y) (xs : List X) (i : ℕ) → slice_get (map f xs) i ≡ option_map f (slice_get xs i)
-slice_get_map f [] i = refl
-slice_get_map f (x ∷ xs) zero = refl
-slice_get_map f (x ∷ xs) (suc i) = slice_get_map f xs i
-
 pub map_replace : {X Y : Type 0} (f : X → Y) (xs : List X) (i : ℕ) (x : X) → map f (set xs i x) ≡ set (map f xs) i (f x)
 map_replace f xs i x = map-set f xs i x
 
@@ -134,11 +129,6 @@ get_left (x ∷ xs) ys (suc i) l = get_left xs ys i (omega arith)
 pub get_right : {X : Type 0} (xs ys : List X) (i : ℕ) → slice_get (xs ++ ys) (length xs + i) ≡ slice_get ys i
 get_right [] ys i = let e : 0 + i ≡ i = omega arith in rw e refl
 get_right (x ∷ xs) ys i = let e : suc (length xs) + i ≡ suc (length xs + i) = omega arith in rw e (get_right xs ys i)
-
-pub get_past : {X : Type 0} (xs : List X) (i : ℕ) → length xs ≤ i → slice_get xs i ≡ None
-get_past [] i l = refl
-get_past (x ∷ xs) zero l = absurd (omega arith)
-get_past (x ∷ xs) (suc i) l = get_past xs i (omega arith)
 
 -- the start of the first input counted is at or below the byte
 first_le : (byte n m : ℕ) (xs : List Input) → prefix_len (λ t. nat_le t byte) (starts_of n xs) ≡ suc m → n ≤ byte

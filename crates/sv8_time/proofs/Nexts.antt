@@ -40,9 +40,6 @@ or_last : (b : Bool) → (b || true) ≡ true
 or_last true = refl
 or_last false = refl
 
-abbrev has_at : {X : Type 0} → (X → ℕ) → (X → Bool) → List X → ℕ → Bool
-has_at {X} step kind xs n = list_any (λ x. step x == n && kind x) xs
-
 pub next_is : {X : Type 0} (before : X → X → Bool) (step : X → ℕ) (kind : X → Bool) → ((x y : X) → before x y ≡ true → kind x ≡ true → kind y ≡ true → step x ≤ step y) → (after : ℕ) (xs : List X) → Rising before xs
     → IsNext (λ n. list_any (λ x. step x == n && kind x) xs) after (option_map step (find (λ x. kind x && nat_lt after (step x)) xs))
 next_is before step kind f after [] h = λ n l. refl

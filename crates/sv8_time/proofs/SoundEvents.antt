@@ -236,15 +236,6 @@ input_fits step bytes s e =
     let h = third_none (nat_lt 1000000 step) (is_one_too_many (has_input step s.inputs) s) (nat_lt 1024 (length bytes)) StepTooLarge TooManyEvents InputTooLong e in
     grind (arith, nat_tests)
 
-few_inputs : (a b c : ℕ) → (nat_le 65536 (a + b + c) && true) ≡ false → b < 65536
-few_inputs a b c e = grind (arith, nat_tests)
-
-pub input_room : (step : ℕ) (bytes : List ℕ) (s : Schedule) → set_input_fault step bytes s ≡ None → has_input step s.inputs ≡ false → length s.inputs < 65536
-input_room step bytes s e f =
-    let h = second_none (nat_lt 1000000 step) (is_one_too_many (has_input step s.inputs) s) (nat_lt 1024 (length bytes)) StepTooLarge TooManyEvents InputTooLong e in
-    let g : (nat_le 65536 (event_count s) && not false) ≡ false = rw f at h in
-    few_inputs (word_count s.pokes) (length s.inputs) (length s.requests) g
-
 -- requests
 
 level_parts : (level : ℕ) → is_level level ≡ true → (1 ≤ level) × (level ≤ 15)

@@ -75,10 +75,6 @@ placed_elsewhere before same other k o s f e xs h =
     ap (λ l. filter other l) (split before same k o s xs h) ∙ (filter-append other low (filter same xs ++ high) ∙ rw (filter-append other (filter same xs) high, mid) refl) in
     filter-append other low (k ∷ high) ∙ (rw e refl ∙ sym whole)
 
-not_both : (a b : Bool) → (a ≡ true → b ≡ false) → b ≡ true → not a ≡ true
-not_both true b f e = absurd (both_ways b (f refl) e)
-not_both false b f e = refl
-
 -- what dropping a place leaves there, and at other places
 pub dropped_there : {X : Type 0} (same : X → Bool) (xs : List X) → filter same (filter (λ y. not (same y)) xs) ≡ []
 dropped_there same xs = filter_none same (filter (λ y. not (same y)) xs) (each_map (λ y. not (same y) ≡ true) (λ y. same y ≡ false) (λ y e. false_from_ne_true (same y) (λ f. both_ways (not (same y)) (rw f refl) e)) (filter (λ y. not (same y)) xs) (each_passes (λ y. not (same y)) xs))

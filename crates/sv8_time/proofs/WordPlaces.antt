@@ -116,9 +116,6 @@ in_word a k e l = omega arith
 pub word_of_aligned : (a : ℕ) → a % 4 ≡ 0 → word_of a ≡ a
 word_of_aligned a e = omega arith
 
-any_same : {X : Type 0} (p : X → Bool) (b : Bool) (xs : List X) → Each (λ x. p x ≡ b) xs → b ≡ false → list_any p xs ≡ false
-any_same p b xs h e = any_none p xs (each_map (λ x. p x ≡ b) (λ x. p x ≡ false) (λ x f. f ∙ e) xs h)
-
 at_itself : (s a : ℕ) → (s == s && a == a) ≡ true
 at_itself s a = grind (arith, nat_tests)
 

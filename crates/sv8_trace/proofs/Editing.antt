@@ -5,7 +5,7 @@ use Rattle.std.proofs.lemmas.Bool.{cases_lt}
 use Rattle.std.proofs.lemmas.List.{get_or_past}
 use Rattle.std.proofs.Math.Nat.{mul-mod_right}
 use Rattle.sv8_model.specs.Cells.{Cell}
-use Rattle.sv8_history.specs.Trace.{some_from}
+use Rattle.sv8_history.specs.Trace.{some_from, Near}
 use Rattle.sv8_history.specs.Reads.{earlier, least_below, first_of_change, first_of_each}
 use Rattle.sv8_history.specs.Patches.{count_after, cut}
 use Rattle.sv8_history.proofs.Common.{Found, found}
@@ -17,7 +17,6 @@ use Rattle.sv8_notes.specs.declared.patch.Patch.{Patch}
 use Rattle.sv8_cpu.specs.Patches.{change_of, changes_of}
 use Rattle.sv8_trace.specs.Patch.{AreOfOneWord, AreReadAlike, BeginAlike}
 use Rattle.sv8_trace.specs.Recording.{Recording, no_interval, trace_of}
-use Rattle.sv8_trace.specs.Prepared.{Near}
 
 -- the search finds a step below its end
 pub below_end : (c : ℕ) (f : ℕ → Bool) (o : Option ℕ) → o ≡ least_below c f → MatchOption o ⊤ (λ s. s < c)

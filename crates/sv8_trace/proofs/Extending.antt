@@ -61,9 +61,6 @@ module _ (windows pages k : ℕ) (pos : 0 < k) (schedule : Schedule) (old new : 
   count : ℕ
   count = length old.intervals
 
-  base : ℕ
-  base = k * length old.intervals
-
   -- ---- where a step stands
 
   of_old : (n : ℕ) → n < k * length old.intervals → n / k < length old.intervals

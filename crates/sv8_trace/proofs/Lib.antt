@@ -1,4 +1,3 @@
-pub mod Nearness
 pub mod Placed
 pub mod Overlays
 pub mod Below
@@ -7,7 +6,6 @@ pub mod Searching
 pub mod Extending
 pub mod Growing
 pub mod Marking
-pub mod Spreading
 pub mod Preparing
 pub mod Committing
 pub mod Editing

@@ -30,10 +30,6 @@ module _ (old new : List (List ℕ)) (grows : (a : ℕ) → mark_of old a ≤ ma
           let e : i ≡ length xs = omega (arith, long, h, l) in
           rw (e, get_or-append_seam xs x [] no_interval) (here a (omega (arith, below, e)))
 
--- intervals with the notes of some that were there
-pub marked_same : (marks : List (List ℕ)) (xs ys : List Interval) → AreMarked marks xs → length ys ≤ length xs → ((i : ℕ) → i < length ys → (get_or ys i no_interval).notes ≡ (get_or xs i no_interval).notes) → AreMarked marks ys
-marked_same marks xs ys marked le same i a h below = rw (same i h) (marked i a (omega arith) below)
-
 -- ---- the search
 
 -- it is met by no step behind the intervals of the word's mark

@@ -8,7 +8,7 @@ use Rattle.std.proofs.Math.Nat.{mul-div_cancel_left, div-add-mod}
 use Rattle.sv8_model.specs.Cells.{Cell, Value, ram_byte, pending_level, byte, held, same_cell}
 use Rattle.sv8_phys.specs.Memory.{ram_size, page_of, with_page}
 use Rattle.sv8_history.specs.Machine.{Machine}
-use Rattle.sv8_history.specs.Trace.{Trace}
+use Rattle.sv8_history.specs.Trace.{Trace, Near}
 use Rattle.sv8_history.specs.Patches as history
 use Rattle.sv8_notes.specs.declared.kept.Kept.{Kept}
 use Rattle.sv8_notes.specs.Kept.{kept_in}
@@ -21,10 +21,11 @@ use Rattle.sv8_notes.specs.declared.patch.Patch.{Patch}
 use Rattle.sv8_cpu.specs.Patches.{change_of, changes_of}
 use Rattle.sv8_trace.specs.Recording.{Recording, blank, no_interval, trace_of}
 use Rattle.sv8_trace.specs.Columns.{AreFull, IsWhole, item, put_from, placed_pages, placed_levels}
-use Rattle.sv8_trace.specs.Prepared.{placed, list_at, prepared_trace, IsPreparedFor, Near}
-use Rattle.sv8_trace.specs.Patching.{IsFirstWrite, PointsSet, RaisedAt}
+use Rattle.sv8_trace.specs.Prepared.{placed, list_at, prepared_trace, IsPreparedFor}
+use Rattle.sv8_history.specs.Patching.{IsFirstWrite, RaisedAt}
+use Rattle.sv8_trace.specs.Patching.{PointsSet}
 use Rattle.sv8_trace.specs.Placing.{IsSound, AreSound}
-use Rattle.sv8_trace.proofs.Nearness.{near_all, near_along}
+use Rattle.sv8_history.proofs.Common.{near_all, near_along}
 use Rattle.sv8_trace.proofs.Placed.{page_byte, page_length, get_none, none_there, there_set, item_full, item_set, whole_items, any_levels, ram_places, level_places, put_set, idle, page_places, level_count, ram_long, byte_at, level_at, page_at}
 
 -- ---- nothing but a cut

@@ -48,9 +48,6 @@ none_written (pending_level l) j = none (l == 10)
     none false = refl
 
 module _ (windows pages : ℕ) (schedule : Schedule) (n : ℕ) (s : State) where
-  touched : Cell → ℕ → Bool
-  touched c = touches_on windows pages schedule n s c
-
   at : ℕ → List Touch
   at j = footprint windows pages schedule (n + j) (steps_on windows pages schedule n s j)
 
@@ -150,12 +147,6 @@ module _ (windows pages : ℕ) (schedule : Schedule) (n : ℕ) (s : State) where
         go : (j : ℕ) → j < suc count → (j < count) ⊎ (count ≤ j) → SameFootprint (footprint_in new.notes j) (footprint_on windows pages schedule n s j)
         go j b (inl l) = then (footprint_in new.notes j) (footprint_in old.notes j) (footprint_on windows pages schedule n s j) (not_here j (λ e. omega arith)) (h.footprints j l)
         go j b (inr l) = at_count j (omega arith)
-
--- nothing is kept of a later step
-pub kept_free : (windows pages : ℕ) (schedule : Schedule) (n : ℕ) (s : State) (count : ℕ) (i : Interval) → IsRecorded windows pages schedule n s count i → (c : Cell) → kept_in count c i.kept ≡ None
-kept_free windows pages schedule n s count i h c =
-    h.kept count c
-    ∙ ap (λ b. cond (b && is_some (poke_of c (event_at schedule (n + count))) && not (some_from count count (touches_on windows pages schedule n s c))) (Some (get c (steps_on windows pages schedule n s count))) None) (le-ltb count count (omega arith))
 
 -- the count of steps where one more was made, or none
 pub up_to_one : (j most first old new : ℕ) → j < most → old ≡ counted_by j first → (new ≡ old) ⊎ (new ≡ counted old) → RaisedUpTo most first new

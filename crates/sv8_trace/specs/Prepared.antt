@@ -1,6 +1,5 @@
 -- A change of a trace that is built and not yet placed.
 use Rattle.std.specs.Prelude.{◌≡◌, ℕ, suc, ◌*◌, ◌/◌, ◌%◌, ◌<◌, ◌≤◌, ltb, length, List, slice_index_or, cond, None, unwrap_or}
-use Rattle.sv8_history.specs.Machine.{Machine}
 use Rattle.sv8_history.specs.Trace.{Trace, Agrees}
 use Rattle.sv8_notes.specs.declared.kept.Kept.{Kept}
 use Rattle.sv8_notes.specs.Kept.{kept_in}
@@ -44,10 +43,3 @@ pub record IsPreparedFor (pages : ℕ) (r : Recording) (staged : Staged) : Type 
 pub record IsPlaced (windows pages k : ℕ) (old : Recording) (staged : Staged) (new : Recording) : Type 0 where
   pub agrees : Agrees (machine windows pages) k (prepared_trace windows pages k old staged) (trace_of windows pages k new)
   pub signs : (i : ℕ) → i < length new.intervals → signs_of new i ≡ signs_of old i
-
--- The traces show the same, and have one set of notes.
-pub record Near (m : Machine) (k : ℕ) (v w : Trace m) : Type 0 where
-  pub count : v.count ≡ w.count
-  pub points : (i : ℕ) → i ≤ w.count → v.point (k * i) ≡ w.point (k * i)
-  pub notes : v.notes ≡ w.notes
-  pub kept : (n : ℕ) (c : m.Cell) → v.kept n c ≡ w.kept n c

@@ -9,7 +9,8 @@ ghost use Rattle.sv8_cpu.specs.Recorded.{machine};
 ghost use Rattle.sv8_cpu.specs.Patches.{change_of, changes_of, IsPatch};
 ghost use Rattle.sv8_trace.specs.Patch.{AreReadAlike, BeginAlike};
 ghost use Rattle.sv8_trace.specs.Recording.{recorded, trace_of};
-ghost use Rattle.sv8_trace.specs.Prepared.{prepared_trace, IsPreparedFor, Near};
+ghost use Rattle.sv8_history.specs.Trace.{Near};
+ghost use Rattle.sv8_trace.specs.Prepared.{prepared_trace, IsPreparedFor};
 
 use crate::prepared::Prepared;
 use crate::trace::Trace;

@@ -1,10 +1,10 @@
 use Rattle.std.proofs.Common.{◌≡◌, List, sym, ap, ◌∙◌}
-use Rattle.sv8_syntax.specs.Token.{Token}
+use Rattle.sv8_tokens.specs.Token.{Token}
 use Rattle.sv8_syntax.specs.Grammar.{IsLine}
 use Rattle.sv8_syntax.specs.Reading.{line_of}
-use Rattle.sv8_syntax.specs.declared.statement.Stmt.{Stmt}
-use Rattle.sv8_syntax.proofs.Steps.{some_is}
-use Rattle.sv8_syntax.proofs.Cut.{one_cut}
+use Rattle.sv8_statements.specs.declared.statement.Stmt.{Stmt}
+use Rattle.sv8_statements.proofs.Steps.{some_is}
+use Rattle.sv8_tokens.proofs.Cut.{one_cut}
 use Rattle.sv8_assembler_laws.proofs.Written.{line-again}
 use Rattle.sv8_assembler_laws.proofs.lines.one_reading.Goals as goal
 

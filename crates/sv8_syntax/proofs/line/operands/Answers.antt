@@ -1,10 +1,10 @@
 use Rattle.std.proofs.Common.{rules, arith, ◌≡◌, [], ◌∷◌, ap, ◌∙◌}
 use Rattle.std.proofs.lemmas.Result.{err_from_is_err_and}
 use Rattle.sv8_model.specs.declared.refused.Refused.TheVariants.{By}
-use Rattle.sv8_syntax.specs.declared.fault.LineFault.TheVariants.{Syntax}
-use Rattle.sv8_syntax.specs.Token.{views}
-use Rattle.sv8_syntax.specs.Operand.{operand_views}
-use Rattle.sv8_syntax.specs.Outcome.{parts_behind}
+use Rattle.sv8_statements.specs.declared.fault.LineFault.TheVariants.{Syntax}
+use Rattle.sv8_tokens.specs.Token.{views}
+use Rattle.sv8_statements.specs.Operand.{operand_views}
+use Rattle.sv8_syntax.specs.Parts.{parts_behind}
 use Rattle.sv8_syntax.specs.Reading.{parts_of, operands_of}
 use Rattle.sv8_syntax.proofs.Split.{read_none, read_more, count_more, read_end, read_fault, parts-few}
 use Rattle.sv8_syntax.proofs.line.operands.Goals as goal

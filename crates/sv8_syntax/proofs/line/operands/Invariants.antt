@@ -1,8 +1,8 @@
 use Rattle.std.proofs.Common.{◌≡◌, ◌+◌, length}
-use Rattle.sv8_syntax.specs.Token.{views}
-use Rattle.sv8_syntax.specs.Operand.{operand_views}
+use Rattle.sv8_tokens.specs.Token.{views}
+use Rattle.sv8_statements.specs.Operand.{operand_views}
 use Rattle.sv8_syntax.specs.Reading.{parts_of, operands_of}
-use Rattle.sv8_syntax.specs.Outcome.{parts_behind}
+use Rattle.sv8_syntax.specs.Parts.{parts_behind}
 use Rattle.sv8_syntax.proofs.Split.{left, behind}
 use Rattle.sv8_syntax.proofs.line.operands.Given as goal
 

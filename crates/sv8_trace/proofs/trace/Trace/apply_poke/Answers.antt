@@ -4,7 +4,7 @@ use Rattle.sv8_cpu.specs.Recorded.{machine}
 use Rattle.sv8_cpu.proofs.Common.{same_is}
 use Rattle.sv8_trace.specs.declared.prepared.Staged.{Staged}
 use Rattle.sv8_trace.specs.Prepared.{prepared_trace}
-use Rattle.sv8_trace.proofs.Spreading.{after_step, put_near, none_near, nothing_below}
+use Rattle.sv8_history.proofs.Common.{after_step, put_near, none_near, nothing_below}
 use Rattle.sv8_trace.proofs.Preparing.{points_kept}
 use Rattle.sv8_trace.proofs.trace.Trace.apply_poke.Goals as goal
 

@@ -1,5 +1,5 @@
 use Rattle.std.proofs.Common.{leb, ap, sym, ◌∙◌}
-use Rattle.sv8_trace.proofs.Spreading.{from_step}
+use Rattle.sv8_history.proofs.Common.{from_step}
 use Rattle.sv8_trace.proofs.trace.Trace.apply_source.Goals as goal
 
 pub returns-clause-near : goal.returns-clause-near

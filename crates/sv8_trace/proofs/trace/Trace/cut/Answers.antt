@@ -3,7 +3,7 @@ use Rattle.sv8_history.specs.Patches as history
 use Rattle.sv8_cpu.specs.Recorded.{machine}
 use Rattle.sv8_trace.specs.Recording.{trace_of}
 use Rattle.sv8_trace.specs.Prepared.{prepared_trace}
-use Rattle.sv8_trace.proofs.Nearness.{near_agrees, agrees_along}
+use Rattle.sv8_history.proofs.Common.{near_agrees, agrees_along}
 use Rattle.sv8_trace.proofs.trace.Trace.cut.Goals as goal
 
 pub returns-clause-ok : goal.returns-clause-ok

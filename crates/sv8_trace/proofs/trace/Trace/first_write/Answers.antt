@@ -1,7 +1,7 @@
 use Rattle.std.proofs.Common.{◌*◌, ◌≤◌, sym, ap, subst, length, arith, mul-le-mul_left}
 use Rattle.sv8_notes.specs.Cells.{cell_of}
 use Rattle.sv8_cpu.specs.Recorded.{machine}
-use Rattle.sv8_trace.specs.Patching.{IsFirstWrite}
+use Rattle.sv8_history.specs.Patching.{IsFirstWrite}
 use Rattle.sv8_trace.specs.Recording.{Recording, recorded, trace_of}
 use Rattle.sv8_trace.proofs.Preparing.{first_write_is}
 use Rattle.sv8_trace.proofs.trace.Trace.first_write.Goals as goal

@@ -5,7 +5,7 @@ use Rattle.sv8_notes.specs.Cells.{cell_of, content_of}
 use Rattle.sv8_cpu.specs.Recorded.{machine, get}
 use Rattle.sv8_trace.specs.Recording.{blank}
 use Rattle.sv8_trace.specs.Prepared.{placed, prepared_trace}
-use Rattle.sv8_trace.proofs.Spreading.{below_none, below_is, first_of, second_of, third_of, next_index, div_along}
+use Rattle.sv8_history.proofs.Common.{below_none, below_is, first_of, second_of, third_of, next_index, div_along}
 use Rattle.sv8_trace.proofs.Preparing.{not_kept}
 use Rattle.sv8_trace.proofs.trace.Trace.kept_below.Goals.{else-step-reach-via-then-step-reach+else-step-reach-2, else-step-reach-via-else-step-reach, else-reach-step-via-then-reach-step+then-reach+else-reach-2, else-reach-step-via-then-reach-step+else-reach, else-reach-step-via-else-reach-step}
 use Rattle.sv8_trace.proofs.trace.Trace.kept_below.Goals as goal

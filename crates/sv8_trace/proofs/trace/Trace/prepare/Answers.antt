@@ -4,8 +4,9 @@ use Rattle.sv8_history.specs.Patches.{cut, patch_all}
 use Rattle.sv8_cpu.specs.Recorded.{machine}
 use Rattle.sv8_cpu.specs.Patches.{changes_of}
 use Rattle.sv8_trace.specs.Recording.{trace_of}
-use Rattle.sv8_trace.specs.Prepared.{prepared_trace, Near}
-use Rattle.sv8_trace.proofs.Nearness.{near_all}
+use Rattle.sv8_history.specs.Trace.{Near}
+use Rattle.sv8_trace.specs.Prepared.{prepared_trace}
+use Rattle.sv8_history.proofs.Common.{near_all}
 use Rattle.sv8_trace.proofs.Preparing.{patched_more, finished_fits, finished_trace}
 use Rattle.sv8_trace.proofs.trace.Trace.prepare.Goals as goal
 

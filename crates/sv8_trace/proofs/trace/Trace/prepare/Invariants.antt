@@ -3,7 +3,8 @@ use Rattle.sv8_history.specs.Patches.{cut, patch_all}
 use Rattle.sv8_cpu.specs.Recorded.{machine}
 use Rattle.sv8_cpu.specs.Patches.{changes_of}
 use Rattle.sv8_trace.specs.Recording.{trace_of}
-use Rattle.sv8_trace.specs.Prepared.{prepared_trace, IsPreparedFor, Near}
+use Rattle.sv8_history.specs.Trace.{Near}
+use Rattle.sv8_trace.specs.Prepared.{prepared_trace, IsPreparedFor}
 use Rattle.sv8_trace.proofs.trace.Trace.prepare.Given as goal
 
 abbrev pub invariant-loop-patch : goal.invariant-loop-patch

@@ -4,7 +4,8 @@ use Rattle.sv8_history.specs.Input.{takes_edit}
 use Rattle.sv8_history.specs.Patches.{count_after, cut}
 use Rattle.sv8_cpu.specs.Recorded.{machine}
 use Rattle.sv8_trace.specs.Recording.{trace_of}
-use Rattle.sv8_trace.specs.Prepared.{prepared_trace, Near}
+use Rattle.sv8_history.specs.Trace.{Near}
+use Rattle.sv8_trace.specs.Prepared.{prepared_trace}
 use Rattle.sv8_trace.proofs.Editing.{below_end, left_below, whole_steps}
 use Rattle.sv8_trace.proofs.trace.Trace.prepare_input.Goals as goal
 

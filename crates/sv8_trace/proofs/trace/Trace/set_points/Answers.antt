@@ -1,4 +1,4 @@
-use Rattle.sv8_trace.proofs.Spreading.{none_set}
+use Rattle.sv8_history.proofs.Common.{none_set}
 use Rattle.sv8_trace.proofs.trace.Trace.set_points.Goals as goal
 
 pub returns-then-low-end-clause-points : goal.returns-then-low-end-clause-points

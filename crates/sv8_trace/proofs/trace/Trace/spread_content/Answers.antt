@@ -3,7 +3,7 @@ use Rattle.sv8_notes.specs.Cells.{cell_of, content_of}
 use Rattle.sv8_cpu.specs.Recorded.{machine}
 use Rattle.sv8_trace.specs.declared.prepared.Staged.{Staged}
 use Rattle.sv8_trace.specs.Prepared.{prepared_trace}
-use Rattle.sv8_trace.proofs.Spreading.{spread_near}
+use Rattle.sv8_history.proofs.Common.{spread_near}
 use Rattle.sv8_trace.proofs.Preparing.{kept_past, points_at, kept_same, raised_from}
 use Rattle.sv8_trace.proofs.trace.Trace.spread_content.Goals as goal
 

@@ -3,8 +3,7 @@ use Rattle.sv8_notes.specs.Cells.{cell_of, content_of}
 use Rattle.sv8_cpu.specs.Recorded.{machine}
 use Rattle.sv8_trace.specs.declared.prepared.Staged.{Staged}
 use Rattle.sv8_trace.specs.Prepared.{prepared_trace}
-use Rattle.sv8_trace.proofs.Nearness.{near_same}
-use Rattle.sv8_trace.proofs.Spreading.{after_step, put_near}
+use Rattle.sv8_history.proofs.Common.{near_same, after_step, put_near}
 use Rattle.sv8_trace.proofs.Preparing.{points_kept}
 use Rattle.sv8_trace.proofs.trace.Trace.uncover_cell.Goals as goal
 

@@ -1,0 +1,4 @@
+pub mod Escapes
+pub mod Taking
+pub mod Mnemonics
+pub mod Forms

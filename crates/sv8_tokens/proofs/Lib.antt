@@ -1,0 +1,4 @@
+pub mod Words
+pub mod Cut
+pub mod Texts
+pub mod Loops
