@@ -102,22 +102,37 @@ class Ahead(InRepository):
         self.assertEqual(sorted(jobs.read_text().splitlines()), ["high any", "low any", "side 1"])
 
     def test_crates_with_ways_of_one_length_have_a_processor_each(self) -> None:
-        # Each of the four ends once all are begun. With places for three and no number of processors the fourth waits.
-        tasks = [
-            Task(it, False, ("low", "long", "side", "small") if it == "high" else (), 6.0 if it == "high" else 2.0)
-            for it in ("low", "long", "side", "small", "high")
-        ]
+        # Each of the four ends once all are begun, and the last of them is begun beside the three that have places.
+        four = ("low", "long", "side", "small")
+        tasks = [*(Task(it, False, (), 2.0) for it in four), Task("high", False, four, 6.0)]
+        until = f'[ "$2" = high ] || until [ $(wc -l <{self.room / "jobs"}) -ge 4 ]; do sleep 0.1; done'
+        self.assertEqual(self.jobs_of(tasks, until), ["high any", "long 1", "low 1", "side 1", "small 1"])
+
+    def jobs_of(self, tasks: list[Task], says: str) -> list[str]:
+        """Proves these on four processors, with places for three. Gives the crates with their jobs."""
         jobs = self.room / "jobs"
-        until = f"until [ $(wc -l <{jobs}) -ge 4 ]; do sleep 0.1; done"
-        says = f'echo "$2 ${{RT_JOBS:-any}}" >>{jobs}; [ "$2" = high ] || {until}; {SAYS}'
-        self.fake("exit 9", ahead=says)
-        proofs = ahead.Ahead(
-            tasks, ByName(str(self.bin / "rt"), self.top), self.environment(), Progress(tasks, 4, 3), processors=4
-        )
+        self.fake("exit 9", ahead=f'echo "$2 ${{RT_JOBS:-any}}" >>{jobs}; {says}; {SAYS}')
+        progress = Progress(tasks, 4, 3)
+        way = ByName(str(self.bin / "rt"), self.top)
+        proofs = ahead.Ahead(tasks, way, self.environment(), progress, processors=4)
         with mock.patch.object(ahead, "_AMPLE_BYTES", 0), contextlib.redirect_stderr(io.StringIO()):
             self.assertTrue(proofs.prove(3, lambda: None))
-        due = ["high any", "long 1", "low 1", "side 1", "small 1"]
-        self.assertEqual(sorted(jobs.read_text().splitlines()), due)
+        return sorted(jobs.read_text().splitlines())
+
+    def test_two_crates_with_ways_of_one_length_have_two_jobs_each(self) -> None:
+        tasks = [Task("low", False, (), 4.0), Task("long", False, (), 4.2)]
+        until = f"until [ $(wc -l <{self.room / 'jobs'}) -ge 2 ]; do sleep 0.1; done"
+        self.assertEqual(self.jobs_of(tasks, until), ["long any", "low any"])
+
+    def test_what_is_done_of_a_crate_is_no_part_of_its_way(self) -> None:
+        # `high` is begun while `long` is at work, whose way is twice that of `high` unless most of it is done.
+        tasks = [Task("long", False, (), 10.0), Task("low", False, (), 4.0), Task("high", False, ("low",), 5.0)]
+        until = f'[ "$2" = long ] && until grep -q "ci high" {self.log}; do sleep 0.1; done; true'
+        for pace, due in ((1.0, "high 1"), (1e-6, "high any")):
+            with self.subTest(pace=pace), mock.patch.object(Progress, "pace", lambda it, pace=pace: pace):
+                self.assertEqual(self.jobs_of(tasks, until), [due, "long any", "low any"])
+                (self.room / "jobs").unlink()
+                self.log.unlink()
 
     def test_tests_hold_no_other_crate_back(self) -> None:
         # `low` is proved, and its tests wait for `high`, which can only come once `low` counts as proved.

@@ -83,11 +83,11 @@ class Schedule(unittest.TestCase):
         now[0] = 60.0 * 10
         with contextlib.redirect_stderr(io.StringIO()) as said:
             progress.line("rt: low proved")
-        self.assertEqual(said.getvalue(), "sparc8: crate 1 of 4, low: proved; 10 minutes gone, about 10 to come\n")
-        # 5 of 14 minutes' work took 10, and 10 are expected to take 7.5: the other 9 take 9 * 17.5 / 15.
-        self.assertAlmostEqual(progress.minutes_to_come(), 10.5)
+        self.assertEqual(said.getvalue(), "sparc8: crate 1 of 4, low: proved; 10 minutes gone, about 12 to come\n")
+        # 5 of 14 minutes' work took 10, and 10 are expected to take 10: the other 9 take 9 * 20 / 15.
+        self.assertAlmostEqual(progress.minutes_to_come(), 12.0)
         now[0] = 60.0 * 13
-        self.assertAlmostEqual(progress.minutes_to_come(), 7.5)
+        self.assertAlmostEqual(progress.minutes_to_come(), 9.0)
 
 
 if __name__ == "__main__":

@@ -1,13 +1,15 @@
 """Proves crates side by side, each by a command of its own (`ways` says which), once something is to be proved.
 
 One `rt ci` of all crates gives most proofs one processor, also while others have nothing to do: it counts with the
-tests that each crate might have. So crates are asked for one by one, those with the longest way above them first, three
-at a time on four processors. The one on the longest way has two jobs, and the processors first. The others have one job
-each, which takes less processor time than two, and go on with what is left. Where a crate at work has a shorter way
-than one that becomes ready, the second does not wait for it. A crate with a far shorter way than the longest one leaves
-the processors to two others: what waits for it is far, and at the end of the longest way there are processors with
-nothing to do. Where as many crates as there are processors could be at work, with ways that are nearly as long as the
-longest one, each has one job, and none of them waits for a place.
+tests that each crate might have. So crates are asked for one by one, those with the longest way above them first, as
+long as a processor has no job. What a crate at work has done of its own proof is no part of its way. Where a crate at
+work has a shorter way than one that becomes ready, the second does not wait for a processor, and goes first.
+
+Where half as many crates as there are processors have ways that are nearly as long as the longest one, or fewer, each
+of them has two jobs. Where there are more, the one with the longest way alone has two, and where there are as many as
+processors none has: one job takes less processor time than two. A crate with a far shorter way than the longest one
+leaves the processors to two others: what waits for it is far, and at the end of the longest way there are processors
+with nothing to do.
 
 A command takes some seconds before it proves anything, the more the more crates lie below. So the next crate is begun
 while the last of its libraries is under way: where commands share what they prove, its own then waits for that. What
@@ -44,9 +46,9 @@ _NICENESS, _NICEST = 10, 19
 # Behind so many seconds a command has begun its proof, so that another one waits for it and does not begin the same.
 _BEGUN_SECONDS = 20
 # While two crates are at work, one whose way is a smaller part of the longest way than this can wait.
-_NEAR = 0.4
+_FAR = 0.4
 # A way that is no smaller a part of the longest way than this is nearly as long.
-_ALIKE = 0.85
+_ALIKE = 0.9
 # A command counts the memory that is free when it begins, and with less it may give its crate one job.
 _AMPLE_BYTES = 16 << 30
 
@@ -77,12 +79,14 @@ def jobs(cores: int, memory: int, number: int) -> int:
 
 @dataclass
 class _Begun:
-    """A crate under way: its process, and what it says."""
+    """A crate under way: its process, what it says, its jobs, and since when its libraries are proved."""
 
     crate: str
     process: subprocess.Popen[bytes]
     said: IO[bytes]
     since: float
+    jobs: int
+    at_work_since: float | None = None
 
 
 class Ahead:
@@ -99,12 +103,13 @@ class Ahead:
     ) -> None:
         self._tasks = list(tasks)
         self._way, self._environment, self._progress, self._jobs = way, environment, progress, jobs
-        self._processors = processors
+        self._processors, self._pace = processors, progress.pace()
         self._proved = set(progress.proved)
-        self._ways = schedule.ways_above([it for it in self._tasks if not it.of_tests])
+        proofs = [it for it in self._tasks if not it.of_tests]
+        self._ways, self._minutes = schedule.ways_above(proofs), {it.crate: it.minutes for it in proofs}
         self._order = schedule.longest_first(self._ways)
         self._left = [it for it in self._order if it not in self._proved]
-        self._below = {it.crate: set(it.below) for it in self._tasks if not it.of_tests}
+        self._below = {it.crate: set(it.below) for it in proofs}
         self._under_way: list[_Begun] = []
         self.said: list[str] = []
 
@@ -132,8 +137,7 @@ class Ahead:
     def _begin(self, number: int) -> bool:
         """Begins crates whose libraries are proved, and the one that comes next. Gives whether one is under way."""
         for crate in [it for it in self._left if self._is_ready(it)]:
-            has_place = len(self._at_work()) < self._places(number) or self._overtakes(crate, number)
-            if has_place and not self._can_wait(crate):
+            if (self._has_place(number) or self._overtakes(crate, number)) and not self._can_wait(crate):
                 self._begin_one(crate)
         following = self._following()
         if following:
@@ -153,33 +157,43 @@ class Ahead:
         """The crates under way that wait for no other one."""
         return [it.crate for it in self._under_way if self._is_ready(it.crate)]
 
-    def _places(self, number: int) -> int:
-        """How many crates may be at work: so many, or one for each processor where their ways are nearly as long."""
-        are_alike = self._are_alike(self._proved) and free_memory() >= _AMPLE_BYTES
-        return max(number, self._processors) if are_alike else number
+    def _has_place(self, number: int) -> bool:
+        """Whether one crate more may be at work: so many may, with ample memory one more, if a processor has no job."""
+        at_work = [it for it in self._under_way if self._is_ready(it.crate)]
+        if not self._processors:
+            return len(at_work) < number
+        most = number + 1 if free_memory() >= _AMPLE_BYTES else number
+        return len(at_work) < most and sum(it.jobs for it in at_work) < self._processors
 
-    def _are_alike(self, proved: set[str]) -> bool:
-        """Whether each processor has a crate, over what is proved, with a way nearly as long as the longest."""
+    def _way_left(self, crate: str) -> float:
+        """The minutes of the longest way from a crate up, less what is done of its own proof."""
+        begun = next((it for it in self._under_way if it.crate == crate), None)
+        if begun is None or begun.at_work_since is None:
+            return self._ways[crate]
+        minutes = (time.monotonic() - begun.at_work_since) / 60 / self._pace
+        return self._ways[crate] - min(minutes * schedule.speed(begun.jobs), self._minutes[crate])
+
+    def _alike(self, proved: set[str]) -> list[str]:
+        """The crates at work or ready, over what is proved, with ways that are nearly as long as the longest."""
         waiting = {*self._left, *(it.crate for it in self._under_way)} - proved
-        longest = max((self._ways[it] for it in waiting), default=0.0)
-        near = [it for it in waiting if self._below[it] <= proved and self._ways[it] >= _ALIKE * longest]
-        return 0 < self._processors <= len(near)
+        longest = max((self._way_left(it) for it in waiting), default=0.0)
+        return [it for it in waiting if self._below[it] <= proved and self._way_left(it) >= _ALIKE * longest]
 
     def _overtakes(self, crate: str, number: int) -> bool:
         """Whether a crate need not wait for a place: its way is longer than that of a crate at work."""
         at_work = self._at_work()
-        is_longer = any(self._order.index(it) > self._order.index(crate) for it in at_work)
+        is_longer = any(self._way_left(it) < self._ways[crate] for it in at_work)
         return is_longer and len(at_work) == number and free_memory() >= _AMPLE_BYTES
 
     def _can_wait(self, crate: str) -> bool:
         """Whether a crate leaves the processors to those at work, since what waits for it is far."""
-        return len(self._at_work()) >= 2 and self._part_of_longest(crate) < _NEAR
+        return len(self._at_work()) >= 2 and self._part_of_longest(crate) < _FAR
 
     def _part_of_longest(self, crate: str) -> float:
         """The way of a crate, as a part of the longest one of it and of those that it does not wait for."""
         others = {*self._left, *(it.crate for it in self._under_way)} - self._proved - self._all_below(crate)
-        longest = max(self._ways[it] for it in {crate, *others})
-        return self._ways[crate] / longest if longest else 1.0
+        longest = max(self._way_left(it) for it in {crate, *others})
+        return self._way_left(crate) / longest if longest else 1.0
 
     def _all_below(self, crate: str) -> set[str]:
         """The crates that a crate stands on, and those that these stand on."""
@@ -196,14 +210,21 @@ class Ahead:
         have_begun = all(time.monotonic() - since[it] >= _BEGUN_SECONDS for it in lacking)
         return following if lacking and have_begun else None
 
+    def _jobs_of(self, crate: str) -> int:
+        """How many jobs a crate gets that is begun."""
+        alike = self._alike(self._proved | self._below[crate])
+        if crate in alike and 2 * len(alike) <= self._processors:
+            return self._jobs
+        is_longest = self._part_of_longest(crate) >= 1
+        return self._jobs if is_longest and not 0 < self._processors <= len(alike) else 1
+
     def _of(self, crate: str) -> _Begun:
         """The proof of a crate that is left, begun."""
-        are_alike = self._are_alike(self._proved | self._below[crate])
-        jobs = self._jobs if self._part_of_longest(crate) >= 1 and not are_alike else 1
+        jobs = self._jobs_of(crate)
         self._left.remove(crate)
         words, folder = self._way.begin(crate, jobs)
         others = (it.crate for it in self._under_way if it.crate not in self._below[crate])
-        longer = sum(self._order.index(it) < self._order.index(crate) for it in others)
+        longer = sum(self._way_left(it) > self._ways[crate] for it in others)
         if longer:
             words = ["nice", "-n", str(min(longer * _NICENESS, _NICEST)), *words]
         said = tempfile.TemporaryFile()
@@ -216,13 +237,16 @@ class Ahead:
             stderr=subprocess.STDOUT,
             start_new_session=True,
         )
-        return _Begun(crate, process, said, time.monotonic())
+        return _Begun(crate, process, said, time.monotonic(), jobs)
 
     def _look(self) -> None:
         """Notes which crates are proved. What is left of their commands holds no other crate back."""
         for it in self._under_way:
             if self._way.is_proved(it.crate, os.pread(it.said.fileno(), _MOST_SAID, 0)):
                 self._proved.add(it.crate)
+        for it in self._under_way:
+            if it.at_work_since is None and self._is_ready(it.crate):
+                it.at_work_since = time.monotonic()
 
     def _end(self) -> bool:
         """Takes what the crates say that have ended. Gives whether all of these are proved."""
@@ -240,4 +264,5 @@ class Ahead:
                 if not _WAITED.fullmatch(line):
                     self._progress.line(line)
             self._proved.add(it.crate)
+            self._pace = self._progress.pace()
         return True

@@ -18,8 +18,8 @@ _NOTES = re.compile(r"rt: (.*\bwaiting for .*|note: the disk .*)")
 TOLD_SECONDS = 60
 # Below this the pace of a run says little.
 _LEAST_MINUTES = 1.0
-# The minutes of docs/PROVING.md are those of a machine that has other work to do; one that has none takes less.
-_USUAL_PACE = 0.75
+# The minutes of docs/PROVING.md are those of a first run that had the machine to itself.
+_USUAL_PACE = 1.0
 # So many minutes of the schedule count at the pace that was expected: a run begins with crates of all sizes.
 _EXPECTED_MINUTES = 10.0
 
@@ -59,6 +59,10 @@ class Progress:
         """The minutes that are left at the pace of this run, or of an earlier one where this one has just begun."""
         left = schedule.minutes_left(self._tasks, self.proved, self._cores, self._lanes)
         return max(left * self._pace_so_far(left) - self.seconds_at_work() / 60, min(left, _LEAST_MINUTES))
+
+    def pace(self) -> float:
+        """How many minutes by the clock one of the schedule's takes."""
+        return self._pace_so_far(schedule.minutes_left(self._tasks, self.proved, self._cores, self._lanes))
 
     def _pace_so_far(self, left: float) -> float:
         """How many minutes by the clock one of the schedule's takes, as expected at first and then as seen."""

@@ -51,6 +51,11 @@ def longest_first(ways: Mapping[str, float]) -> list[str]:
     return sorted(ways, key=lambda it: -ways[it])
 
 
+def speed(jobs: int) -> float:
+    """How much faster a crate is proved by so many jobs than by one."""
+    return _SPEED[min(jobs, len(_SPEED) - 1)]
+
+
 def minutes_left(tasks: Iterable[Task], proved: Iterable[str], cores: int, lanes: int = 0) -> float:
     """The minutes by the clock from where these crates are proved, the longest way first.
 
