@@ -96,12 +96,12 @@ fn put_out_between(memory: &mut Phys<2>, from: usize, to: usize) -> Result<bool,
     Ok(true)
 }
 
-/// Whether a piece has so many bytes, those of the places from 4,096 times its number on; none where it is not there.
+/// Whether a piece has so many bytes, those of the places from 512 times its number on; none where it is not there.
 fn has_piece(memory: &Phys<2>, number: u8, count: usize) -> bool {
     match memory.output_piece(usize::from(number)) {
         None => count == 0,
         Some(piece) => {
-            let places = usize::from(number) * 4096..;
+            let places = usize::from(number) * 512..;
             count > 0
                 && piece.len() == count
                 && piece
@@ -119,14 +119,14 @@ fn has_pieces(memory: &Phys<2>, counts: [usize; 3]) -> bool {
         && has_piece(memory, 2, counts[2])
 }
 
-/// Pieces of 0, 1, 4,095, 4,096, 4,097 and 8,192 bytes of output.
+/// Pieces of 0, 1, 511, 512, 513 and 1,024 bytes of output.
 fn pieces_grow(memory: &mut Phys<2>) -> Result<bool, Fail> {
     let none = has_pieces(memory, [0, 0, 0]);
     let one = put_out_between(memory, 0, 1)? && has_pieces(memory, [1, 0, 0]);
-    let less = put_out_between(memory, 1, 4095)? && has_pieces(memory, [4095, 0, 0]);
-    let full = put_out_between(memory, 4095, 4096)? && has_pieces(memory, [4096, 0, 0]);
-    let more = put_out_between(memory, 4096, 4097)? && has_pieces(memory, [4096, 1, 0]);
-    let twice = put_out_between(memory, 4097, 8192)? && has_pieces(memory, [4096, 4096, 0]);
+    let less = put_out_between(memory, 1, 511)? && has_pieces(memory, [511, 0, 0]);
+    let full = put_out_between(memory, 511, 512)? && has_pieces(memory, [512, 0, 0]);
+    let more = put_out_between(memory, 512, 513)? && has_pieces(memory, [512, 1, 0]);
+    let twice = put_out_between(memory, 513, 1024)? && has_pieces(memory, [512, 512, 0]);
     Ok(none && one && less && full && more && twice)
 }
 

@@ -1,6 +1,6 @@
 -- Deeds in RAM and at devices, put together.
-use Rattle.std.proofs.Common.{arith, ◌≡◌, ◌<◌, ◌≤◌, ℕ, ◌%◌, ◌^◌, Bool, false, nat_lt, List, [], ◌∷◌, Result, Ok, Err, ◌==◌, ◌≢◌, inl, inr, ◌-◌, refl, ap, ◌∙◌}
-use Rattle.std.proofs.lemmas.Bool.{lt-ltb, le-ltb}
+use Rattle.std.proofs.Common.{arith, ◌≡◌, ◌<◌, ℕ, ◌%◌, ◌^◌, Bool, false, nat_lt, List, [], ◌∷◌, Ok, Err, ◌==◌, ◌≢◌, inl, inr, ◌-◌, refl, ap, ◌∙◌}
+use Rattle.std.proofs.lemmas.Bool.{lt-ltb}
 use Rattle.std.proofs.lemmas.Bool.Decides.{eqb_tells}
 use Rattle.sv8_model.specs.Outside.{Outside}
 use Rattle.sv8_model.specs.declared.touch.Touch.TheVariants.{Levels}
@@ -11,10 +11,9 @@ use Rattle.sv8_model.proofs.Common.{does_map, does_done, does_if_true, does_if_f
 use Rattle.sv8_model.specs.declared.size.Size.{Size}
 use Rattle.sv8_model.specs.declared.size.Size.TheVariants.{Byte, Half, Word, Double}
 use Rattle.sv8_phys.specs.declared.timer.Timer.{Timer}
-use Rattle.sv8_phys.specs.declared.fault.BusError.{BusError}
 use Rattle.sv8_phys.specs.Memory.{value_at, with_value}
 use Rattle.sv8_model.specs.Devices.{output_address, count_address, reload_address, pending_address}
-use Rattle.sv8_phys.specs.Devices.{ram_load, ram_store, load, store, answered, outside_load, outside_store, device_load, device_store, no_answer, Stored, stored_with, tick}
+use Rattle.sv8_phys.specs.Devices.{ram_load, ram_store, load, answered, outside_load, device_load, device_store, no_answer, stored_with, tick}
 use Rattle.sv8_phys.specs.Notes.{load_touches, store_touches}
 
 -- ---- RAM

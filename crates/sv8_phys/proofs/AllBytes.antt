@@ -175,15 +175,20 @@ zero_byte n i = elim (cases_lt i n) [
 ]
 
 -- a part of zeros reads as one that is not there
-one_more : (parts : List (List ℕ)) (n p i : ℕ) → get_or (part_at (parts ++ zeros n ∷ []) p) i 0 ≡ get_or (part_at parts p) i 0
-one_more [] n zero i = zero_byte n i
-one_more [] n (suc p) i = refl
-one_more (part ∷ parts) n zero i = refl
-one_more (part ∷ parts) n (suc p) i = one_more parts n p i
+zeros_part : (k n p i : ℕ) → get_or (part_at (replicate k (zeros n)) p) i 0 ≡ 0
+zeros_part k n p i = elim (cases_lt p k) [
+  | inl below ↦ ap (λ bs. get_or bs i 0) (get_or-replicate k p (zeros n) [] below) ∙ zero_byte n i
+  | inr past ↦ ap (λ bs. get_or bs i 0) (get_or_past (replicate k (zeros n)) p [] (subst (λ m. m ≤ p) (sym (length-replicate k (zeros n))) past))
+]
 
--- a part of zeros more
-pub more-all : (size : ℕ) (s : IsSize size) (n : ℕ) (parts : List (List ℕ)) → all_bytes size n (parts ++ zeros size ∷ []) ≡ all_bytes size n parts
-more-all size s n parts = alike-all size s n (parts ++ zeros size ∷ []) parts (λ p i below. one_more parts size p i)
+some_more : (parts : List (List ℕ)) (k n p i : ℕ) → get_or (part_at (parts ++ replicate k (zeros n)) p) i 0 ≡ get_or (part_at parts p) i 0
+some_more [] k n p i = zeros_part k n p i
+some_more (part ∷ parts) k n zero i = refl
+some_more (part ∷ parts) k n (suc p) i = some_more parts k n p i
+
+-- some parts of zeros more
+pub more-all : (size : ℕ) (s : IsSize size) (n : ℕ) (parts : List (List ℕ)) (k : ℕ) → all_bytes size n (parts ++ replicate k (zeros size)) ≡ all_bytes size n parts
+more-all size s n parts k = alike-all size s n (parts ++ replicate k (zeros size)) parts (λ p i below. some_more parts k size p i)
 
 -- no parts
 pub none-all : (size : ℕ) (s : IsSize size) (n : ℕ) → all_bytes size n [] ≡ replicate (size * n) 0

@@ -9,7 +9,7 @@ use Rattle.std.specs.declared.alloc.Global.{Global}
 use Rattle.sv8_phys.specs.declared.chunk.Chunk.{Chunk}
 use Rattle.sv8_phys.specs.Chunks.{chunk_bytes}
 
-pub first_byte : (bytes : List ℕ) (byte : ℕ) → length bytes ≡ 4096 → get_or bytes 0 0 ≡ byte → take 1 bytes ≡ byte ∷ []
+pub first_byte : (bytes : List ℕ) (byte : ℕ) → length bytes ≡ 512 → get_or bytes 0 0 ≡ byte → take 1 bytes ≡ byte ∷ []
 first_byte [] byte h e = absurd (omega arith)
 first_byte (b ∷ bytes) byte h e = ap (λ x. x ∷ []) e
 

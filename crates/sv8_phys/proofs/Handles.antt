@@ -1,5 +1,5 @@
 -- What handles in a list hold: bytes of parts, also when one of them is replaced.
-use Rattle.std.proofs.Common.{Bool, true, false, MatchBool, ◌≡◌, refl, ℕ, zero, suc, ◌*◌, ◌/◌, ◌%◌, ◌<◌, List, [], ◌∷◌, length, map, get_or, set, sym, ap, ap₂, subst, ◌∙◌, arith}
+use Rattle.std.proofs.Common.{Bool, true, false, MatchBool, ◌≡◌, refl, ℕ, zero, suc, ◌*◌, ◌/◌, ◌%◌, ◌<◌, List, [], ◌∷◌, length, map, replicate, get_or, set, sym, ap, ap₂, subst, ◌∙◌, arith}
 use Rattle.std.proofs.lemmas.List.{get_or-map, length-map, map-set}
 use Rattle.std.proofs.Math.Seq.{map-set_same}
 use Rattle.std.specs.List.{AllZip}
@@ -30,6 +30,14 @@ answers false f g h = g h
 -- what a handle of the list holds
 pub behind : {H : Type 0} (held : H → List ℕ) (handles : List H) (p : ℕ) (d : H) → p < length handles → held (get_or handles p d) ≡ part_at (map held handles) p
 behind held handles p d below = sym (get_or-map held handles p d [] below)
+
+-- handles that all hold the same
+pub all_alike : {H A : Type 0} (held : H → A) (handles : List H) (n : ℕ) (x : A) (d : H) → length handles ≡ n → ((p : ℕ) → p < n → held (get_or handles p d) ≡ x) → map held handles ≡ replicate n x
+all_alike held [] zero x d long each = refl
+all_alike held [] (suc n) x d long each = absurd (omega (arith, long))
+all_alike held (h ∷ handles) zero x d long each = absurd (omega (arith, long))
+all_alike held (h ∷ handles) (suc n) x d long each =
+    ap₂ ◌∷◌ (each 0 (omega arith)) (all_alike held handles n x d (omega (arith, long)) (λ p below. each (suc p) (omega (arith, below))))
 
 -- each part has its size
 pub long : {H : Type 0} (held : H → List ℕ) (size : ℕ) → ((h : H) → length (held h) ≡ size) → (handles : List H) (p : ℕ) → p < length handles

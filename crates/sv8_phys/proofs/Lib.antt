@@ -5,6 +5,8 @@ pub mod OnePart
 pub mod AllBytes
 pub mod Handles
 pub mod BlockLemmas
+pub mod Around
+pub mod GroupLemmas
 pub mod PageLemmas
 pub mod Difference
 pub mod PendingWord

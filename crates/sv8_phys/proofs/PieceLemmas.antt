@@ -16,16 +16,16 @@ use Rattle.sv8_phys.specs.Laws.{PiecesAreTheOutput}
 -- ---- one piece
 
 -- where there is one, and where there is none
-piece_there : (bytes : List ℕ) (index : ℕ) → 4096 * index < length bytes → piece_of bytes index ≡ Some (take 4096 (drop (4096 * index) bytes))
+piece_there : (bytes : List ℕ) (index : ℕ) → 512 * index < length bytes → piece_of bytes index ≡ Some (take 512 (drop (512 * index) bytes))
 unfolding piece_of
 piece_there bytes index below = grind (arith, nat_tests)
 
-piece_past : (bytes : List ℕ) (index : ℕ) → length bytes ≤ 4096 * index → piece_of bytes index ≡ None
+piece_past : (bytes : List ℕ) (index : ℕ) → length bytes ≤ 512 * index → piece_of bytes index ≡ None
 unfolding piece_of
 piece_past bytes index past = grind (arith, nat_tests)
 
-module _ (front behind : List ℕ) (e : length front ≡ 4096) where
-  whole : length (front ++ behind) ≡ 4096 + length behind
+module _ (front behind : List ℕ) (e : length front ≡ 512) where
+  whole : length (front ++ behind) ≡ 512 + length behind
   whole = length-append front behind ∙ ap (λ n. n + length behind) e
 
   -- the piece in front
@@ -36,11 +36,11 @@ module _ (front behind : List ℕ) (e : length front ≡ 4096) where
 
   -- a piece behind it
   piece_behind : (index : ℕ) → piece_of (front ++ behind) (suc index) ≡ piece_of behind index
-  piece_behind index = elim (cases_lt (4096 * index) (length behind)) [
+  piece_behind index = elim (cases_lt (512 * index) (length behind)) [
     | inl below ↦
-        let at : 4096 * suc index ≡ length front + 4096 * index = omega (arith, e) in
+        let at : 512 * suc index ≡ length front + 512 * index = omega (arith, e) in
         piece_there (front ++ behind) (suc index) (omega (arith, whole))
-        ∙ ap (λ bytes. Some (take 4096 bytes)) (ap (λ n. drop n (front ++ behind)) at ∙ drop-append-add front behind (4096 * index))
+        ∙ ap (λ bytes. Some (take 512 bytes)) (ap (λ n. drop n (front ++ behind)) at ∙ drop-append-add front behind (512 * index))
         ∙ sym (piece_there behind index below)
     | inr past ↦ piece_past (front ++ behind) (suc index) (omega (arith, whole)) ∙ sym (piece_past behind index past)
   ]
@@ -85,7 +85,7 @@ tail_piece chunks tail index h e =
     let count = filled_length tail h in
     behind_chunks chunks (tail_bytes tail) index 0 (omega (arith, e))
     ∙ piece_there (tail_bytes tail) 0 (omega (arith, count, h.0))
-    ∙ ap Some (take_all 4096 (tail_bytes tail) (omega (arith, count, h.1)))
+    ∙ ap Some (take_all 512 (tail_bytes tail) (omega (arith, count, h.1)))
 
 -- and behind it there is none
 pub no_piece : (chunks : List (Rc Chunk Global)) (t : Option Tail) (index : ℕ) → IsWithin t → length chunks ≤ index → ((tail : Tail) → t ≡ Some tail → index ≢ length chunks)
@@ -105,31 +105,31 @@ no_piece chunks (Some tail) index h past other =
 some_is_none : {bytes : List ℕ} → Some bytes ≡ None → ⊥
 some_is_none e = cc
 
-piece_taken : (bytes : List ℕ) (index : ℕ) → bytes_of_piece (piece_of bytes index) ≡ take 4096 (drop (4096 * index) bytes)
-piece_taken bytes index = elim (cases_lt (4096 * index) (length bytes)) [
+piece_taken : (bytes : List ℕ) (index : ℕ) → bytes_of_piece (piece_of bytes index) ≡ take 512 (drop (512 * index) bytes)
+piece_taken bytes index = elim (cases_lt (512 * index) (length bytes)) [
   | inl below ↦ ap bytes_of_piece (piece_there bytes index below)
-  | inr past ↦ ap bytes_of_piece (piece_past bytes index past) ∙ sym (ap (take 4096) (drop_all (4096 * index) bytes past))
+  | inr past ↦ ap bytes_of_piece (piece_past bytes index past) ∙ sym (ap (take 512) (drop_all (512 * index) bytes past))
 ]
 
-pieces_taken : (bytes : List ℕ) (index : ℕ) → pieces_below index bytes ≡ take (4096 * index) bytes
+pieces_taken : (bytes : List ℕ) (index : ℕ) → pieces_below index bytes ≡ take (512 * index) bytes
 pieces_taken bytes zero = refl
 pieces_taken bytes (suc index) =
     ap₂ ◌++◌ (pieces_taken bytes index) (piece_taken bytes index)
-    ∙ sym (take-add (4096 * index) 4096 bytes)
+    ∙ sym (take-add (512 * index) 512 bytes)
     ∙ ap (λ n. take n bytes) (omega arith)
 
 pub pieces_are_output : PiecesAreTheOutput
 pieces_are_output = record {
-  whole = λ bytes index none. elim (cases_lt (4096 * index) (length bytes)) [
+  whole = λ bytes index none. elim (cases_lt (512 * index) (length bytes)) [
     | inl below ↦ absurd (some_is_none (sym (piece_there bytes index below) ∙ none))
-    | inr past ↦ pieces_taken bytes index ∙ take_all (4096 * index) bytes past
+    | inr past ↦ pieces_taken bytes index ∙ take_all (512 * index) bytes past
   ];
   ends = λ bytes. piece_past bytes (length bytes) (omega arith);
 }
 
 -- ---- the end
 
-pub chunks_length : (chunks : List (Rc Chunk Global)) → length (chunk_bytes chunks) ≡ 4096 * length chunks
+pub chunks_length : (chunks : List (Rc Chunk Global)) → length (chunk_bytes chunks) ≡ 512 * length chunks
 chunks_length [] = refl
 chunks_length (c ∷ chunks) =
     let rest = chunks_length chunks in
@@ -137,7 +137,7 @@ chunks_length (c ∷ chunks) =
     let full = c.value.full in
     omega (arith, whole, full, rest)
 
-pub output_length : (chunks : List (Rc Chunk Global)) (tail : Tail) → IsFilled tail → length (output_bytes chunks (Some tail)) ≡ 4096 * length chunks + tail.count
+pub output_length : (chunks : List (Rc Chunk Global)) (tail : Tail) → IsFilled tail → length (output_bytes chunks (Some tail)) ≡ 512 * length chunks + tail.count
 output_length chunks tail h =
     let count = filled_length tail h in
     let full = chunks_length chunks in
@@ -155,15 +155,15 @@ module _ (chunks : List (Rc Chunk Global)) (t : Option Tail) (size : ℕ) (bytes
   filled : (tail : Tail) → t ≡ Some tail → IsFilled tail
   filled tail e = subst IsWithin e h
 
-  tail_and_chunks : (tail : Tail) → t ≡ Some tail → length bytes ≡ 4096 * length chunks + tail.count
+  tail_and_chunks : (tail : Tail) → t ≡ Some tail → length bytes ≡ 512 * length chunks + tail.count
   tail_and_chunks tail e = ap length (sym is) ∙ ap (λ x. length (output_bytes chunks x)) e ∙ output_length chunks tail (filled tail e)
 
-  pub end_of_tail : (tail : Tail) → t ≡ Some tail → tail.count < 4096 → IsEnd bytes (record { piece = size; place = tail.count })
+  pub end_of_tail : (tail : Tail) → t ≡ Some tail → tail.count < 512 → IsEnd bytes (record { piece = size; place = tail.count })
   end_of_tail tail e room =
       let whole = tail_and_chunks tail e in
       record { all = omega (arith, whole, sized); inside = room }
 
-  pub end_of_full_tail : (tail : Tail) → t ≡ Some tail → 4096 ≤ tail.count → IsEnd bytes (record { piece = size + 1; place = 0 })
+  pub end_of_full_tail : (tail : Tail) → t ≡ Some tail → 512 ≤ tail.count → IsEnd bytes (record { piece = size + 1; place = 0 })
   end_of_full_tail tail e full =
       let whole = tail_and_chunks tail e in
       let f = filled tail e in

@@ -20,7 +20,7 @@ output_bytes chunks (Some tail) = chunk_bytes chunks ++ tail_bytes tail
 
 -- a tail has at least one byte, and at most as many as its chunk has room for
 abbrev pub IsFilled : Tail → Type 0
-IsFilled tail = (1 ≤ tail.count) × (tail.count ≤ 4096)
+IsFilled tail = (1 ≤ tail.count) × (tail.count ≤ 512)
 
 -- the same of the tail, if there is one
 abbrev pub IsWithin : Option Tail → Type 0

@@ -1,11 +1,12 @@
--- RAM in pages, pages in halves, and halves in blocks: lists of bytes in parts of equal size, behind their handles.
-use Rattle.std.specs.Prelude.{◌≡◌, ℕ, ◌+◌, ◌*◌, ◌/◌, ◌%◌, ◌<◌, List, [], ◌++◌, map, take, drop, slice_index, slice_index_or}
+-- RAM in groups, groups in halves of pages, and halves in blocks: lists of bytes in parts of equal size, behind their handles.
+use Rattle.std.specs.Prelude.{◌≡◌, ℕ, ◌+◌, ◌*◌, ◌/◌, ◌%◌, ◌<◌, List, [], ◌++◌, map, take, drop, slice_index, slice_index_or, slice_set, flat_map}
 use Rattle.std.specs.List.{range_with_len}
 use Rattle.std.specs.declared.rc.Rc.{Rc}
 use Rattle.std.specs.declared.alloc.Global.{Global}
 use Rattle.sv8_phys.specs.declared.block.Block.{Block}
 use Rattle.sv8_phys.specs.declared.half_page.HalfPage.{HalfPage}
 use Rattle.sv8_phys.specs.declared.halves.Halves.{Halves}
+use Rattle.sv8_phys.specs.declared.group.Group.{Group}
 use Rattle.sv8_model.specs.declared.size.Size.{Size}
 use Rattle.sv8_phys.specs.Memory.{ram_size, with_value, with_page}
 
@@ -41,20 +42,30 @@ halves_of handles = map (λ h. half_bytes h.value) handles
 abbrev pub page_bytes : Halves → List ℕ
 page_bytes page = all_bytes 2048 2 (halves_of page.halves)
 
--- the bytes of so many pages of RAM, of which those behind the last handle of a half are of zeros
-abbrev pub ram_bytes : ℕ → List (Rc HalfPage Global) → List ℕ
-ram_bytes pages handles = all_bytes 2048 (2 * pages) (halves_of handles)
+-- the bytes of each half of some groups, in order
+abbrev pub groups_halves : List (Rc Group Global) → List (List ℕ)
+groups_halves handles = flat_map (λ h. halves_of h.value.halves) handles
 
--- ---- what becomes of the handles of halves, for however many pages there are
+-- the bytes of so many pages of RAM, from those of their halves; halves behind the last one are of zeros
+abbrev pub ram_bytes : ℕ → List (List ℕ) → List ℕ
+ram_bytes pages halves = all_bytes 2048 (2 * pages) halves
+
+-- ---- what becomes of halves
+
+-- the low bytes of a number are written at a place in them
+abbrev pub with_value_in : Size → ℕ → ℕ → List (List ℕ) → List (List ℕ)
+with_value_in size at value halves = slice_set halves (at / 2048) (with_value size (at % 2048) value (part_at halves (at / 2048)))
+
+-- and of RAM, for however many pages there are
 
 -- RAM has the bytes that it had
-abbrev pub IsSame : List (Rc HalfPage Global) → List (Rc HalfPage Global) → Type 0
+abbrev pub IsSame : List (List ℕ) → List (List ℕ) → Type 0
 IsSame old new = (pages : ℕ) → ram_bytes pages new ≡ ram_bytes pages old
 
 -- the low bytes of a number are written at an address
-abbrev pub IsWritten : Size → ℕ → ℕ → List (Rc HalfPage Global) → List (Rc HalfPage Global) → Type 0
+abbrev pub IsWritten : Size → ℕ → ℕ → List (List ℕ) → List (List ℕ) → Type 0
 IsWritten size at value old new = (pages : ℕ) → at < ram_size pages → ram_bytes pages new ≡ with_value size at value (ram_bytes pages old)
 
 -- a page is put in the place of another one
-abbrev pub IsPut : ℕ → Halves → List (Rc HalfPage Global) → List (Rc HalfPage Global) → Type 0
+abbrev pub IsPut : ℕ → Halves → List (List ℕ) → List (List ℕ) → Type 0
 IsPut page halves old new = (pages : ℕ) → page < pages → ram_bytes pages new ≡ with_page (ram_bytes pages old) page (page_bytes halves)

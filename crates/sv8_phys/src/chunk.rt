@@ -6,13 +6,13 @@ use std::alloc::{AllocError, Global};
 use std::rc::Rc;
 
 /// The number of bytes of a chunk.
-pub(crate) const CHUNK_BYTES: usize = 4_096;
+pub(crate) const CHUNK_BYTES: usize = 512;
 
 /// Room for some bytes, which snapshots share until one of them writes.
 #[derive(Clone, Copy)]
 pub(crate) struct Chunk {
     pub(crate) bytes: [u8; CHUNK_BYTES],
-    ghost full: { length bytes ≡ 4096 },
+    ghost full: { length bytes ≡ 512 },
 }
 
 impl Chunk {
@@ -31,7 +31,7 @@ impl Chunk {
 
 /// Writes a byte of a chunk; of a shared chunk, to a copy.
 pub(crate) fn write(shared: &mut Rc<Chunk>, at: usize, byte: u8) -> Result<(), AllocError>
-    requires { at < 4096 }
+    requires { at < 512 }
     ensures ok { OnOk result (shared.new.value.bytes ≡ slice_set shared.old.value.bytes at byte) }
     ensures err { OnErr result (shared.new.value ≡ shared.old.value) }
 {
@@ -47,7 +47,7 @@ pub(crate) fn write(shared: &mut Rc<Chunk>, at: usize, byte: u8) -> Result<(), A
 #[cold]
 #[inline(never)]
 fn write_to_copy(shared: &mut Rc<Chunk>, at: usize, byte: u8) -> Result<(), AllocError>
-    requires { at < 4096 }
+    requires { at < 512 }
     ensures ok { OnOk result (shared.new.value.bytes ≡ slice_set shared.old.value.bytes at byte) }
     ensures err { OnErr result (shared.new.value ≡ shared.old.value) }
 {

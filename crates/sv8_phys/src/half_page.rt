@@ -42,16 +42,17 @@ impl HalfPage {
     ghost use Rattle.sv8_phys.specs.Memory.{with_value};
     ghost use Rattle.sv8_phys.specs.Parts.{half_bytes, part_of};
 
-    /// A half of zeros.
-    pub(crate) fn zero(alloc: Global) -> Result<HalfPage, AllocError>
-        ensures { IfOk result (λ half. half_bytes half ≡ replicate 2048 0) }
+    /// A half of zeros, behind a handle.
+    pub(crate) fn zero(alloc: Global) -> Result<Rc<HalfPage>, AllocError>
+        ensures { IfOk result (λ half. half_bytes half.value ≡ replicate 2048 0) }
     {
         let blocks = try_from_fn(
             |_place: usize|
                 ensures { IfOk result (λ block. block.value.bytes ≡ replicate 128 0) }
             { Rc::new(alloc, Block::zero()) },
         )?;
-        Ok(HalfPage { blocks })
+        let half = Rc::new(alloc, HalfPage { blocks })?;
+        Ok(half)
     }
 
     /// The block that a place in the half is in.

@@ -5,6 +5,7 @@ mod block;
 mod chunk;
 mod directory;
 mod fault;
+mod group;
 mod half_page;
 mod halves;
 mod levels;
@@ -13,7 +14,6 @@ mod page;
 mod phys;
 mod ram;
 mod timer;
-mod zeros;
 
 pub use fault::BusError;
 pub use output::OutputPlace;

@@ -10,7 +10,7 @@ use std::alloc::{AllocError, Global};
 use std::marker::Model;
 use std::rc::Rc;
 
-/// A place in the console's output: the index of a piece of 4,096 bytes, and a place in it.
+/// A place in the console's output: the index of a piece of 512 bytes, and a place in it.
 #[derive(Clone, Copy)]
 pub struct OutputPlace {
     pub piece: usize,
@@ -61,7 +61,7 @@ fn tail_of(alloc: Global, byte: u8) -> Result<Tail, AllocError>
 /// Puts a byte into a tail that has room for it.
 fn put(tail: &mut Tail, byte: u8) -> Result<(), AllocError>
     requires filled { IsFilled tail.old }
-    requires room { tail.old.count < 4096 }
+    requires room { tail.old.count < 512 }
     ensures ok { OnOk result (tail_bytes tail.new ≡ tail_bytes tail.old ++ byte ∷ []) }
     ensures err { OnErr result (tail_bytes tail.new ≡ tail_bytes tail.old) }
     ensures count { IsFilled tail.new }
@@ -128,7 +128,7 @@ fn copy_full(full: &[Rc<Chunk>], bytes: &mut Vec<u8>) -> Result<(), AllocError>
 
 /// The bytes of a tail.
 fn filled(tail: &Tail) -> &[u8]
-    requires { tail.now.count ≤ 4096 }
+    requires { tail.now.count ≤ 512 }
     ensures { result.now ≡ tail_bytes tail.now }
 {
     let (filled, _) = tail.chunk.bytes.split_at(tail.count);
@@ -227,7 +227,7 @@ impl Output {
         }
     }
 
-    /// The bytes from 4,096 * `index` on, at most 4,096 of them; `None` where there are none. It takes no memory.
+    /// The bytes from 512 * `index` on, at most 512 of them; `None` where there are none. It takes no memory.
     pub(crate) fn piece(&self, index: usize) -> Option<&[u8]>
         ensures { option_map (λ s. s.now) result ≡ piece_of self.now index }
     {

@@ -206,7 +206,7 @@ impl<const PAGES: usize> Phys<PAGES> {
         self.output.end()
     }
 
-    /// The bytes put out at the console so far, read where they lie: those from 4,096 * `index` on, at most 4,096 of them. `None`
+    /// The bytes put out at the console so far, read where they lie: those from 512 * `index` on, at most 512 of them. `None`
     /// where there are none. The pieces from index 0 up to the first `None` are the whole output.
     pub fn output_piece(&self, index: usize) -> Option<&[u8]>
         ensures { option_map (λ s. s.now) result ≡ piece_of self.now.output index }

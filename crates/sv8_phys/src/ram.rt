@@ -7,43 +7,45 @@ ghost use Rattle.sv8_phys.specs.Memory.{ram_size, value_at, with_value, page_of,
 ghost use Rattle.sv8_phys.specs.Parts.{half_bytes, part_of};
 
 use crate::block::{BLOCK_SIZE, Block};
-use crate::directory::{Directory, put_page, write};
+use crate::directory::Directory;
+use crate::group::Group;
 use crate::half_page::{HALF_SIZE, HalfPage};
 use crate::halves::Halves;
 use crate::page::{PAGE_SIZE, Page};
-use crate::zeros::Zeros;
 use std::alloc::{AllocError, Global};
 use std::marker::Model;
 use std::rc::Rc;
 use sv8_model::Size;
 
-/// `PAGES` pages of RAM from address 0 on. The directory may be shared with snapshots, and so may each half of a page and each block.
+/// `PAGES` pages of RAM from address 0 on. Each group, half of a page and block may be shared with snapshots.
 #[derive(Drop)]
 pub(crate) struct Ram<const PAGES: usize> {
-    directory: Rc<Directory>,
-    zeros: Rc<Zeros>,
+    directory: Directory,
+    zeros: Rc<Group>,
 }
 
 impl<const PAGES: usize> Model for Ram<PAGES> {
-    ghost use Rattle.std.specs.Prelude.{List, ℕ, ◌≤◌};
-    ghost use Rattle.sv8_phys.specs.Parts.{ram_bytes};
+    ghost use Rattle.std.specs.Prelude.{◌≡◌, List, ℕ, ◌≤◌, replicate};
+    ghost use Rattle.sv8_phys.specs.Parts.{groups_halves, halves_of, ram_bytes};
 
     ghost Value = { List ℕ };
 
-    ghost view = { λ m. ram_bytes PAGES m.directory.value.halves.items };
+    ghost view = { λ m. ram_bytes PAGES (groups_halves m.directory.groups.items) };
 
-    ghost invariant = { λ m. PAGES ≤ 65536 };
+    ghost invariant = { λ m. (PAGES ≤ 65536) × (halves_of m.zeros.value.halves ≡ replicate 16 (replicate 2048 0)) };
 }
 
 impl<const PAGES: usize> Ram<PAGES> {
-    /// RAM of zeros. It takes no more memory than the halves of zeros that stand for all that was never written.
+    /// RAM of zeros. It takes no more memory than the group of zeros that stands for all that was never written.
     pub(crate) fn new(alloc: Global) -> Result<Self, AllocError>
         requires { PAGES ≤ 65536 }
         ensures { IfOk result (λ m. m ≡ replicate (ram_size PAGES) 0) }
     {
-        let directory = Rc::new(alloc, Directory::new(alloc))?;
-        let zeros = Rc::new(alloc, Zeros::new(alloc)?)?;
-        Ok(Ram { directory, zeros })
+        let zeros = Rc::new(alloc, Group::zero(alloc)?)?;
+        Ok(Ram {
+            directory: Directory::new(alloc),
+            zeros,
+        })
     }
 
     /// How many bytes there are.
@@ -58,17 +60,13 @@ impl<const PAGES: usize> Ram<PAGES> {
         PAGES * PAGE_SIZE
     }
 
-    /// The handle of a half of a page, or of one of the halves of zeros where it was never written.
+    /// The handle of a half of a page, or of one of zeros where its group was never written.
     #[inline(always)]
     fn handle(&self, half: usize) -> &Rc<HalfPage>
         requires { half < 2 * PAGES }
         ensures { half_bytes result.now.value ≡ part_of 2048 self.now half }
     {
-        if half < self.directory.halves.len() {
-            &self.directory.halves[half]
-        } else {
-            self.zeros.half(half)
-        }
+        self.directory.half(&self.zeros, half)
     }
 
     /// The block that an address is in.
@@ -99,11 +97,11 @@ impl<const PAGES: usize> Ram<PAGES> {
         ensures ok { OnOk result (self.new ≡ with_value size at value self.old) }
         ensures err { OnErr result (self.new ≡ self.old) }
     {
-        write(&mut self.directory, &self.zeros, at, size, value)?;
+        self.directory.write(&self.zeros, at, size, value)?;
         Ok(())
     }
 
-    /// The same RAM, sharing its directory.
+    /// The same RAM, sharing its groups.
     pub(crate) fn snapshot(&self) -> Result<Self, AllocError>
         ensures { IfOk result (λ m. m ≡ self.now) }
     {
@@ -123,18 +121,14 @@ impl<const PAGES: usize> Ram<PAGES> {
         Ok(Page::from_halves(Halves::new(low, high)))
     }
 
-    /// Puts a page in the place of that of an address; a directory that is shared is copied first.
+    /// Puts a page in the place of that of an address; a group that is shared is copied first.
     pub(crate) fn put_page(&mut self, at: usize, page: Page) -> Result<(), AllocError>
         requires { at < ram_size PAGES }
         ensures ok { OnOk result (self.new ≡ with_page self.old (at / 4096) page) }
         ensures err { OnErr result (self.new ≡ self.old) }
     {
-        put_page(
-            &mut self.directory,
-            &self.zeros,
-            at / PAGE_SIZE,
-            page.halves(),
-        )?;
+        self.directory
+            .put_page(&self.zeros, at / PAGE_SIZE, page.halves())?;
         Ok(())
     }
 

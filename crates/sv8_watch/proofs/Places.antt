@@ -30,19 +30,19 @@ some_none e = cc
 module _ (output before : List ℕ) (p : OutputPlace) (end : IsEnd before p) where
   pub in_piece : (bytes : List ℕ) → Some bytes ≡ piece_of output p.piece → slice_get bytes p.place ≡ byte_put before output
   unfolding piece_of
-  in_piece bytes e = go (nat_lt (4096 * p.piece) (length output)) e where
-    go : (b : Bool) → Some bytes ≡ cond b (Some (take 4096 (drop (4096 * p.piece) output))) None → slice_get bytes p.place ≡ byte_put before output
+  in_piece bytes e = go (nat_lt (512 * p.piece) (length output)) e where
+    go : (b : Bool) → Some bytes ≡ cond b (Some (take 512 (drop (512 * p.piece) output))) None → slice_get bytes p.place ≡ byte_put before output
     go true f =
-        ap (λ bs. slice_get bs p.place) (same_some f) ∙ take_place 4096 p.place (drop (4096 * p.piece) output) end.inside
-        ∙ drop_place (4096 * p.piece) p.place output ∙ ap (slice_get output) end.all
+        ap (λ bs. slice_get bs p.place) (same_some f) ∙ take_place 512 p.place (drop (512 * p.piece) output) end.inside
+        ∙ drop_place (512 * p.piece) p.place output ∙ ap (slice_get output) end.all
     go false f = absurd (some_none f)
 
   pub in_none : None ≡ piece_of output p.piece → None ≡ byte_put before output
   unfolding piece_of
-  in_none e = go (nat_lt (4096 * p.piece) (length output)) refl e where
-    go : (b : Bool) → nat_lt (4096 * p.piece) (length output) ≡ b → None ≡ cond b (Some (take 4096 (drop (4096 * p.piece) output))) None → None ≡ byte_put before output
+  in_none e = go (nat_lt (512 * p.piece) (length output)) refl e where
+    go : (b : Bool) → nat_lt (512 * p.piece) (length output) ≡ b → None ≡ cond b (Some (take 512 (drop (512 * p.piece) output))) None → None ≡ byte_put before output
     go true t f = absurd (some_none (sym f))
     go false t f =
-        let past : length output ≤ 4096 * p.piece = ltb-false (4096 * p.piece) (length output) t in
+        let past : length output ≤ 512 * p.piece = ltb-false (512 * p.piece) (length output) t in
         let all = end.all in
         sym (slice_get_past output (length before) (omega (arith, past, all)))

@@ -1,8 +1,5 @@
-use Rattle.std.proofs.Common.{◌≡◌, ap}
-use Rattle.sv8_phys.specs.Parts.{half_bytes}
-use Rattle.sv8_phys.proofs.BlockLemmas.{in_half}
-use Rattle.sv8_phys.proofs.Handles.{shared}
+use Rattle.sv8_phys.proofs.GroupLemmas.{shared_groups}
 use Rattle.sv8_phys.proofs.directory.DirectoryClone.clone.Goals as goal
 
 pub returns : goal.returns
-returns c = record { cases = shared in_half (λ g h. h.value ≡ g.value) (λ g h e. ap half_bytes e) c.args.self.now.halves.items _ c.in_ok-halves.ensures.cases.0 }
+returns c = record { cases = shared_groups c.args.self.now.groups.items _ c.in_ok-groups.ensures.cases.0 }

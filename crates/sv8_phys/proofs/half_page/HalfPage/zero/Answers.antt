@@ -1,5 +1,5 @@
-use Rattle.std.proofs.Common.{◌≡◌, ◌<◌, ◌∙◌, sym, get_or, length, replicate, arith}
-use Rattle.sv8_phys.specs.Parts.{blocks_of}
+use Rattle.std.proofs.Common.{◌≡◌, ◌<◌, ◌∙◌, ap, sym, get_or, length, replicate, arith}
+use Rattle.sv8_phys.specs.Parts.{blocks_of, half_bytes}
 use Rattle.sv8_phys.proofs.AllBytes.{zeros-all}
 use Rattle.sv8_phys.proofs.BlockLemmas.{in_block}
 use Rattle.sv8_phys.proofs.Handles.{behind}
@@ -9,7 +9,8 @@ use Rattle.sv8_phys.proofs.half_page.HalfPage.zero.Goals as goal
 pub returns : goal.returns
 returns c =
     let blocks = c.in_ok-blocks.blocks in
-    zeros-all 128 of_block 16 (blocks_of blocks) (λ p below.
+    ap half_bytes c.in_ok-half.ensures.ok
+    ∙ zeros-all 128 of_block 16 (blocks_of blocks) (λ p below.
     let made = c.in_ok-blocks.ensures.ok in
     let inside : p < length blocks = omega (arith, made.long) in
     let any = made.each.2 in

@@ -1,7 +1,6 @@
 use Rattle.std.proofs.Common.{◌≡◌, ◌*◌, replicate, ap, ◌∙◌, arith}
-use Rattle.sv8_phys.specs.declared.directory.Directory.{Directory}
 use Rattle.sv8_phys.specs.Memory.{ram_size}
-use Rattle.sv8_phys.specs.Parts.{ram_bytes}
+use Rattle.sv8_phys.specs.Parts.{groups_halves, ram_bytes}
 use Rattle.sv8_phys.proofs.AllBytes.{none-all}
 use Rattle.sv8_phys.proofs.Sizes.{of_half}
 use Rattle.sv8_phys.proofs.ram.Ram.new.Goals as goal
@@ -10,7 +9,6 @@ pub returns : goal.returns
 returns g c =
     let n = g.row.PAGES in
     let size : 2048 * (2 * n) ≡ ram_size n = omega arith in
-    ap (λ (d : Directory). ram_bytes n d.halves.items) c.in_ok-directory.ensures.ok
-    ∙ ap (ram_bytes n) c.new.ensures
+    ap (λ groups. ram_bytes n (groups_halves groups)) c.new-2.ensures
     ∙ none-all 2048 of_half (2 * n)
     ∙ ap (λ k. replicate k 0) size
