@@ -350,7 +350,8 @@ impl<const PAGES: usize> Memory<PAGES> {
     ///
     /// # Errors
     ///
-    /// `AllocError` where RAM or the output is shared as often as can be counted.
+    /// `AllocError` where memory for the handles of RAM cannot be had, or where RAM or the output is shared as often as can be
+    /// counted.
     pub fn snapshot(&self, alloc: Global) -> Result<Self, AllocError>
         ensures { IfOk result (λ m. m ≡ self.now) }
     {

@@ -3,13 +3,14 @@ use Rattle.std.proofs.Common.{◌≡◌, ◌≢◌, ℕ, zero, suc, ◌+◌, ◌
 use Rattle.std.proofs.lemmas.Bool.{cases_eq}
 use Rattle.std.proofs.lemmas.List.Elements.{Contains-append_left, Contains-append_right, Contains-append_cases}
 use Rattle.std.specs.Prelude.{OnOk, OnErr}
+use Rattle.std.specs.Global.{Box}
 use Rattle.std.specs.Map.{lookup}
 use Rattle.lru.specs.LruCache.{LruCache, lru_cache, put_entries}
 use Rattle.lru.proofs.Splits.{Contains-cons, Contains-nil}
 use Rattle.lru.proofs.CallerLemmas.{Contains-lookup, Contains-put_entries}
 use Rattle.sv8_mmu.specs.declared.buffer.Key.{Key}
 use Rattle.sv8_mmu.specs.declared.walk.Walk.{Walk}
-use Rattle.sv8_mmu.specs.Kept.{Kept, places_of, if_kept, entries_of, is_marked, AreMarked, AreAmong, NoneReads, NoneReadsPage}
+use Rattle.sv8_mmu.specs.Kept.{Kept, places_of, if_kept, entries_of, walks_of, is_marked, AreMarked, AreAmong, NoneReads, NoneReadsPage}
 use Rattle.sv8_mmu.specs.contracts.buffer.KeyPartialEq as key
 
 pub same_key : (a b : Key) → key.TheImpl.eq-value.it a b ≡ true → a ≡ b
@@ -86,7 +87,21 @@ stored c new at w (Ok x) h g k m =
     ]
 stored c new at w (Err x) h g k m = inl (subst (λ z. Contains z.entries k) g m)
 
--- ---- the buffer's list: the memos, and then the cache
+-- ---- the buffer's list, behind a box
+
+-- what the box holds is the whole list
+pub in_box : (o : Option (Box (List Kept))) (walks : Box (List Kept)) (held all : List Kept) → walks_of o ≡ all → o ≡ Some walks → held ≡ walks.value → held ≡ all
+in_box o walks held all view is value = value ∙ sym (ap walks_of is) ∙ view
+
+-- what is among the walks in the box is among all
+pub among_box : (o : Option (Box (List Kept))) (walks : Box (List Kept)) (held new all : List Kept) → walks_of o ≡ all → o ≡ Some walks → held ≡ walks.value → AreAmong new held → AreAmong new all
+among_box o walks held new all view is value among = subst (AreAmong new) (in_box o walks held all view is value) among
+
+-- and so is what has not changed
+pub among_same : (o : Option (Box (List Kept))) (all : List Kept) → walks_of o ≡ all → AreAmong (walks_of o) all
+among_same o all view = subst (AreAmong (walks_of o)) view (λ k m. m)
+
+-- ---- that list: the memos, and then the cache
 
 -- what holds of each part holds of the whole
 pub each_part : (P : Kept → Type 0) (a b c d : List Kept) → ((k : Kept) → Contains a k → P k) → ((k : Kept) → Contains b k → P k) → ((k : Kept) → Contains c k → P k) → ((k : Kept) → Contains d k → P k)

@@ -1,5 +1,6 @@
 -- What a lookaside buffer keeps: walks, each with the context and the page that it is for. None of this shows in the definitions of an access.
 use Rattle.std.specs.Prelude.{◌≡◌, ◌≢◌, ◌<◌, ◌≤◌, ℕ, ◌+◌, ◌*◌, ◌/◌, ◌%◌, ◌^◌, Bool, true, false, List, [], ◌∷◌, map, take, length, slice_index_or, Contains, Option, Some, None, Result, Ok, Err}
+use Rattle.std.specs.Global.{Box}
 use Rattle.lru.specs.LruCache.{LruCache}
 use Rattle.sv8_model.specs.declared.touch.Touch.{Touch}
 use Rattle.sv8_model.specs.declared.touch.Touch.TheVariants.{Read}
@@ -60,6 +61,11 @@ if_kept (Some k) = k ∷ []
 abbrev pub entries_of : Option (LruCache Key Walk) → List Kept
 entries_of None = []
 entries_of (Some walks) = walks.entries
+
+-- the walks behind a box, which is made when the first is kept
+abbrev pub walks_of : Option (Box (List Kept)) → List Kept
+walks_of None = []
+walks_of (Some walks) = walks.value
 
 -- the flag of the page of RAM that a word is in
 abbrev pub is_marked : List Bool → ℕ → Bool

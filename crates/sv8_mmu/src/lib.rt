@@ -5,6 +5,7 @@ mod access_type;
 mod buffer;
 mod fault_type;
 mod faulting;
+mod kept_walks;
 mod memo;
 mod place;
 mod probing;

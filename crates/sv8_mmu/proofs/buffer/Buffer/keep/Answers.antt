@@ -1,13 +1,17 @@
-use Rattle.std.proofs.Common.{◌≡◌, ◌⊎◌, ◌++◌, Contains}
-use Rattle.sv8_mmu.specs.Kept.{Kept, if_kept, entries_of}
-use Rattle.sv8_mmu.proofs.Keeping.{one_more, marked_more}
+use Rattle.std.proofs.Common.{rules, ◌≡◌, ◌∙◌, ◌⊎◌, inl, inr, subst, Contains}
+use Rattle.lru.proofs.Splits.{Contains-nil}
+use Rattle.sv8_mmu.proofs.Keeping.{in_box}
 use Rattle.sv8_mmu.proofs.buffer.Buffer.keep.Goals as goal
 
-kept : (c : goal.After-store) (k : Kept) → Contains (if_kept c.self.inside.fetch_memo ++ if_kept c.self.inside.load_memo ++ if_kept c.self.inside.store_memo ++ entries_of c.store.new.cache) k → Contains c.args.self.now k ⊎ (k ≡ (c.args.key, c.args.walk))
-kept c = one_more c.self.inside.fetch_memo c.self.inside.load_memo c.self.inside.store_memo c.self.inside.cache c.args.self.now c.self.view_is c.store.new.cache (c.args.key, c.args.walk) c.store.ensures
+pub returns-in-Some : goal.returns-in-Some
+returns-in-Some c = λ k m.
+    let whole = in_box c.self.inside.walks c.in-Some.walks _ c.args.self.now c.self.view_is c.in-Some.is c.deref_mut.ensures.value in
+    subst (λ l. Contains l k ⊎ (k ≡ (c.args.key, c.args.walk))) whole (c.keep.ensures k m)
 
-pub invariant_of-self : goal.invariant_of-self
-invariant_of-self c = marked_more c.self.inside.pages c.mark.new.pages _ _ _ (c.args.key, c.args.walk) c.self.view_is c.self.invariant c.mark.ensures.kept c.mark.ensures.marked (kept c)
-
-pub returns : goal.returns
-returns c = kept c
+pub returns-in-Ok : goal.returns-in-Ok
+returns-in-Ok c = λ k m.
+    let same : c.match-self-2.self ≡ c.keep-in-Ok.new.self = search rules in
+    elim (c.keep-in-Ok.ensures k (subst (λ l. Contains l k) same m)) [
+      | inl was ↦ absurd (Contains-nil k (subst (λ l. Contains l k) (c.deref_mut-in-Ok.ensures.value ∙ c.in-Ok.ensures.ok ∙ c.new.ensures) was))
+      | inr p ↦ inr p
+    ]

@@ -1,6 +1,0 @@
-use Rattle.std.proofs.Common.{sym, subst}
-use Rattle.sv8_mmu.specs.Kept.{entries_of, AreAmong}
-use Rattle.sv8_mmu.proofs.buffer.drop_readers.Goals as goal
-
-pub returns-in-Some-clause-among : goal.returns-in-Some-clause-among
-returns-in-Some-clause-among c = subst (λ o. AreAmong c.drop_readers_from.new.walks.entries (entries_of o)) (sym c.in-Some.is) c.drop_readers_from.ensures.among
