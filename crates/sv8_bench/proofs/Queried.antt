@@ -10,12 +10,12 @@ use Rattle.sv8_source.specs.Text.{Text}
 use Rattle.sv8_cpu.specs.State.{State}
 use Rattle.sv8_cpu.specs.Run.{step}
 use Rattle.sv8_memory.specs.Events.{with_events}
-use Rattle.sv8_cpu.specs.Work.{counted}
+use Rattle.sv8_cpu.specs.Work.{counted, counted_by}
 use Rattle.sv8_cpu.specs.Recorded.{machine, event_at, AreEvents}
 use Rattle.sv8_reset.specs.Reset.{reset_state, run_of}
 use Rattle.sv8_reset.proofs.Runs.{state_is}
 use Rattle.sv8_edits.proofs.Common.{fed}
-use Rattle.sv8_trace.specs.Recorder.{steps_on, counted_by, RaisedUpTo}
+use Rattle.sv8_trace.specs.Recorder.{steps_on, RaisedUpTo}
 use Rattle.sv8_trace.specs.Recording.{Recording, fresh, blank, signs_of, last_point, recorded, trace_of, IsExtended}
 use Rattle.sv8_trace.specs.Signs.{signs_among}
 use Rattle.sv8_trace.proofs.Common.{signs_alike}

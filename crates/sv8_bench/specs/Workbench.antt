@@ -9,7 +9,8 @@ use Rattle.sv8_history.specs.Growing.{restored}
 use Rattle.sv8_phys.specs.Memory.{ram_size}
 use Rattle.sv8_cpu.specs.Recorded.{machine, AreEvents, IsSound}
 use Rattle.sv8_reset.specs.Reset.{reset_state, run_of}
-use Rattle.sv8_trace.specs.Recorder.{counted_by, RaisedUpTo}
+use Rattle.sv8_trace.specs.Recorder.{RaisedUpTo}
+use Rattle.sv8_cpu.specs.Work.{counted_by}
 use Rattle.sv8_trace.specs.Recording.{Recording, signs_of, trace_of}
 use Rattle.sv8_trace.specs.Signs.{signs_among}
 use Rattle.sv8_edits.specs.Changes.{RunChange, cells, input}

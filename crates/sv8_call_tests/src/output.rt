@@ -5,7 +5,6 @@ ghost use Rattle.std.specs.Prelude.{◌≡◌};
 use std::alloc::{AllocError, Global};
 use std::test::*;
 use sv8_cpu::{Machine, Work};
-use sv8_phys::NoTouches;
 use sv8_reset::reset;
 use sv8_source::Source;
 use sv8_time::Timeline;
@@ -34,7 +33,7 @@ fn advance(machine: Small, n: u32, timeline: &Timeline) -> Result<Small, AllocEr
     if timeline.delivered(n) < machine.taken() {
         return Err(AllocError);
     }
-    machine.step(n, timeline, &mut NoTouches, &mut Work::new())
+    machine.step(n, timeline, &mut Work::new())
 }
 
 /// Whether the first two pieces are these.

@@ -204,7 +204,7 @@ fn after_four(alloc: Global, machine: Small) -> Result<Small, AllocError> {
         if timeline.delivered(n) < machine.taken() {
             return Err(AllocError);
         }
-        machine = machine.step(n, &timeline, &mut NoTouches, &mut Work::new())?;
+        machine = machine.step(n, &timeline, &mut Work::new())?;
     }
     Ok(machine)
 }

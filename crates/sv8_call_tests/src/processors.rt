@@ -3,7 +3,6 @@
 use std::alloc::{AllocError, Global};
 use std::test::*;
 use sv8_cpu::{Machine, Work};
-use sv8_phys::NoTouches;
 use sv8_reset::reset;
 use sv8_source::Source;
 use sv8_time::Timeline;
@@ -80,7 +79,7 @@ fn run(alloc: Global, machine: Small, steps: u32) -> Result<Small, AllocError> {
         if timeline.delivered(n) < machine.taken() {
             return Err(AllocError);
         }
-        machine = machine.step(n, &timeline, &mut NoTouches, &mut Work::new())?;
+        machine = machine.step(n, &timeline, &mut Work::new())?;
     }
     Ok(machine)
 }

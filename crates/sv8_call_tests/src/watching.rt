@@ -4,7 +4,7 @@ ghost use Rattle.std.specs.Prelude.{◌≡◌};
 
 use std::alloc::{AllocError, Global};
 use std::test::*;
-use sv8_cpu::{Machine, Work};
+use sv8_cpu::Machine;
 use sv8_phys::{AccessKind, Observation, Touch, Touches};
 use sv8_reset::reset;
 use sv8_source::Source;
@@ -21,8 +21,9 @@ struct Notes {
 
 impl Touches for Notes {
     ghost use Rattle.std.specs.Prelude.{true};
+    ghost use Rattle.sv8_model.specs.Does.{keeping};
 
-    const KEEPS: bool = true;
+    ghost NOTING = { keeping true true };
 
     ghost KEEPS = { true };
 
@@ -71,7 +72,7 @@ fn watch(
         observations: Vec::new(alloc),
     };
     let mut machine = machine;
-    machine.watch(n, timeline, &mut notes, &mut Work::new())?;
+    machine.watch(n, timeline, &mut notes)?;
     let is_due = notes.observations.as_slice() == due;
     Ok((machine, is_due))
 }

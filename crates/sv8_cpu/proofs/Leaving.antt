@@ -2,7 +2,7 @@
 use Rattle.std.proofs.Common.{◌≡◌, ◌∙◌, ℕ, zero, suc, ◌+◌, ◌-◌, ◌≤◌, List, [], ◌∷◌, length, drop, sym, ap, subst, arith}
 use Rattle.sv8_model.specs.Outside.{Outside, without_oldest}
 use Rattle.sv8_model.specs.Action.{Action, done, load_word, store_word, load_byte, store_byte, take_input, count_waiting, emit, ask_levels, clear_levels, expire, observe, result_of, after}
-use Rattle.sv8_model.specs.Does.{Does, Keeps, Notes}
+use Rattle.sv8_model.specs.Does.{Does, Noting}
 use Rattle.sv8_phys.specs.Contents.{Contents, outside_of}
 use Rattle.sv8_phys.specs.declared.timer.Timer.{Timer}
 use Rattle.sv8_trap.specs.Processor.{Processor}
@@ -52,11 +52,11 @@ contents_are : (m : Contents) (taken : ℕ) (timer : Timer) → m.taken ≡ take
 contents_are m taken timer e f =
     ap {A = ℕ} {B = Contents} (λ x. record m { taken = x }) e ∙ ap {A = Timer} {B = Contents} (λ x. record m { taken = taken; timer = x }) f
 
-pub left : (keeps : Keeps) (a : Action Inner) (bytes : List ℕ) (m m1 : Contents) (y : Inner) (s : State) (ns ns1 : Notes) → m.taken ≤ length bytes → m1.taken ≤ length bytes
-    → Does keeps a (outside_of m bytes) (outside_of m1 bytes) y ns ns1
+pub left : (way : Noting) (a : Action Inner) (bytes : List ℕ) (m m1 : Contents) (y : Inner) (s : State) (ns ns1 : way.Taken) → m.taken ≤ length bytes → m1.taken ≤ length bytes
+    → Does way a (outside_of m bytes) (outside_of m1 bytes) y ns ns1
     → s.processor ≡ y.processor → s.mmu ≡ y.units.mmu → s.memory ≡ m1 → m1.timer ≡ y.units.timer
     → s ≡ left_by (result_of a (outside_of m bytes)) m (outside_of m bytes) (after a (outside_of m bytes))
-left keeps a bytes m m1 y s ns ns1 h k d p u c t =
+left way a bytes m m1 y s ns ns1 h k d p u c t =
     let falls : length (drop m1.taken bytes) ≤ length (drop m.taken bytes) = subst (λ o. length o.waiting ≤ length (drop m.taken bytes)) (sym d.outside) (waiting_falls a (outside_of m bytes)) in
     let old : length (drop m.taken bytes) ≡ length bytes - m.taken = length-dropped m.taken bytes in
     let new : length (drop m1.taken bytes) ≡ length bytes - m1.taken = length-dropped m1.taken bytes in

@@ -1,10 +1,9 @@
 //! The machine, one step at a time.
 
 ghost use Rattle.std.specs.Prelude.{◌≡◌, ◌+◌, ◌<◌, ◌≤◌, ◌/◌, [], IfOk, OnOk, OnErr};
-ghost use Rattle.sv8_model.specs.Does.{noting, keeping};
-ghost use Rattle.sv8_touches.specs.Told.{told};
-ghost use Rattle.sv8_cpu.specs.Run.{seen, step, footprint, observed};
-ghost use Rattle.sv8_time.specs.Schedule.{bytes_below};
+ghost use Rattle.sv8_model.specs.Does.{noting};
+ghost use Rattle.sv8_cpu.specs.Run.{acted_on, seen, step, step_action, footprint, observed, touched};
+ghost use Rattle.sv8_time.specs.Schedule.{arrived, bytes_below, pokes_of_step, requests_of_step};
 ghost use Rattle.sv8_trap.specs.Table.{taken};
 ghost use Rattle.sv8_phys.specs.Memory.{ram_size};
 ghost use Rattle.sv8_cpu.specs.Step.{instruction};
@@ -19,10 +18,28 @@ use std::marker::Model;
 use sv8_memory::{Feed, Memory};
 use sv8_phys::{NoTouches, Phys, Touches};
 use sv8_time::Timeline;
-use sv8_touches::StepTouches;
 use sv8_trap::Processor;
 
-/// Step n: its events, and then what it does. All that it touches, and what is to be seen of it, is noted as it comes.
+/// What step n does behind its events. All that it touches, and what is to be seen of it, is noted as it comes.
+#[inline(always)]
+fn act_in_step<const NW: usize, const PAGES: usize, T: Touches>(
+    parts: &mut Parts<NW, PAGES>,
+    n: u32,
+    timeline: &Timeline,
+    notes: &mut T,
+) -> Result<(), AllocError>
+    requires few_windows { NW ≤ 32 }
+    requires delivered { parts.old.memory.phys.taken ≤ bytes_below n timeline.now.inputs }
+    ensures ok { OnOk result (state_of parts.new ≡ acted_on (arrived (n + 1) timeline.now) (state_of parts.old) (step_action NW PAGES (state_of parts.old))) }
+    ensures taken { OnOk result (parts.new.memory.phys.taken ≤ bytes_below (n + 1) timeline.now.inputs) }
+    ensures noted { OnOk result (T.noted notes.new ≡ noting T.NOTING (T.noted notes.old)
+        (touched NW PAGES (arrived (n + 1) timeline.now) (state_of parts.old)) (seen NW PAGES (arrived (n + 1) timeline.now) (state_of parts.old))) }
+{
+    parts.act(Feed::of_step(n, timeline), notes)?;
+    Ok(())
+}
+
+/// Step n: its events, and then what it does.
 #[inline(always)]
 #[tactic(auto, unfolding(crate::specs::Run::step, crate::specs::Run::footprint, crate::specs::Run::observed))]
 fn make_step<const NW: usize, const PAGES: usize, T: Touches>(
@@ -36,11 +53,33 @@ fn make_step<const NW: usize, const PAGES: usize, T: Touches>(
     requires delivered { parts.old.memory.phys.taken ≤ bytes_below n timeline.now.inputs }
     ensures ok { OnOk result (state_of parts.new ≡ step NW PAGES timeline.now n (state_of parts.old)) }
     ensures taken { OnOk result (parts.new.memory.phys.taken ≤ bytes_below (n + 1) timeline.now.inputs) }
-    ensures noted { OnOk result (T.noted notes.new ≡ noting (keeping T.KEEPS T.OBSERVES) (T.noted notes.old)
+    ensures noted { OnOk result (T.noted notes.new ≡ noting T.NOTING (T.noted notes.old)
         (footprint NW PAGES timeline.now n (state_of parts.old)) (observed NW PAGES timeline.now n (state_of parts.old))) }
 {
     parts.memory.happen(n, timeline)?;
-    parts.act(Feed::of_step(n, timeline), notes)?;
+    act_in_step(parts, n, timeline, notes)?;
+    Ok(())
+}
+
+/// Step n, at which the timeline has neither pokes nor requests.
+#[inline(always)]
+#[tactic(auto, using(sv8_memory::proofs::Poking::quiet), unfolding(crate::specs::Run::step, crate::specs::Run::footprint, crate::specs::Run::observed))]
+fn make_quiet_step<const NW: usize, const PAGES: usize, T: Touches>(
+    parts: &mut Parts<NW, PAGES>,
+    n: u32,
+    timeline: &Timeline,
+    notes: &mut T,
+) -> Result<(), AllocError>
+    requires few_windows { NW ≤ 32 }
+    requires delivered { parts.old.memory.phys.taken ≤ bytes_below n timeline.now.inputs }
+    requires no_pokes { pokes_of_step n timeline.now.pokes ≡ [] }
+    requires no_requests { requests_of_step n timeline.now.requests ≡ [] }
+    ensures ok { OnOk result (state_of parts.new ≡ step NW PAGES timeline.now n (state_of parts.old)) }
+    ensures taken { OnOk result (parts.new.memory.phys.taken ≤ bytes_below (n + 1) timeline.now.inputs) }
+    ensures noted { OnOk result (T.noted notes.new ≡ noting T.NOTING (T.noted notes.old)
+        (footprint NW PAGES timeline.now n (state_of parts.old)) (observed NW PAGES timeline.now n (state_of parts.old))) }
+{
+    act_in_step(parts, n, timeline, notes)?;
     Ok(())
 }
 
@@ -50,17 +89,12 @@ fn make_step<const NW: usize, const PAGES: usize, T: Touches>(
 /// another way.
 pub struct Machine<const NW: usize, const PAGES: usize> {
     pub parts: Box<Parts<NW, PAGES>>,
-    /// The notes of the step under way.
-    pub(crate) touches: StepTouches,
 }
 
 // Written out, so that crates above prove no drop of its parts.
 impl<const NW: usize, const PAGES: usize> Drop for Machine<NW, PAGES> {
     fn drop(self) {
-        let Machine {
-            parts: _,
-            touches: _,
-        } = self;
+        let Machine { parts: _ } = self;
     }
 }
 
@@ -94,121 +128,94 @@ impl<const NW: usize, const PAGES: usize> Machine<NW, PAGES> {
             memory: Memory::new(alloc, phys),
         };
         let parts = Box::new(alloc, parts)?;
-        Ok(Machine {
-            parts,
-            touches: StepTouches::new(alloc),
-        })
+        Ok(Machine { parts })
     }
 
     /// Step n (section 5.1.2 for the order of PC and nPC, chapter 7 for traps and interrupts): the events of n in the
     /// timeline, and then the timer, and an interrupt, an annulled slot or one instruction. In error mode only the events
-    /// happen.
-    ///
-    /// What the step touches is told to `notes`, where those keep notes, and `work` counts the step.
+    /// happen. `work` counts the step.
     ///
     /// # Errors
     ///
-    /// `AllocError` where memory for a page, for the output or for a note cannot be had. The machine is given up with it, and
-    /// a caller that wants to go on must go back to an earlier state; `work` stays.
+    /// `AllocError` where memory for a page or for the output cannot be had. The machine is given up with it, and a caller
+    /// that wants to go on must go back to an earlier state; `work` stays.
     #[inline]
-    pub fn step<T: Touches>(
-        self,
-        n: u32,
-        timeline: &Timeline,
-        notes: &mut T,
-        work: &mut Work,
-    ) -> Result<Self, AllocError>
+    pub fn step(self, n: u32, timeline: &Timeline, work: &mut Work) -> Result<Self, AllocError>
         requires limit { timeline.now.limit ≡ ram_size PAGES }
         requires delivered { self.memory.taken ≤ bytes_below n timeline.now.inputs }
         ensures ok { IfOk result (λ m. m ≡ step NW PAGES timeline.now n self.entry) }
         ensures delivered { IfOk result (λ m. m.memory.taken ≤ bytes_below (n + 1) timeline.now.inputs) }
-        ensures noted { OnOk result (T.noted notes.new ≡ noting (keeping T.KEEPS T.OBSERVES) (T.noted notes.old) (told (footprint NW PAGES timeline.now n self.entry)) []) }
         ensures counted { OnOk result (work.new ≡ counted work.old) }
         ensures uncounted { OnErr result (work.new ≡ work.old) }
     {
         let mut machine = self;
-        machine.step_in_place(n, timeline, notes, work)?;
+        machine.pass(n, timeline)?;
+        work.raise();
         Ok(machine)
     }
 
-    /// Step n, as `step` makes it, for an observer: `notes` takes each touch as it comes, where `step` tells a step's
-    /// touches at its end and each once, and it takes what is to be seen of the step. The machine is changed where it
-    /// stands.
+    /// Step n, as `step` makes it, for an observer: `notes` takes each touch as it comes, and what is to be seen of the
+    /// step. The machine is changed where it stands. Who calls it counts the step.
     ///
     /// # Errors
     ///
-    /// Those of `step`. What the machine is then is not said, and a caller that wants to go on must go back to an earlier
-    /// state.
+    /// Those of `step`, and `AllocError` where memory for a note cannot be had. What the machine is then is not said, and a
+    /// caller that wants to go on must go back to an earlier state.
     #[inline(always)]
     pub fn watch<T: Touches>(
         &mut self,
         n: u32,
         timeline: &Timeline,
         notes: &mut T,
-        work: &mut Work,
     ) -> Result<(), AllocError>
         requires limit { timeline.now.limit ≡ ram_size PAGES }
         requires delivered { self.old.memory.taken ≤ bytes_below n timeline.now.inputs }
         ensures ok { OnOk result (self.new ≡ step NW PAGES timeline.now n self.old) }
         ensures delivered { OnOk result (self.new.memory.taken ≤ bytes_below (n + 1) timeline.now.inputs) }
-        ensures noted { OnOk result (T.noted notes.new ≡ noting (keeping T.KEEPS T.OBSERVES) (T.noted notes.old)
+        ensures noted { OnOk result (T.noted notes.new ≡ noting T.NOTING (T.noted notes.old)
             (footprint NW PAGES timeline.now n self.old) (observed NW PAGES timeline.now n self.old)) }
-        ensures counted { OnOk result (work.new ≡ counted work.old) }
-        ensures uncounted { OnErr result (work.new ≡ work.old) }
     {
         make_step(&mut self.parts, n, timeline, notes)?;
-        work.raise();
         Ok(())
     }
 
-    /// The same with no notes.
+    /// The same of a step at which the timeline has neither pokes nor requests, so that it looks for none.
     ///
     /// # Errors
     ///
     /// Those of `watch`.
     #[inline(always)]
-    pub fn pass(&mut self, n: u32, timeline: &Timeline, work: &mut Work) -> Result<(), AllocError>
-        requires limit { timeline.now.limit ≡ ram_size PAGES }
-        requires delivered { self.old.memory.taken ≤ bytes_below n timeline.now.inputs }
-        ensures ok { OnOk result (self.new ≡ step NW PAGES timeline.now n self.old) }
-        ensures delivered { OnOk result (self.new.memory.taken ≤ bytes_below (n + 1) timeline.now.inputs) }
-        ensures counted { OnOk result (work.new ≡ counted work.old) }
-        ensures uncounted { OnErr result (work.new ≡ work.old) }
-    {
-        make_step(&mut self.parts, n, timeline, &mut NoTouches)?;
-        work.raise();
-        Ok(())
-    }
-
-    /// Step n, as `step` makes it. The machine is changed where it stands.
-    ///
-    /// # Errors
-    ///
-    /// Those of `watch`.
-    #[inline(always)]
-    pub fn step_in_place<T: Touches>(
+    pub fn watch_quiet<T: Touches>(
         &mut self,
         n: u32,
         timeline: &Timeline,
         notes: &mut T,
-        work: &mut Work,
     ) -> Result<(), AllocError>
+        requires delivered { self.old.memory.taken ≤ bytes_below n timeline.now.inputs }
+        requires no_pokes { pokes_of_step n timeline.now.pokes ≡ [] }
+        requires no_requests { requests_of_step n timeline.now.requests ≡ [] }
+        ensures ok { OnOk result (self.new ≡ step NW PAGES timeline.now n self.old) }
+        ensures delivered { OnOk result (self.new.memory.taken ≤ bytes_below (n + 1) timeline.now.inputs) }
+        ensures noted { OnOk result (T.noted notes.new ≡ noting T.NOTING (T.noted notes.old)
+            (footprint NW PAGES timeline.now n self.old) (observed NW PAGES timeline.now n self.old)) }
+    {
+        make_quiet_step(&mut self.parts, n, timeline, notes)?;
+        Ok(())
+    }
+
+    /// Step n, as `watch` makes it, with no notes.
+    ///
+    /// # Errors
+    ///
+    /// Those of `watch`.
+    #[inline(always)]
+    pub fn pass(&mut self, n: u32, timeline: &Timeline) -> Result<(), AllocError>
         requires limit { timeline.now.limit ≡ ram_size PAGES }
         requires delivered { self.old.memory.taken ≤ bytes_below n timeline.now.inputs }
         ensures ok { OnOk result (self.new ≡ step NW PAGES timeline.now n self.old) }
         ensures delivered { OnOk result (self.new.memory.taken ≤ bytes_below (n + 1) timeline.now.inputs) }
-        ensures noted { OnOk result (T.noted notes.new ≡ noting (keeping T.KEEPS T.OBSERVES) (T.noted notes.old) (told (footprint NW PAGES timeline.now n self.old)) []) }
-        ensures counted { OnOk result (work.new ≡ counted work.old) }
-        ensures uncounted { OnErr result (work.new ≡ work.old) }
     {
-        if T::KEEPS {
-            self.touches.clear();
-            make_step(&mut self.parts, n, timeline, &mut self.touches)?;
-            self.touches.tell(notes)?;
-        } else {
-            make_step(&mut self.parts, n, timeline, &mut NoTouches)?;
-        }
-        work.raise();
+        make_step(&mut self.parts, n, timeline, &mut NoTouches)?;
         Ok(())
     }
 }

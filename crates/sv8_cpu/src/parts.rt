@@ -2,7 +2,7 @@
 
 ghost use Rattle.std.specs.Prelude.{◌≡◌, ◌<◌, ◌/◌, [], None, OnOk};
 ghost use Rattle.sv8_isa.specs.Registers.{HasRegisters};
-ghost use Rattle.sv8_model.specs.Does.{kept, noting, keeping};
+ghost use Rattle.sv8_model.specs.Does.{kept, noting};
 ghost use Rattle.sv8_cpu.specs.Run.{step};
 ghost use Rattle.sv8_trap.specs.Table.{taken};
 ghost use Rattle.sv8_phys.specs.Memory.{ram_size};
@@ -30,7 +30,7 @@ pub struct Parts<const NW: usize, const PAGES: usize> {
 /// Lets an observer see the trap that a refused access raises.
 #[inline(always)]
 pub fn show_refusal<T: Touches>(response: Response, notes: &mut T) -> Result<(), AllocError>
-    ensures { OnOk result (T.noted notes.new ≡ noting (keeping T.KEEPS T.OBSERVES) (T.noted notes.old) [] (refusal_seen response)) }
+    ensures { OnOk result (T.noted notes.new ≡ noting T.NOTING (T.noted notes.old) [] (refusal_seen response)) }
 {
     match response {
         Response::Value(_) => Ok(()),
@@ -63,7 +63,7 @@ impl<const NW: usize, const PAGES: usize> Parts<NW, PAGES> {
         requires registers { HasRegisters instr }
         requires no_trap { taken (raised NW self.old.processor instr) ≡ None }
         requires fed { IsFed feed self.old.memory.phys }
-        ensures { OnOk result (Acts (keeping T.KEEPS T.OBSERVES) feed.entry (executed NW (ram_size PAGES) (inner_of_parts self.old) instr None)
+        ensures { OnOk result (Acts T.NOTING feed.entry (executed NW (ram_size PAGES) (inner_of_parts self.old) instr None)
             self.old self.new (T.noted notes.old) (T.noted notes.new)) }
     {
         let request = asked(&self.processor, instr);
@@ -83,7 +83,7 @@ impl<const NW: usize, const PAGES: usize> Parts<NW, PAGES> {
     ) -> Result<(), AllocError>
         requires registers { HasRegisters instr }
         requires fed { IsFed feed self.old.memory.phys }
-        ensures { OnOk result (Acts (keeping T.KEEPS T.OBSERVES) feed.entry (executed NW (ram_size PAGES) (inner_of_parts self.old) instr (taken (raised NW self.old.processor instr)))
+        ensures { OnOk result (Acts T.NOTING feed.entry (executed NW (ram_size PAGES) (inner_of_parts self.old) instr (taken (raised NW self.old.processor instr)))
             self.old self.new (T.noted notes.old) (T.noted notes.new)) }
     {
         match raised_by(&self.processor, instr) {
@@ -109,7 +109,7 @@ impl<const NW: usize, const PAGES: usize> Parts<NW, PAGES> {
         notes: &mut T,
     ) -> Result<(), AllocError>
         requires fed { IsFed feed self.old.memory.phys }
-        ensures { OnOk result (Acts (keeping T.KEEPS T.OBSERVES) feed.entry (carried_out NW (ram_size PAGES) (inner_of_parts self.old) word)
+        ensures { OnOk result (Acts T.NOTING feed.entry (carried_out NW (ram_size PAGES) (inner_of_parts self.old) word)
             self.old self.new (T.noted notes.old) (T.noted notes.new)) }
     {
         self.execute(decode(word), feed, notes)?;
@@ -125,7 +125,7 @@ impl<const NW: usize, const PAGES: usize> Parts<NW, PAGES> {
         notes: &mut T,
     ) -> Result<(), AllocError>
         requires fed { IsFed feed self.old.memory.phys }
-        ensures { OnOk result (Acts (keeping T.KEEPS T.OBSERVES) feed.entry (carried_out NW (ram_size PAGES) (inner_of_parts self.old) word)
+        ensures { OnOk result (Acts T.NOTING feed.entry (carried_out NW (ram_size PAGES) (inner_of_parts self.old) word)
             self.old self.new (T.noted notes.old) (T.noted notes.new)) }
     {
         match group(word) {
@@ -149,7 +149,7 @@ impl<const NW: usize, const PAGES: usize> Parts<NW, PAGES> {
         notes: &mut T,
     ) -> Result<(), AllocError>
         requires fed { IsFed feed self.old.memory.phys }
-        ensures { OnOk result (Acts (keeping T.KEEPS T.OBSERVES) feed.entry (fetched NW (ram_size PAGES) self.old.processor response (units_of self.old.memory))
+        ensures { OnOk result (Acts T.NOTING feed.entry (fetched NW (ram_size PAGES) self.old.processor response (units_of self.old.memory))
             self.old self.new (T.noted notes.old) (T.noted notes.new)) }
     {
         match response {
@@ -174,7 +174,7 @@ impl<const NW: usize, const PAGES: usize> Parts<NW, PAGES> {
         notes: &mut T,
     ) -> Result<(), AllocError>
         requires fed { IsFed feed self.old.memory.phys }
-        ensures { OnOk result (Acts (keeping T.KEEPS T.OBSERVES) feed.entry (instruction NW (ram_size PAGES) (inner_of_parts self.old))
+        ensures { OnOk result (Acts T.NOTING feed.entry (instruction NW (ram_size PAGES) (inner_of_parts self.old))
             self.old self.new (T.noted notes.old) (T.noted notes.new)) }
     {
         let request = AccessRequest::Fetch {
@@ -194,7 +194,7 @@ impl<const NW: usize, const PAGES: usize> Parts<NW, PAGES> {
         notes: &mut T,
     ) -> Result<(), AllocError>
         requires fed { IsFed feed self.old.memory.phys }
-        ensures { OnOk result (Acts (keeping T.KEEPS T.OBSERVES) feed.entry (instruction NW (ram_size PAGES) (inner_of_parts self.old))
+        ensures { OnOk result (Acts T.NOTING feed.entry (instruction NW (ram_size PAGES) (inner_of_parts self.old))
             self.old self.new (T.noted notes.old) (T.noted notes.new)) }
     {
         let supervisor = self.processor.registers().psr().s;
@@ -216,7 +216,7 @@ impl<const NW: usize, const PAGES: usize> Parts<NW, PAGES> {
     #[tactic(auto, unfolding(crate::specs::Step::continued))]
     fn go_on<T: Touches>(&mut self, feed: Feed<'_>, notes: &mut T) -> Result<(), AllocError>
         requires fed { IsFed feed self.old.memory.phys }
-        ensures { OnOk result (Acts (keeping T.KEEPS T.OBSERVES) feed.entry (continued NW (ram_size PAGES) (inner_of_parts self.old))
+        ensures { OnOk result (Acts T.NOTING feed.entry (continued NW (ram_size PAGES) (inner_of_parts self.old))
             self.old self.new (T.noted notes.old) (T.noted notes.new)) }
     {
         if self.processor.annul() {
@@ -237,7 +237,7 @@ impl<const NW: usize, const PAGES: usize> Parts<NW, PAGES> {
         notes: &mut T,
     ) -> Result<(), AllocError>
         requires fed { IsFed feed self.old.memory.phys }
-        ensures { OnOk result (Acts (keeping T.KEEPS T.OBSERVES) feed.entry (requested NW (ram_size PAGES) (inner_of_parts self.old) levels)
+        ensures { OnOk result (Acts T.NOTING feed.entry (requested NW (ram_size PAGES) (inner_of_parts self.old) levels)
             self.old self.new (T.noted notes.old) (T.noted notes.new)) }
     {
         match highest_level(levels) {
@@ -262,7 +262,7 @@ impl<const NW: usize, const PAGES: usize> Parts<NW, PAGES> {
         notes: &mut T,
     ) -> Result<(), AllocError>
         requires fed { IsFed feed self.old.memory.phys }
-        ensures { OnOk result (Acts (keeping T.KEEPS T.OBSERVES) feed.entry (interruptible NW (ram_size PAGES) (inner_of_parts self.old))
+        ensures { OnOk result (Acts T.NOTING feed.entry (interruptible NW (ram_size PAGES) (inner_of_parts self.old))
             self.old self.new (T.noted notes.old) (T.noted notes.new)) }
     {
         if self.processor.registers().psr().et {
@@ -280,7 +280,7 @@ impl<const NW: usize, const PAGES: usize> Parts<NW, PAGES> {
     #[tactic(auto, unfolding(crate::specs::Step::action))]
     pub fn act<T: Touches>(&mut self, feed: Feed<'_>, notes: &mut T) -> Result<(), AllocError>
         requires fed { IsFed feed self.old.memory.phys }
-        ensures { OnOk result (Acts (keeping T.KEEPS T.OBSERVES) feed.entry (action NW (ram_size PAGES) (inner_of_parts self.old))
+        ensures { OnOk result (Acts T.NOTING feed.entry (action NW (ram_size PAGES) (inner_of_parts self.old))
             self.old self.new (T.noted notes.old) (T.noted notes.new)) }
     {
         if !self.processor.is_running() {

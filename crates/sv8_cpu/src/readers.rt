@@ -23,7 +23,6 @@ use sv8_model::Level;
 use sv8_phys::{OutputPlace, Page, Timer};
 use sv8_regs::Regs;
 use sv8_time::Timeline;
-use sv8_touches::StepTouches;
 
 impl<const NW: usize, const PAGES: usize> Machine<NW, PAGES> {
     /// The registers of the integer unit (chapter 4).
@@ -285,9 +284,6 @@ impl<const NW: usize, const PAGES: usize> Machine<NW, PAGES> {
             memory,
         };
         let parts = Box::new(alloc, parts)?;
-        Ok(Machine {
-            parts,
-            touches: StepTouches::new(alloc),
-        })
+        Ok(Machine { parts })
     }
 }

@@ -1,7 +1,7 @@
 //! Loads and stores (Appendices B.1 to B.8).
 
 ghost use Rattle.std.specs.Prelude.{◌≡◌, ℕ, ◌%◌, ◌<◌, None, true, false, MatchOption, IfOk, OnOk};
-ghost use Rattle.sv8_model.specs.Does.{keeping};
+ghost use Rattle.sv8_model.specs.Does.{};
 ghost use Rattle.sv8_model.specs.Size.{bytes_in};
 ghost use Rattle.sv8_isa.specs.Registers.{OperandHasRegister};
 ghost use Rattle.sv8_isa.specs.Table.{group_of, meaning};
@@ -41,7 +41,7 @@ fn make_access<const NW: usize, const PAGES: usize, const TRANSLATED: bool, T: T
     requires aligned { at % bytes_in (size_of op) ≡ 0 }
     requires fed { IsFed feed memory.old.phys }
     ensures ok { IfOk result (λ found. MatchOption found (memory.new ≡ memory.old)
-        (λ r. MemoryDoes (keeping T.KEEPS T.OBSERVES) (bytes_fed feed.entry) (access (ram_size PAGES) (units_of memory.old) (access_of NW p.now op (data_space p.now) rd at))
+        (λ r. MemoryDoes T.NOTING (bytes_fed feed.entry) (access (ram_size PAGES) (units_of memory.old) (access_of NW p.now op (data_space p.now) rd at))
         memory.old memory.new r (T.noted notes.old) (T.noted notes.new))) }
     ensures quiet { OnOk result (result ≡ Ok None → T.noted notes.new ≡ T.noted notes.old) }
     ensures fed { OnOk result (IsFed feed.entry memory.new.phys) }
@@ -92,7 +92,7 @@ impl<const NW: usize, const PAGES: usize> Parts<NW, PAGES> {
         requires rd { rd < 32 }
         requires fed { IsFed feed self.old.memory.phys }
         ensures { OnOk result ((rs1 : ℕ) (operand : Operand) → meaning word ≡ Instr.Memory op rd rs1 operand → at ≡ sum_of_sources NW self.old.processor rs1 operand
-            → Acts (keeping T.KEEPS T.OBSERVES) feed.entry (carried_out NW (ram_size PAGES) (inner_of_parts self.old) word) self.old self.new (T.noted notes.old) (T.noted notes.new)) }
+            → Acts T.NOTING feed.entry (carried_out NW (ram_size PAGES) (inner_of_parts self.old) word) self.old self.new (T.noted notes.old) (T.noted notes.new)) }
     {
         match memory_trap(op, rd, at) {
             Some(_) => self.carry_out_word(word, feed, notes),
@@ -126,7 +126,7 @@ impl<const NW: usize, const PAGES: usize> Parts<NW, PAGES> {
         requires rd { rd < 32 }
         requires fed { IsFed feed self.old.memory.phys }
         ensures { OnOk result ((rs1 : ℕ) (operand : Operand) → meaning word ≡ Instr.Memory op rd rs1 operand → at ≡ sum_of_sources NW self.old.processor rs1 operand
-            → Acts (keeping T.KEEPS T.OBSERVES) feed.entry (carried_out NW (ram_size PAGES) (inner_of_parts self.old) word) self.old self.new (T.noted notes.old) (T.noted notes.new)) }
+            → Acts T.NOTING feed.entry (carried_out NW (ram_size PAGES) (inner_of_parts self.old) word) self.old self.new (T.noted notes.old) (T.noted notes.new)) }
     {
         self.complete_transfer::<false, T>(word, op, rd, at, feed, notes)
     }
@@ -150,7 +150,7 @@ impl<const NW: usize, const PAGES: usize> Parts<NW, PAGES> {
         requires operand { OperandHasRegister operand }
         requires word { meaning word ≡ Instr.Memory op rd rs1 operand }
         requires fed { IsFed feed self.old.memory.phys }
-        ensures { OnOk result (Acts (keeping T.KEEPS T.OBSERVES) feed.entry (carried_out NW (ram_size PAGES) (inner_of_parts self.old) word)
+        ensures { OnOk result (Acts T.NOTING feed.entry (carried_out NW (ram_size PAGES) (inner_of_parts self.old) word)
             self.old self.new (T.noted notes.old) (T.noted notes.new)) }
     {
         let at = sum_of_sources(&self.processor, rs1, operand);
@@ -178,7 +178,7 @@ impl<const NW: usize, const PAGES: usize> Parts<NW, PAGES> {
         requires operand { OperandHasRegister operand }
         requires word { meaning word ≡ Instr.Memory op rd rs1 operand }
         requires fed { IsFed feed self.old.memory.phys }
-        ensures { OnOk result (Acts (keeping T.KEEPS T.OBSERVES) feed.entry (carried_out NW (ram_size PAGES) (inner_of_parts self.old) word)
+        ensures { OnOk result (Acts T.NOTING feed.entry (carried_out NW (ram_size PAGES) (inner_of_parts self.old) word)
             self.old self.new (T.noted notes.old) (T.noted notes.new)) }
     {
         match op {
@@ -215,7 +215,7 @@ impl<const NW: usize, const PAGES: usize> Parts<NW, PAGES> {
         requires group { group_of word ≡ Group.Memory }
         requires translated { translates self.old.memory.mmu ≡ true }
         requires fed { IsFed feed self.old.memory.phys }
-        ensures { OnOk result (Acts (keeping T.KEEPS T.OBSERVES) feed.entry (carried_out NW (ram_size PAGES) (inner_of_parts self.old) word)
+        ensures { OnOk result (Acts T.NOTING feed.entry (carried_out NW (ram_size PAGES) (inner_of_parts self.old) word)
             self.old self.new (T.noted notes.old) (T.noted notes.new)) }
     {
         let Instr::Memory {
@@ -242,7 +242,7 @@ impl<const NW: usize, const PAGES: usize> Parts<NW, PAGES> {
         requires group { group_of word ≡ Group.Memory }
         requires untranslated { translates self.old.memory.mmu ≡ false }
         requires fed { IsFed feed self.old.memory.phys }
-        ensures { OnOk result (Acts (keeping T.KEEPS T.OBSERVES) feed.entry (carried_out NW (ram_size PAGES) (inner_of_parts self.old) word)
+        ensures { OnOk result (Acts T.NOTING feed.entry (carried_out NW (ram_size PAGES) (inner_of_parts self.old) word)
             self.old self.new (T.noted notes.old) (T.noted notes.new)) }
     {
         let Instr::Memory {
@@ -268,7 +268,7 @@ impl<const NW: usize, const PAGES: usize> Parts<NW, PAGES> {
     ) -> Result<(), AllocError>
         requires group { group_of word ≡ Group.Memory }
         requires fed { IsFed feed self.old.memory.phys }
-        ensures { OnOk result (Acts (keeping T.KEEPS T.OBSERVES) feed.entry (carried_out NW (ram_size PAGES) (inner_of_parts self.old) word)
+        ensures { OnOk result (Acts T.NOTING feed.entry (carried_out NW (ram_size PAGES) (inner_of_parts self.old) word)
             self.old self.new (T.noted notes.old) (T.noted notes.new)) }
     {
         if self.memory.translates() {

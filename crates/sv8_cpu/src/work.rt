@@ -1,7 +1,7 @@
 //! The count of steps.
 
 ghost use Rattle.std.specs.Prelude.{◌≡◌};
-ghost use Rattle.sv8_cpu.specs.Work.{counted};
+ghost use Rattle.sv8_cpu.specs.Work.{counted, counted_by};
 
 use std::marker::Model;
 
@@ -47,5 +47,13 @@ impl Work {
         ensures { self.new ≡ counted self.old }
     {
         self.done = self.done.saturating_add(1);
+    }
+
+    /// So many steps more.
+    #[tactic(auto, using(crate::proofs::Counting::counted_at_once))]
+    pub fn raise_by(&mut self, count: u32)
+        ensures { self.new ≡ counted_by count self.old }
+    {
+        self.done = self.done.saturating_add(u64::from(count));
     }
 }

@@ -5,7 +5,6 @@ ghost use Rattle.std.specs.Prelude.{◌≡◌};
 
 use std::alloc::{AllocError, Global};
 use sv8_cpu::{Machine, Work};
-use sv8_phys::NoTouches;
 use sv8_reset::reset;
 use sv8_source::Source;
 use sv8_time::Timeline;
@@ -78,7 +77,7 @@ fn advance(machine: Small, n: u32, timeline: &Timeline) -> Result<Small, AllocEr
     if timeline.delivered(n) < machine.taken() {
         return Err(AllocError);
     }
-    machine.step(n, timeline, &mut NoTouches, &mut Work::new())
+    machine.step(n, timeline, &mut Work::new())
 }
 
 /// The same, watched.
@@ -89,7 +88,7 @@ fn watch(alloc: Global, machine: Small, n: u32, timeline: &Timeline) -> Result<S
         return Err(AllocError);
     }
     let mut machine = machine;
-    machine.watch(n, timeline, &mut Watch::new(alloc), &mut Work::new())?;
+    machine.watch(n, timeline, &mut Watch::new(alloc))?;
     Ok(machine)
 }
 
@@ -101,7 +100,7 @@ fn pass(machine: Small, n: u32, timeline: &Timeline) -> Result<Small, AllocError
         return Err(AllocError);
     }
     let mut machine = machine;
-    machine.pass(n, timeline, &mut Work::new())?;
+    machine.pass(n, timeline)?;
     Ok(machine)
 }
 

@@ -3,7 +3,7 @@
 
 use std::alloc::{AllocError, Global};
 use sv8_phys::{Observation, Phys, Size, Touch, Touches};
-use sv8_touches::StepTouches;
+use sv8_touches::{StepTouches, tell_all};
 
 /// Memory of 66 pages.
 type Memory = Phys<66>;
@@ -26,9 +26,9 @@ struct Told {
 
 impl Touches for Told {
     ghost use Rattle.std.specs.Prelude.{true, false};
-    ghost use Rattle.sv8_model.specs.Does.{touching};
+    ghost use Rattle.sv8_model.specs.Does.{keeping, touching};
 
-    const KEEPS: bool = true;
+    ghost NOTING = { keeping true false };
 
     ghost KEEPS = { true };
 
@@ -159,20 +159,21 @@ fn changes(alloc: Global, memory: &mut Memory, turn: u32, notes: &mut StepTouche
     kept && is_same(&before, &look_at(alloc, &snapshot))
 }
 
-/// Tells the notes, and tells whether they are still there where that was refused, and gone where it was not.
-fn tells(alloc: Global, notes: &mut StepTouches) -> bool {
+/// Tells the notes twice, and tells whether each time that was not refused has them all.
+fn tells(alloc: Global, notes: &StepTouches) -> bool {
     let mut told = Told {
         notes: Vec::new(alloc),
     };
-    let first = notes.tell(&mut told);
+    let first = tell_all(notes.touches(), &mut told);
     let mut again = Told {
         notes: Vec::new(alloc),
     };
-    let second = notes.tell(&mut again);
+    let second = tell_all(notes.touches(), &mut again);
     match (first, second) {
-        (Ok(()), Ok(())) => !told.notes.is_empty() && again.notes.is_empty(),
-        (Err(_), Ok(())) => !again.notes.is_empty(),
-        _ => false,
+        (Ok(()), Ok(())) => !told.notes.is_empty() && again.notes.len() == told.notes.len(),
+        (Err(_), Ok(())) => told.notes.len() < again.notes.len(),
+        (Ok(()), Err(_)) => again.notes.len() < told.notes.len(),
+        (Err(_), Err(_)) => false,
     }
 }
 
@@ -183,7 +184,8 @@ pub fn keeps(alloc: Global) -> Result<bool, AllocError> {
     for turn in 0..6u32 {
         kept = changes(alloc, &mut memory, turn, &mut notes) && kept;
     }
-    kept = tells(alloc, &mut notes) && kept;
+    kept = tells(alloc, &notes) && kept;
+    notes.clear();
     // Up to the end of a chunk of the output, and over it.
     for turn in 0..4_070u64 {
         let _ = memory.write(0x8000_0008, Size::Word, turn);

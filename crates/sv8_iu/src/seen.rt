@@ -1,7 +1,7 @@
 //! What an observer sees of traps.
 
 ghost use Rattle.std.specs.Prelude.{◌≡◌, ◌∷◌, [], true, OnOk, OnErr};
-ghost use Rattle.sv8_model.specs.Does.{noting, keeping};
+ghost use Rattle.sv8_model.specs.Does.{noting};
 ghost use Rattle.sv8_iu.specs.Seen.{trap_seen};
 
 use std::alloc::AllocError;
@@ -15,7 +15,7 @@ use sv8_trap::Trap;
 /// `AllocError` where memory for the note cannot be had; never where no notes of observations are kept.
 #[inline(always)]
 pub fn show_trap<T: Touches>(trap: Trap, notes: &mut T) -> Result<(), AllocError>
-    ensures ok { OnOk result (T.noted notes.new ≡ noting (keeping T.KEEPS T.OBSERVES) (T.noted notes.old) [] (trap_seen trap ∷ [])) }
+    ensures ok { OnOk result (T.noted notes.new ≡ noting T.NOTING (T.noted notes.old) [] (trap_seen trap ∷ [])) }
     ensures observed { OnErr result (T.OBSERVES ≡ true) }
 {
     notes.observe(Observation::Trap(trap.row().trap_type))?;

@@ -4,7 +4,7 @@
 //! the frequent instructions have arms in it. What has no arm goes the way of every instruction, by `raised_by` and `complete`.
 
 ghost use Rattle.std.specs.Prelude.{◌≡◌, ◌≢◌, [], None, true, OnOk, OnErr};
-ghost use Rattle.sv8_model.specs.Does.{noting, keeping};
+ghost use Rattle.sv8_model.specs.Does.{noting};
 ghost use Rattle.sv8_isa.specs.Table.{group_of, meaning};
 ghost use Rattle.sv8_trap.specs.Table.{taken};
 ghost use Rattle.sv8_iu.specs.Instruction.{raised, IsUnaided};
@@ -33,7 +33,7 @@ fn carry_out<const NW: usize, T: Touches>(
 ) -> Result<(), AllocError>
     requires { group_of word ≢ Group.Memory }
     ensures made { OnOk result (IsUnaided NW p.old (meaning word) p.new) }
-    ensures noted { OnOk result (T.noted notes.new ≡ noting (keeping T.KEEPS T.OBSERVES) (T.noted notes.old) [] (taken_seen (taken (raised NW p.old (meaning word))))) }
+    ensures noted { OnOk result (T.noted notes.new ≡ noting T.NOTING (T.noted notes.old) [] (taken_seen (taken (raised NW p.old (meaning word))))) }
     ensures observed { OnErr result (T.OBSERVES ≡ true) }
     ensures trapped { OnErr result (taken (raised NW p.old (meaning word)) ≢ None) }
 {
@@ -57,7 +57,7 @@ fn carry_out_format_2<const NW: usize, T: Touches>(
 ) -> Result<(), AllocError>
     requires { group_of word ≡ Group.Format2 }
     ensures made { OnOk result (IsUnaided NW p.old (meaning word) p.new) }
-    ensures noted { OnOk result (T.noted notes.new ≡ noting (keeping T.KEEPS T.OBSERVES) (T.noted notes.old) [] (taken_seen (taken (raised NW p.old (meaning word))))) }
+    ensures noted { OnOk result (T.noted notes.new ≡ noting T.NOTING (T.noted notes.old) [] (taken_seen (taken (raised NW p.old (meaning word))))) }
     ensures observed { OnErr result (T.OBSERVES ≡ true) }
     ensures trapped { OnErr result (taken (raised NW p.old (meaning word)) ≢ None) }
 {
@@ -82,7 +82,7 @@ fn carry_out_call<const NW: usize, T: Touches>(
 ) -> Result<(), AllocError>
     requires { group_of word ≡ Group.Call }
     ensures made { OnOk result (IsUnaided NW p.old (meaning word) p.new) }
-    ensures noted { OnOk result (T.noted notes.new ≡ noting (keeping T.KEEPS T.OBSERVES) (T.noted notes.old) [] (taken_seen (taken (raised NW p.old (meaning word))))) }
+    ensures noted { OnOk result (T.noted notes.new ≡ noting T.NOTING (T.noted notes.old) [] (taken_seen (taken (raised NW p.old (meaning word))))) }
     ensures observed { OnErr result (T.OBSERVES ≡ true) }
     ensures trapped { OnErr result (taken (raised NW p.old (meaning word)) ≢ None) }
 {
@@ -103,7 +103,7 @@ fn carry_out_arithmetic<const NW: usize, T: Touches>(
 ) -> Result<(), AllocError>
     requires { group_of word ≡ Group.Arithmetic }
     ensures made { OnOk result (IsUnaided NW p.old (meaning word) p.new) }
-    ensures noted { OnOk result (T.noted notes.new ≡ noting (keeping T.KEEPS T.OBSERVES) (T.noted notes.old) [] (taken_seen (taken (raised NW p.old (meaning word))))) }
+    ensures noted { OnOk result (T.noted notes.new ≡ noting T.NOTING (T.noted notes.old) [] (taken_seen (taken (raised NW p.old (meaning word))))) }
     ensures observed { OnErr result (T.OBSERVES ≡ true) }
     ensures trapped { OnErr result (taken (raised NW p.old (meaning word)) ≢ None) }
 {
@@ -142,7 +142,7 @@ fn carry_out_shift<const NW: usize, T: Touches>(
 ) -> Result<(), AllocError>
     requires { group_of word ≡ Group.Shift }
     ensures made { OnOk result (IsUnaided NW p.old (meaning word) p.new) }
-    ensures noted { OnOk result (T.noted notes.new ≡ noting (keeping T.KEEPS T.OBSERVES) (T.noted notes.old) [] (taken_seen (taken (raised NW p.old (meaning word))))) }
+    ensures noted { OnOk result (T.noted notes.new ≡ noting T.NOTING (T.noted notes.old) [] (taken_seen (taken (raised NW p.old (meaning word))))) }
     ensures observed { OnErr result (T.OBSERVES ≡ true) }
     ensures trapped { OnErr result (taken (raised NW p.old (meaning word)) ≢ None) }
 {
@@ -162,7 +162,7 @@ fn carry_out_control<const NW: usize, T: Touches>(
 ) -> Result<(), AllocError>
     requires { group_of word ≡ Group.Control }
     ensures made { OnOk result (IsUnaided NW p.old (meaning word) p.new) }
-    ensures noted { OnOk result (T.noted notes.new ≡ noting (keeping T.KEEPS T.OBSERVES) (T.noted notes.old) [] (taken_seen (taken (raised NW p.old (meaning word))))) }
+    ensures noted { OnOk result (T.noted notes.new ≡ noting T.NOTING (T.noted notes.old) [] (taken_seen (taken (raised NW p.old (meaning word))))) }
     ensures observed { OnErr result (T.OBSERVES ≡ true) }
     ensures trapped { OnErr result (taken (raised NW p.old (meaning word)) ≢ None) }
 {
@@ -194,7 +194,7 @@ pub fn carry_out_unaided<const NW: usize, T: Touches>(
 ) -> Result<(), AllocError>
     requires { group_of word ≢ Group.Memory }
     ensures made { OnOk result (IsUnaided NW p.old (meaning word) p.new) }
-    ensures noted { OnOk result (T.noted notes.new ≡ noting (keeping T.KEEPS T.OBSERVES) (T.noted notes.old) [] (taken_seen (taken (raised NW p.old (meaning word))))) }
+    ensures noted { OnOk result (T.noted notes.new ≡ noting T.NOTING (T.noted notes.old) [] (taken_seen (taken (raised NW p.old (meaning word))))) }
     ensures observed { OnErr result (T.OBSERVES ≡ true) }
     ensures trapped { OnErr result (taken (raised NW p.old (meaning word)) ≢ None) }
 {

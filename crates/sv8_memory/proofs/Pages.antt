@@ -3,7 +3,7 @@ use Rattle.std.proofs.Common.{◌≡◌, ℕ, ◌+◌, ◌*◌, ◌/◌, ◌%◌
 use Rattle.std.proofs.lemmas.List.{length-set, get_or-set_other}
 use Rattle.sv8_model.specs.Outside.{Outside, with_byte, with_word}
 use Rattle.sv8_model.specs.Action.{Action, done, emit, clear_levels, expire, after}
-use Rattle.sv8_model.specs.Does.{Does, Keeps, Notes}
+use Rattle.sv8_model.specs.Does.{Does, Noting}
 use Rattle.sv8_model.proofs.Common.{length-with_word, word_other}
 use Rattle.sv8_model.specs.declared.size.Size.{Size}
 use Rattle.sv8_model.specs.declared.size.Size.TheVariants.{Byte, Half, Word, Double}
@@ -83,16 +83,16 @@ store_in_page : (limit : ℕ) (timer : Timer) (size : Size) (pa value : ℕ) (o 
 store_in_page limit timer size pa value o true x y h e s = subst (λ a. DiffersInPage (pa / 4096) o.ram (after a o).ram) (sym e) (ram_store_in_page size pa value _ o h)
 store_in_page limit timer size pa value o false x y h e s = page_itself (pa / 4096) o.ram _ (s.ram o)
 
-pub stored_in_page : (keeps : Keeps) (limit : ℕ) (timer : Timer) (size : Size) (pa value : ℕ) (o o1 : Outside) (r : Stored) (ns ns1 : Notes) → pa % bytes_in size ≡ 0
-    → Does keeps (store limit timer size pa value) o o1 r ns ns1 → DiffersInPage (pa / 4096) o.ram o1.ram
-stored_in_page keeps limit timer size pa value o o1 r ns ns1 h d =
+pub stored_in_page : (way : Noting) (limit : ℕ) (timer : Timer) (size : Size) (pa value : ℕ) (o o1 : Outside) (r : Stored) (ns ns1 : way.Taken) → pa % bytes_in size ≡ 0
+    → Does way (store limit timer size pa value) o o1 r ns ns1 → DiffersInPage (pa / 4096) o.ram o1.ram
+stored_in_page way limit timer size pa value o o1 r ns ns1 h d =
     subst (λ p. DiffersInPage (pa / 4096) o.ram p.ram) (sym d.outside) (store_in_page limit timer size pa value o (nat_lt pa limit) _ _ h refl (outside_spares timer size pa value))
 
-pub ram_stored_in_page : {R : Type 0} (keeps : Keeps) (size : Size) (pa value : ℕ) (x r : R) (o o1 : Outside) (ns ns1 : Notes) → pa % bytes_in size ≡ 0
-    → Does keeps (ram_store size pa value x) o o1 r ns ns1 → DiffersInPage (pa / 4096) o.ram o1.ram
-ram_stored_in_page keeps size pa value x r o o1 ns ns1 h d = subst (λ p. DiffersInPage (pa / 4096) o.ram p.ram) (sym d.outside) (ram_store_in_page size pa value x o h)
+pub ram_stored_in_page : {R : Type 0} (way : Noting) (size : Size) (pa value : ℕ) (x r : R) (o o1 : Outside) (ns ns1 : way.Taken) → pa % bytes_in size ≡ 0
+    → Does way (ram_store size pa value x) o o1 r ns ns1 → DiffersInPage (pa / 4096) o.ram o1.ram
+ram_stored_in_page way size pa value x r o o1 ns ns1 h d = subst (λ p. DiffersInPage (pa / 4096) o.ram p.ram) (sym d.outside) (ram_store_in_page size pa value x o h)
 
--- an address keeps its alignment with bits above
+-- an address way its alignment with bits above
 pub place_aligned : (size : Size) (high at : ℕ) → at % bytes_in size ≡ 0 → (high * 2 ^ 32 + at) % bytes_in size ≡ 0
 place_aligned Byte high at h = omega arith
 place_aligned Half high at h = omega arith

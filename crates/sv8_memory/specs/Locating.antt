@@ -2,7 +2,7 @@
 use Rattle.std.specs.Prelude.{◌≡◌, ℕ, ◌%◌, ◌^◌, ◌<◌, List}
 use Rattle.sv8_model.specs.Outside.{Outside}
 use Rattle.sv8_model.specs.Action.{Action, done}
-use Rattle.sv8_model.specs.Does.{Does, Keeps, Notes}
+use Rattle.sv8_model.specs.Does.{Does, Noting}
 use Rattle.sv8_phys.specs.Contents.{outside_of}
 use Rattle.sv8_mmu.specs.declared.translation.VirtualAccess.{VirtualAccess}
 use Rattle.sv8_trap.specs.declared.table.Trap.{Trap}
@@ -24,7 +24,7 @@ IsPlace va (place.At pa) = (pa % 4096 ≡ va % 4096) × (pa < 2 ^ 36)
 IsPlace va (place.Failed response) = Unit {0}
 
 -- a memory m became m': whatever is to be done at the physical address, who does what is left to do has done the whole access
-abbrev pub Locates : {pages : ℕ} → Keeps → List ℕ → ℕ → Trap → ℕ → VirtualAccess → Physical pages → Physical pages → Place → Notes → Notes → Type 0
-Locates keeps bytes limit trap asi access m m' place ns ns' =
-    (use_address : Units → ℕ → Action Served) (o : Outside) (s : Served) (ns'' : Notes) → Does keeps (left_to_do (units_of m') use_address place) (outside_of m'.phys bytes) o s ns' ns''
-    → Does keeps (at_virtual limit (units_of m) trap asi access.access_type access.reach access.address (use_address (units_of m))) (outside_of m.phys bytes) o s ns ns''
+abbrev pub Locates : {pages : ℕ} → (way : Noting) → List ℕ → ℕ → Trap → ℕ → VirtualAccess → Physical pages → Physical pages → Place → way.Taken → way.Taken → Type 0
+Locates way bytes limit trap asi access m m' place ns ns' =
+    (use_address : Units → ℕ → Action Served) (o : Outside) (s : Served) (ns'' : way.Taken) → Does way (left_to_do (units_of m') use_address place) (outside_of m'.phys bytes) o s ns' ns''
+    → Does way (at_virtual limit (units_of m) trap asi access.access_type access.reach access.address (use_address (units_of m))) (outside_of m.phys bytes) o s ns ns''

@@ -1,7 +1,7 @@
 -- What physical memory with the registers of the memory management unit stands for, and what it means that it did an access.
 use Rattle.std.specs.Prelude.{◌≡◌, ℕ, List}
 use Rattle.sv8_model.specs.Action.{Action}
-use Rattle.sv8_model.specs.Does.{Does, Keeps, Notes}
+use Rattle.sv8_model.specs.Does.{Does, Noting}
 use Rattle.sv8_phys.specs.declared.timer.Timer.{Timer}
 use Rattle.sv8_phys.specs.Memory.{ram_size}
 use Rattle.sv8_phys.specs.Contents.{outside_of}
@@ -24,10 +24,9 @@ timed_units m timer = record { mmu = m.mmu; timer = timer }
 abbrev pub Serves : {pages : ℕ} → Physical pages → List Kept → Type 0
 Serves {pages} m ks = AllStand (ram_size pages) m.phys.ram m.mmu.table_pointer ks
 
--- once some bytes have come in, a memory m became m' and gave the response r as the action does, and what it touches and what is seen of it was noted behind the notes ns, if notes
--- are kept at all
-abbrev pub MemoryDoes : {pages : ℕ} → Keeps → List ℕ → Action Served → Physical pages → Physical pages → Response → Notes → Notes → Type 0
-MemoryDoes keeps bytes a m m' r ns ns' = Does keeps a (outside_of m.phys bytes) (outside_of m'.phys bytes) (record { response = r; units = units_of m' }) ns ns'
+-- once some bytes have come in, a memory m became m' and gave the response r as the action does, and what it touches and what is seen of it was noted behind the notes ns
+abbrev pub MemoryDoes : {pages : ℕ} → (way : Noting) → List ℕ → Action Served → Physical pages → Physical pages → Response → way.Taken → way.Taken → Type 0
+MemoryDoes way bytes a m m' r ns ns' = Does way a (outside_of m.phys bytes) (outside_of m'.phys bytes) (record { response = r; units = units_of m' }) ns ns'
 
 -- a store is answered, and leaves the registers of the memory management unit as they are
 abbrev pub IsTaken : Mmu → Served → Type 0

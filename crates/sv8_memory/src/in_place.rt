@@ -2,7 +2,7 @@
 //! was used last, and the access is allowed and sets no mark.
 
 ghost use Rattle.std.specs.Prelude.{◌≡◌, ℕ, ◌%◌, List, true, false, not, nat_lt, None, IfOk, OnOk, MatchOption};
-ghost use Rattle.sv8_model.specs.Does.{keeping};
+ghost use Rattle.sv8_model.specs.Does.{};
 ghost use Rattle.sv8_model.specs.Size.{bytes_in};
 ghost use Rattle.sv8_phys.specs.Memory.{ram_size};
 ghost use Rattle.sv8_mmu.specs.Registers.{translates};
@@ -32,7 +32,7 @@ pub fn fetch_translated<const PAGES: usize, T: Touches>(
     requires translated { translates physical.now.mmu ≡ true }
     requires aligned { at % 4 ≡ 0 }
     requires serves { Serves physical.now buffer.now }
-    ensures { IfOk result (λ found. MatchOption found (T.noted notes.new ≡ T.noted notes.old) (λ word. (bytes : List ℕ) → MemoryDoes (keeping T.KEEPS T.OBSERVES) bytes (access (ram_size PAGES) (units_of physical.now) (AccessRequest.Fetch supervisor at))
+    ensures { IfOk result (λ found. MatchOption found (T.noted notes.new ≡ T.noted notes.old) (λ word. (bytes : List ℕ) → MemoryDoes T.NOTING bytes (access (ram_size PAGES) (units_of physical.now) (AccessRequest.Fetch supervisor at))
         physical.now physical.now (Response.Value word) (T.noted notes.old) (T.noted notes.new))) }
 {
     let access = VirtualAccess {
@@ -59,7 +59,7 @@ pub fn fetch_untranslated<const PAGES: usize, T: Touches>(
 ) -> Result<Option<u64>, AllocError>
     requires untranslated { translates physical.now.mmu ≡ false }
     requires aligned { at % 4 ≡ 0 }
-    ensures found { IfOk result (λ found. MatchOption found (T.noted notes.new ≡ T.noted notes.old) (λ word. (bytes : List ℕ) → MemoryDoes (keeping T.KEEPS T.OBSERVES) bytes (access (ram_size PAGES) (units_of physical.now) (AccessRequest.Fetch supervisor at))
+    ensures found { IfOk result (λ found. MatchOption found (T.noted notes.new ≡ T.noted notes.old) (λ word. (bytes : List ℕ) → MemoryDoes T.NOTING bytes (access (ram_size PAGES) (units_of physical.now) (AccessRequest.Fetch supervisor at))
         physical.now physical.now (Response.Value word) (T.noted notes.old) (T.noted notes.new))) }
     ensures otherwise { IfOk result (λ found. found ≡ None → not (nat_lt at (ram_size PAGES)) ≡ true) }
 {
@@ -84,7 +84,7 @@ fn load_in_place<const PAGES: usize, T: Touches>(
     requires aligned { at % bytes_in size ≡ 0 }
     requires translated { translates physical.now.mmu ≡ true }
     requires serves { Serves physical.now buffer.now }
-    ensures { IfOk result (λ found. MatchOption found (T.noted notes.new ≡ T.noted notes.old) (λ r. (bytes : List ℕ) → MemoryDoes (keeping T.KEEPS T.OBSERVES) bytes (loaded_in (ram_size PAGES) (units_of physical.now) size asi at Space.Virtual)
+    ensures { IfOk result (λ found. MatchOption found (T.noted notes.new ≡ T.noted notes.old) (λ r. (bytes : List ℕ) → MemoryDoes T.NOTING bytes (loaded_in (ram_size PAGES) (units_of physical.now) size asi at Space.Virtual)
         physical.now physical.now r (T.noted notes.old) (T.noted notes.new))) }
 {
     let access = VirtualAccess {
@@ -117,7 +117,7 @@ pub fn load_translated<const PAGES: usize, T: Touches>(
     requires aligned { at % bytes_in size ≡ 0 }
     requires fed { IsFed feed physical.old.phys }
     requires serves { Serves physical.old buffer.old }
-    ensures ok { IfOk result (λ r. MemoryDoes (keeping T.KEEPS T.OBSERVES) (bytes_fed feed.entry) (loaded_in (ram_size PAGES) (units_of physical.old) size asi at Space.Virtual)
+    ensures ok { IfOk result (λ r. MemoryDoes T.NOTING (bytes_fed feed.entry) (loaded_in (ram_size PAGES) (units_of physical.old) size asi at Space.Virtual)
         physical.old physical.new r (T.noted notes.old) (T.noted notes.new)) }
     ensures fed { OnOk result (IsFed feed.entry physical.new.phys) }
     ensures serves { Serves physical.new buffer.new }
@@ -142,7 +142,7 @@ fn store_in_place<const PAGES: usize, T: Touches>(
     requires aligned { at % bytes_in size ≡ 0 }
     requires translated { translates physical.old.mmu ≡ true }
     requires serves { Serves physical.old buffer.old }
-    ensures found { IfOk result (λ found. MatchOption found (T.noted notes.new ≡ T.noted notes.old) (λ r. (bytes : List ℕ) → MemoryDoes (keeping T.KEEPS T.OBSERVES) bytes (stored_in (ram_size PAGES) (units_of physical.old) size asi at value Space.Virtual)
+    ensures found { IfOk result (λ found. MatchOption found (T.noted notes.new ≡ T.noted notes.old) (λ r. (bytes : List ℕ) → MemoryDoes T.NOTING bytes (stored_in (ram_size PAGES) (units_of physical.old) size asi at value Space.Virtual)
         physical.old physical.new r (T.noted notes.old) (T.noted notes.new))) }
     ensures otherwise { IfOk result (λ found. found ≡ None → physical.new ≡ physical.old) }
     ensures taken { OnOk result (physical.new.phys.taken ≡ physical.old.phys.taken) }
@@ -176,7 +176,7 @@ pub fn store_translated<const PAGES: usize, T: Touches>(
     requires translated { translates physical.old.mmu ≡ true }
     requires aligned { at % bytes_in size ≡ 0 }
     requires serves { Serves physical.old buffer.old }
-    ensures ok { IfOk result (λ r. (bytes : List ℕ) → MemoryDoes (keeping T.KEEPS T.OBSERVES) bytes (stored_in (ram_size PAGES) (units_of physical.old) size asi at value Space.Virtual)
+    ensures ok { IfOk result (λ r. (bytes : List ℕ) → MemoryDoes T.NOTING bytes (stored_in (ram_size PAGES) (units_of physical.old) size asi at value Space.Virtual)
         physical.old physical.new r (T.noted notes.old) (T.noted notes.new)) }
     ensures taken { OnOk result (physical.new.phys.taken ≡ physical.old.phys.taken) }
     ensures serves { Serves physical.new buffer.new }

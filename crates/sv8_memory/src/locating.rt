@@ -1,7 +1,7 @@
 //! Where an access of the processor leads: its physical address, or the fault of its translation (Appendices H and I).
 
 ghost use Rattle.std.specs.Prelude.{◌≡◌, ℕ, ◌+◌, ◌*◌, ◌%◌, ◌/◌, ◌^◌, ◌<◌, List, IfOk, OnOk};
-ghost use Rattle.sv8_model.specs.Does.{keeping};
+ghost use Rattle.sv8_model.specs.Does.{};
 ghost use Rattle.sv8_model.specs.declared.size.Size.{Size};
 ghost use Rattle.sv8_model.specs.Size.{bytes_in};
 ghost use Rattle.sv8_phys.specs.Memory.{ram_size};
@@ -82,7 +82,7 @@ pub(crate) fn locate<const PAGES: usize, T: Touches>(
     notes: &mut T,
 ) -> Result<Place, AllocError>
     requires serves { Serves physical.old buffer.old }
-    ensures ok { IfOk result (λ place. (bytes : List ℕ) → Locates (keeping T.KEEPS T.OBSERVES) bytes (ram_size PAGES) trap asi access
+    ensures ok { IfOk result (λ place. (bytes : List ℕ) → Locates T.NOTING bytes (ram_size PAGES) trap asi access
         physical.old physical.new place (T.noted notes.old) (T.noted notes.new)) }
     ensures address { IfOk result (λ place. IsPlace access.address place) }
     ensures taken { OnOk result (physical.new.phys.taken ≡ physical.old.phys.taken) }

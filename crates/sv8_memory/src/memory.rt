@@ -3,7 +3,7 @@
 ghost use Rattle.std.specs.Prelude.{◌≡◌, ℕ, ◌%◌, ◌/◌, ◌<◌, ◌||◌, List, true, not, nat_lt, None, IfOk, IfSome, OnOk, OnErr, MatchOption, slice_set};
 ghost use Rattle.sv8_model.specs.Action as model;
 ghost use Rattle.sv8_model.specs.Action.{result_of};
-ghost use Rattle.sv8_model.specs.Does.{Does, DoesUnnoted, keeping};
+ghost use Rattle.sv8_model.specs.Does.{Does, DoesUnnoted};
 ghost use Rattle.sv8_model.specs.Size.{bytes_in};
 ghost use Rattle.sv8_phys.specs.declared.timer.Timer.{Timer};
 ghost use Rattle.sv8_phys.specs.Memory.{ram_size, with_page};
@@ -109,7 +109,7 @@ impl<const PAGES: usize> Memory<PAGES> {
     /// `AllocError` where memory for the note of an expiry cannot be had.
     #[inline(always)]
     pub fn tick<T: Touches>(&mut self, notes: &mut T) -> Result<(), AllocError>
-        ensures ok { OnOk result ((bytes : List ℕ) → Does (keeping T.KEEPS T.OBSERVES) (tick self.old.phys.timer)
+        ensures ok { OnOk result ((bytes : List ℕ) → Does T.NOTING (tick self.old.phys.timer)
             (outside_of self.old.phys bytes) (outside_of self.new.phys bytes) self.new.phys.timer (T.noted notes.old) (T.noted notes.new)) }
         ensures taken { self.new.phys.taken ≡ self.old.phys.taken }
         ensures mmu { self.new.mmu ≡ self.old.mmu }
@@ -125,7 +125,7 @@ impl<const PAGES: usize> Memory<PAGES> {
     /// `AllocError` where memory for the note cannot be had.
     #[inline(always)]
     pub fn pending_among<T: Touches>(&self, levels: u16, notes: &mut T) -> Result<u32, AllocError>
-        ensures { IfOk result (λ word. (bytes : List ℕ) → Does (keeping T.KEEPS T.OBSERVES) (model.ask_levels levels (λ word. model.done word))
+        ensures { IfOk result (λ word. (bytes : List ℕ) → Does T.NOTING (model.ask_levels levels (λ word. model.done word))
             (outside_of self.now.phys bytes) (outside_of self.now.phys bytes) word (T.noted notes.old) (T.noted notes.new)) }
     {
         let pending = self.physical.phys.pending_among(levels, notes)?;
@@ -146,7 +146,7 @@ impl<const PAGES: usize> Memory<PAGES> {
     ) -> Result<Response, AllocError>
         requires aligned { IsAligned request }
         requires fed { IsFed feed self.old.phys }
-        ensures ok { IfOk result (λ r. MemoryDoes (keeping T.KEEPS T.OBSERVES) (bytes_fed feed.entry) (access (ram_size PAGES) (units_of self.old) request)
+        ensures ok { IfOk result (λ r. MemoryDoes T.NOTING (bytes_fed feed.entry) (access (ram_size PAGES) (units_of self.old) request)
             self.old self.new r (T.noted notes.old) (T.noted notes.new)) }
         ensures fed { OnOk result (IsFed feed.entry self.new.phys) }
     {
@@ -169,7 +169,7 @@ impl<const PAGES: usize> Memory<PAGES> {
         notes: &mut T,
     ) -> Result<Option<u64>, AllocError>
         requires { at % 4 ≡ 0 }
-        ensures found { IfOk result (λ found. MatchOption found (T.noted notes.new ≡ T.noted notes.old) (λ word. (bytes : List ℕ) → MemoryDoes (keeping T.KEEPS T.OBSERVES) bytes (access (ram_size PAGES) (units_of self.now) (AccessRequest.Fetch supervisor at))
+        ensures found { IfOk result (λ found. MatchOption found (T.noted notes.new ≡ T.noted notes.old) (λ word. (bytes : List ℕ) → MemoryDoes T.NOTING bytes (access (ram_size PAGES) (units_of self.now) (AccessRequest.Fetch supervisor at))
             self.now self.now (Response.Value word) (T.noted notes.old) (T.noted notes.new))) }
         ensures otherwise { IfOk result (λ found. found ≡ None → (translates self.now.mmu || not (nat_lt at (ram_size PAGES))) ≡ true) }
     {
@@ -282,7 +282,7 @@ impl<const PAGES: usize> Memory<PAGES> {
         requires space { space_of asi ≡ Space.Virtual }
         requires aligned { at % bytes_in size ≡ 0 }
         requires fed { IsFed feed self.old.phys }
-        ensures ok { IfOk result (λ r. MemoryDoes (keeping T.KEEPS T.OBSERVES) (bytes_fed feed.entry) (access (ram_size PAGES) (units_of self.old) (AccessRequest.Load size asi at))
+        ensures ok { IfOk result (λ r. MemoryDoes T.NOTING (bytes_fed feed.entry) (access (ram_size PAGES) (units_of self.old) (AccessRequest.Load size asi at))
             self.old self.new r (T.noted notes.old) (T.noted notes.new)) }
         ensures fed { OnOk result (IsFed feed.entry self.new.phys) }
     {
@@ -312,7 +312,7 @@ impl<const PAGES: usize> Memory<PAGES> {
         requires translated { translates self.old.mmu ≡ TRANSLATED }
         requires space { space_of asi ≡ Space.Virtual }
         requires aligned { at % bytes_in size ≡ 0 }
-        ensures ok { IfOk result (λ r. (bytes : List ℕ) → MemoryDoes (keeping T.KEEPS T.OBSERVES) bytes (access (ram_size PAGES) (units_of self.old) (AccessRequest.Store size asi at value))
+        ensures ok { IfOk result (λ r. (bytes : List ℕ) → MemoryDoes T.NOTING bytes (access (ram_size PAGES) (units_of self.old) (AccessRequest.Store size asi at value))
             self.old self.new r (T.noted notes.old) (T.noted notes.new)) }
         ensures taken { OnOk result (self.new.phys.taken ≡ self.old.phys.taken) }
     {

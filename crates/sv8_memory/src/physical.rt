@@ -1,7 +1,7 @@
 //! Accesses at a physical address: RAM, the devices, and the registers of the memory management unit, which record faults.
 
 ghost use Rattle.std.specs.Prelude.{◌≡◌, ℕ, ◌%◌, ◌/◌, ◌<◌, [], List, true, nat_lt, IfOk, OnOk, OnErr};
-ghost use Rattle.sv8_model.specs.Does.{keeping, noting};
+ghost use Rattle.sv8_model.specs.Does.{noting};
 ghost use Rattle.sv8_model.specs.Size.{bytes_in};
 ghost use Rattle.sv8_phys.specs.Memory.{ram_size};
 ghost use Rattle.sv8_mmu.specs.Kept.{DiffersInPage};
@@ -95,7 +95,7 @@ fn show<A, T: Touches>(
     access: Observation,
     notes: &mut T,
 ) -> Result<(), AllocError>
-    ensures { OnOk result (T.noted notes.new ≡ noting (keeping T.KEEPS T.OBSERVES) (T.noted notes.old) [] (seen_if answer.now access)) }
+    ensures { OnOk result (T.noted notes.new ≡ noting T.NOTING (T.noted notes.old) [] (seen_if answer.now access)) }
 {
     match answer {
         Ok(_) => {
@@ -181,7 +181,7 @@ impl<const PAGES: usize> Physical<PAGES> {
     pub fn fetch_ram<T: Touches>(&self, pa: u64, notes: &mut T) -> Result<u64, AllocError>
         requires within { nat_lt pa (ram_size PAGES) ≡ true }
         requires aligned { pa % 4 ≡ 0 }
-        ensures { IfOk result (λ word. (asi va : ℕ) (bytes : List ℕ) → MemoryDoes (keeping T.KEEPS T.OBSERVES) bytes (fetched_from (ram_size PAGES) (units_of self.now) asi va pa)
+        ensures { IfOk result (λ word. (asi va : ℕ) (bytes : List ℕ) → MemoryDoes T.NOTING bytes (fetched_from (ram_size PAGES) (units_of self.now) asi va pa)
             self.now self.now (Response.Value word) (T.noted notes.old) (T.noted notes.new)) }
     {
         let word = self.phys.read_ram(pa, Size::Word, notes)?;
@@ -203,7 +203,7 @@ impl<const PAGES: usize> Physical<PAGES> {
         notes: &mut T,
     ) -> Result<Response, AllocError>
         requires { pa % 4 ≡ 0 }
-        ensures ok { IfOk result (λ r. (bytes : List ℕ) → MemoryDoes (keeping T.KEEPS T.OBSERVES) bytes (fetched_from (ram_size PAGES) (units_of self.old) asi va pa)
+        ensures ok { IfOk result (λ r. (bytes : List ℕ) → MemoryDoes T.NOTING bytes (fetched_from (ram_size PAGES) (units_of self.old) asi va pa)
             self.old self.new r (T.noted notes.old) (T.noted notes.new)) }
         ensures kept { self.new.phys.ram ≡ self.old.phys.ram }
         ensures pointer { self.new.mmu.table_pointer ≡ self.old.mmu.table_pointer }
@@ -228,7 +228,7 @@ impl<const PAGES: usize> Physical<PAGES> {
         notes: &mut T,
     ) -> Result<Response, AllocError>
         requires { pa % bytes_in size ≡ 0 }
-        ensures ok { IfOk result (λ r. (bytes : List ℕ) → MemoryDoes (keeping T.KEEPS T.OBSERVES) bytes (plainly_loaded (ram_size PAGES) (units_of self.old) size asi va pa)
+        ensures ok { IfOk result (λ r. (bytes : List ℕ) → MemoryDoes T.NOTING bytes (plainly_loaded (ram_size PAGES) (units_of self.old) size asi va pa)
             self.old self.new r (T.noted notes.old) (T.noted notes.new)) }
         ensures kept { self.new.phys.ram ≡ self.old.phys.ram }
         ensures pointer { self.new.mmu.table_pointer ≡ self.old.mmu.table_pointer }
@@ -250,7 +250,7 @@ impl<const PAGES: usize> Physical<PAGES> {
     ) -> Result<Response, AllocError>
         requires within { pa < ram_size PAGES }
         requires aligned { pa % bytes_in size ≡ 0 }
-        ensures ok { IfOk result (λ r. (asi : ℕ) (bytes : List ℕ) → MemoryDoes (keeping T.KEEPS T.OBSERVES) bytes (loaded_from (ram_size PAGES) (units_of self.now) size asi va pa)
+        ensures ok { IfOk result (λ r. (asi : ℕ) (bytes : List ℕ) → MemoryDoes T.NOTING bytes (loaded_from (ram_size PAGES) (units_of self.now) size asi va pa)
             self.now self.now r (T.noted notes.old) (T.noted notes.new)) }
     {
         let _size = self.phys.ram_size();
@@ -273,7 +273,7 @@ impl<const PAGES: usize> Physical<PAGES> {
     ) -> Result<Response, AllocError>
         requires aligned { pa % bytes_in size ≡ 0 }
         requires fed { IsFed feed self.old.phys }
-        ensures ok { IfOk result (λ r. MemoryDoes (keeping T.KEEPS T.OBSERVES) (bytes_fed feed.entry) (loaded_from (ram_size PAGES) (units_of self.old) size asi va pa)
+        ensures ok { IfOk result (λ r. MemoryDoes T.NOTING (bytes_fed feed.entry) (loaded_from (ram_size PAGES) (units_of self.old) size asi va pa)
             self.old self.new r (T.noted notes.old) (T.noted notes.new)) }
         ensures kept { self.new.phys.ram ≡ self.old.phys.ram }
         ensures pointer { self.new.mmu.table_pointer ≡ self.old.mmu.table_pointer }
@@ -308,7 +308,7 @@ impl<const PAGES: usize> Physical<PAGES> {
     ) -> Result<Response, AllocError>
         requires aligned { pa % bytes_in size ≡ 0 }
         requires fed { IsFed feed self.old.phys }
-        ensures ok { IfOk result (λ r. MemoryDoes (keeping T.KEEPS T.OBSERVES) (bytes_fed feed.entry) (loaded_from (ram_size PAGES) (units_of self.old) size asi va pa)
+        ensures ok { IfOk result (λ r. MemoryDoes T.NOTING (bytes_fed feed.entry) (loaded_from (ram_size PAGES) (units_of self.old) size asi va pa)
             self.old self.new r (T.noted notes.old) (T.noted notes.new)) }
         ensures kept { self.new.phys.ram ≡ self.old.phys.ram }
         ensures pointer { self.new.mmu.table_pointer ≡ self.old.mmu.table_pointer }
@@ -335,7 +335,7 @@ impl<const PAGES: usize> Physical<PAGES> {
         notes: &mut T,
     ) -> Result<Response, AllocError>
         requires { pa % bytes_in size ≡ 0 }
-        ensures ok { IfOk result (λ r. (bytes : List ℕ) → MemoryDoes (keeping T.KEEPS T.OBSERVES) bytes (stored_at (ram_size PAGES) (units_of self.old) size asi value va pa)
+        ensures ok { IfOk result (λ r. (bytes : List ℕ) → MemoryDoes T.NOTING bytes (stored_at (ram_size PAGES) (units_of self.old) size asi value va pa)
             self.old self.new r (T.noted notes.old) (T.noted notes.new)) }
         ensures page { DiffersInPage (pa / 4096) self.old.phys.ram self.new.phys.ram }
         ensures pointer { self.new.mmu.table_pointer ≡ self.old.mmu.table_pointer }
@@ -358,7 +358,7 @@ impl<const PAGES: usize> Physical<PAGES> {
         notes: &mut T,
     ) -> Result<Response, AllocError>
         requires { pa % bytes_in size ≡ 0 }
-        ensures ok { IfOk result (λ r. (bytes : List ℕ) → MemoryDoes (keeping T.KEEPS T.OBSERVES) bytes (exchanged_at (ram_size PAGES) (units_of self.old) size asi value va pa)
+        ensures ok { IfOk result (λ r. (bytes : List ℕ) → MemoryDoes T.NOTING bytes (exchanged_at (ram_size PAGES) (units_of self.old) size asi value va pa)
             self.old self.new r (T.noted notes.old) (T.noted notes.new)) }
         ensures kept { OnErr result (self.new.phys.ram ≡ self.old.phys.ram) }
         ensures page { DiffersInPage (pa / 4096) self.old.phys.ram self.new.phys.ram }

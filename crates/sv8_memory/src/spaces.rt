@@ -1,7 +1,7 @@
 //! Accesses by address space (Appendices H and I).
 
 ghost use Rattle.std.specs.Prelude.{◌≡◌, ℕ, ◌%◌, ◌/◌, ◌<◌, List, false, IfOk, OnOk};
-ghost use Rattle.sv8_model.specs.Does.{keeping};
+ghost use Rattle.sv8_model.specs.Does.{};
 ghost use Rattle.sv8_model.specs.declared.size.Size.{Size};
 ghost use Rattle.sv8_model.specs.Size.{bytes_in};
 ghost use Rattle.sv8_mmu.specs.Registers.{translates};
@@ -40,7 +40,7 @@ fn fetch<const PAGES: usize, T: Touches>(
 ) -> Result<Response, AllocError>
     requires aligned { at % 4 ≡ 0 }
     requires serves { Serves physical.old buffer.old }
-    ensures ok { IfOk result (λ r. (bytes : List ℕ) → MemoryDoes (keeping T.KEEPS T.OBSERVES) bytes (fetched_in (ram_size PAGES) (units_of physical.old) asi at)
+    ensures ok { IfOk result (λ r. (bytes : List ℕ) → MemoryDoes T.NOTING bytes (fetched_in (ram_size PAGES) (units_of physical.old) asi at)
         physical.old physical.new r (T.noted notes.old) (T.noted notes.new)) }
     ensures taken { OnOk result (physical.new.phys.taken ≡ physical.old.phys.taken) }
     ensures serves { Serves physical.new buffer.new }
@@ -80,7 +80,7 @@ pub fn load_virtual<const PAGES: usize, T: Touches>(
     requires aligned { at % bytes_in size ≡ 0 }
     requires fed { IsFed feed physical.old.phys }
     requires serves { Serves physical.old buffer.old }
-    ensures ok { IfOk result (λ r. MemoryDoes (keeping T.KEEPS T.OBSERVES) (bytes_fed feed.entry) (loaded_in (ram_size PAGES) (units_of physical.old) size asi at Space.Virtual)
+    ensures ok { IfOk result (λ r. MemoryDoes T.NOTING (bytes_fed feed.entry) (loaded_in (ram_size PAGES) (units_of physical.old) size asi at Space.Virtual)
         physical.old physical.new r (T.noted notes.old) (T.noted notes.new)) }
     ensures fed { OnOk result (IsFed feed.entry physical.new.phys) }
     ensures serves { Serves physical.new buffer.new }
@@ -127,7 +127,7 @@ fn load_probe<const PAGES: usize, T: Touches>(
     at: u32,
     notes: &mut T,
 ) -> Result<Response, AllocError>
-    ensures ok { IfOk result (λ r. (bytes : List ℕ) → MemoryDoes (keeping T.KEEPS T.OBSERVES) bytes (probed (ram_size PAGES) (units_of physical.now) size at)
+    ensures ok { IfOk result (λ r. (bytes : List ℕ) → MemoryDoes T.NOTING bytes (probed (ram_size PAGES) (units_of physical.now) size at)
         physical.now physical.now r (T.noted notes.old) (T.noted notes.new)) }
 {
     if !is_word(size) {
@@ -151,7 +151,7 @@ fn load<const PAGES: usize, T: Touches>(
     requires aligned { at % bytes_in size ≡ 0 }
     requires fed { IsFed feed physical.old.phys }
     requires serves { Serves physical.old buffer.old }
-    ensures ok { IfOk result (λ r. MemoryDoes (keeping T.KEEPS T.OBSERVES) (bytes_fed feed.entry) (loaded_in (ram_size PAGES) (units_of physical.old) size asi at (space_of asi))
+    ensures ok { IfOk result (λ r. MemoryDoes T.NOTING (bytes_fed feed.entry) (loaded_in (ram_size PAGES) (units_of physical.old) size asi at (space_of asi))
         physical.old physical.new r (T.noted notes.old) (T.noted notes.new)) }
     ensures fed { OnOk result (IsFed feed.entry physical.new.phys) }
     ensures serves { Serves physical.new buffer.new }
@@ -197,7 +197,7 @@ pub fn load_untranslated<const PAGES: usize, T: Touches>(
     requires aligned { at % bytes_in size ≡ 0 }
     requires fed { IsFed feed physical.old.phys }
     requires serves { Serves physical.old buffer.now }
-    ensures ok { IfOk result (λ r. MemoryDoes (keeping T.KEEPS T.OBSERVES) (bytes_fed feed.entry) (access (ram_size PAGES) (units_of physical.old) (AccessRequest.Load size asi at))
+    ensures ok { IfOk result (λ r. MemoryDoes T.NOTING (bytes_fed feed.entry) (access (ram_size PAGES) (units_of physical.old) (AccessRequest.Load size asi at))
         physical.old physical.new r (T.noted notes.old) (T.noted notes.new)) }
     ensures fed { OnOk result (IsFed feed.entry physical.new.phys) }
     ensures serves { Serves physical.new buffer.now }
@@ -219,7 +219,7 @@ pub fn access<const PAGES: usize, T: Touches>(
     requires aligned { IsAligned request }
     requires fed { IsFed feed physical.old.phys }
     requires serves { Serves physical.old buffer.old }
-    ensures ok { IfOk result (λ r. MemoryDoes (keeping T.KEEPS T.OBSERVES) (bytes_fed feed.entry) (access (ram_size PAGES) (units_of physical.old) request)
+    ensures ok { IfOk result (λ r. MemoryDoes T.NOTING (bytes_fed feed.entry) (access (ram_size PAGES) (units_of physical.old) request)
         physical.old physical.new r (T.noted notes.old) (T.noted notes.new)) }
     ensures fed { OnOk result (IsFed feed.entry physical.new.phys) }
     ensures serves { Serves physical.new buffer.new }

@@ -1,7 +1,7 @@
 //! Stores and exchanges by address space (Appendices H and I).
 
 ghost use Rattle.std.specs.Prelude.{◌≡◌, ℕ, ◌%◌, ◌/◌, ◌^◌, ◌<◌, List, false, IfOk, OnOk};
-ghost use Rattle.sv8_model.specs.Does.{keeping};
+ghost use Rattle.sv8_model.specs.Does.{};
 ghost use Rattle.sv8_model.specs.declared.size.Size.{Size};
 ghost use Rattle.sv8_model.specs.Size.{bytes_in};
 ghost use Rattle.sv8_mmu.specs.Registers.{translates};
@@ -33,7 +33,7 @@ pub fn store_physical<const PAGES: usize, T: Touches>(
     requires aligned { pa % bytes_in size ≡ 0 }
     requires small { pa < 2 ^ 44 }
     requires serves { Serves physical.old buffer.old }
-    ensures ok { IfOk result (λ r. (bytes : List ℕ) → MemoryDoes (keeping T.KEEPS T.OBSERVES) bytes (stored_at (ram_size PAGES) (units_of physical.old) size asi value at pa)
+    ensures ok { IfOk result (λ r. (bytes : List ℕ) → MemoryDoes T.NOTING bytes (stored_at (ram_size PAGES) (units_of physical.old) size asi value at pa)
         physical.old physical.new r (T.noted notes.old) (T.noted notes.new)) }
     ensures taken { OnOk result (physical.new.phys.taken ≡ physical.old.phys.taken) }
     ensures serves { Serves physical.new buffer.new }
@@ -56,7 +56,7 @@ pub fn store_virtual<const PAGES: usize, T: Touches>(
 ) -> Result<Response, AllocError>
     requires aligned { at % bytes_in size ≡ 0 }
     requires serves { Serves physical.old buffer.old }
-    ensures ok { IfOk result (λ r. (bytes : List ℕ) → MemoryDoes (keeping T.KEEPS T.OBSERVES) bytes (stored_in (ram_size PAGES) (units_of physical.old) size asi at value Space.Virtual)
+    ensures ok { IfOk result (λ r. (bytes : List ℕ) → MemoryDoes T.NOTING bytes (stored_in (ram_size PAGES) (units_of physical.old) size asi at value Space.Virtual)
         physical.old physical.new r (T.noted notes.old) (T.noted notes.new)) }
     ensures taken { OnOk result (physical.new.phys.taken ≡ physical.old.phys.taken) }
     ensures serves { Serves physical.new buffer.new }
@@ -125,7 +125,7 @@ pub(crate) fn store<const PAGES: usize, T: Touches>(
 ) -> Result<Response, AllocError>
     requires aligned { at % bytes_in size ≡ 0 }
     requires serves { Serves physical.old buffer.old }
-    ensures ok { IfOk result (λ r. (bytes : List ℕ) → MemoryDoes (keeping T.KEEPS T.OBSERVES) bytes (stored_in (ram_size PAGES) (units_of physical.old) size asi at value (space_of asi))
+    ensures ok { IfOk result (λ r. (bytes : List ℕ) → MemoryDoes T.NOTING bytes (stored_in (ram_size PAGES) (units_of physical.old) size asi at value (space_of asi))
         physical.old physical.new r (T.noted notes.old) (T.noted notes.new)) }
     ensures taken { OnOk result (physical.new.phys.taken ≡ physical.old.phys.taken) }
     ensures serves { Serves physical.new buffer.new }
@@ -173,7 +173,7 @@ fn exchange_physical<const PAGES: usize, T: Touches>(
     requires aligned { pa % bytes_in size ≡ 0 }
     requires small { pa < 2 ^ 44 }
     requires serves { Serves physical.old buffer.old }
-    ensures ok { IfOk result (λ r. (bytes : List ℕ) → MemoryDoes (keeping T.KEEPS T.OBSERVES) bytes (exchanged_at (ram_size PAGES) (units_of physical.old) size asi value at pa)
+    ensures ok { IfOk result (λ r. (bytes : List ℕ) → MemoryDoes T.NOTING bytes (exchanged_at (ram_size PAGES) (units_of physical.old) size asi value at pa)
         physical.old physical.new r (T.noted notes.old) (T.noted notes.new)) }
     ensures taken { OnOk result (physical.new.phys.taken ≡ physical.old.phys.taken) }
     ensures serves { Serves physical.new buffer.new }
@@ -195,7 +195,7 @@ fn exchange_virtual<const PAGES: usize, T: Touches>(
 ) -> Result<Response, AllocError>
     requires aligned { at % bytes_in size ≡ 0 }
     requires serves { Serves physical.old buffer.old }
-    ensures ok { IfOk result (λ r. (bytes : List ℕ) → MemoryDoes (keeping T.KEEPS T.OBSERVES) bytes (exchanged_in (ram_size PAGES) (units_of physical.old) size asi at value Space.Virtual)
+    ensures ok { IfOk result (λ r. (bytes : List ℕ) → MemoryDoes T.NOTING bytes (exchanged_in (ram_size PAGES) (units_of physical.old) size asi at value Space.Virtual)
         physical.old physical.new r (T.noted notes.old) (T.noted notes.new)) }
     ensures taken { OnOk result (physical.new.phys.taken ≡ physical.old.phys.taken) }
     ensures serves { Serves physical.new buffer.new }
@@ -234,7 +234,7 @@ pub(crate) fn exchange<const PAGES: usize, T: Touches>(
 ) -> Result<Response, AllocError>
     requires aligned { at % bytes_in size ≡ 0 }
     requires serves { Serves physical.old buffer.old }
-    ensures ok { IfOk result (λ r. (bytes : List ℕ) → MemoryDoes (keeping T.KEEPS T.OBSERVES) bytes (exchanged_in (ram_size PAGES) (units_of physical.old) size asi at value (space_of asi))
+    ensures ok { IfOk result (λ r. (bytes : List ℕ) → MemoryDoes T.NOTING bytes (exchanged_in (ram_size PAGES) (units_of physical.old) size asi at value (space_of asi))
         physical.old physical.new r (T.noted notes.old) (T.noted notes.new)) }
     ensures taken { OnOk result (physical.new.phys.taken ≡ physical.old.phys.taken) }
     ensures serves { Serves physical.new buffer.new }
@@ -270,7 +270,7 @@ pub fn store_untranslated<const PAGES: usize, T: Touches>(
     requires space { space_of asi ≡ Space.Virtual }
     requires aligned { at % bytes_in size ≡ 0 }
     requires serves { Serves physical.old buffer.old }
-    ensures ok { IfOk result (λ r. (bytes : List ℕ) → MemoryDoes (keeping T.KEEPS T.OBSERVES) bytes (access (ram_size PAGES) (units_of physical.old) (AccessRequest.Store size asi at value))
+    ensures ok { IfOk result (λ r. (bytes : List ℕ) → MemoryDoes T.NOTING bytes (access (ram_size PAGES) (units_of physical.old) (AccessRequest.Store size asi at value))
         physical.old physical.new r (T.noted notes.old) (T.noted notes.new)) }
     ensures taken { OnOk result (physical.new.phys.taken ≡ physical.old.phys.taken) }
     ensures serves { Serves physical.new buffer.new }

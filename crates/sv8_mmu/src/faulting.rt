@@ -1,7 +1,7 @@
 //! Translation whose faults are whole.
 
 ghost use Rattle.std.specs.Prelude.{◌≡◌, ℕ, List, [], true, IfOk, OnErr};
-ghost use Rattle.sv8_model.specs.Does.{Does, keeping};
+ghost use Rattle.sv8_model.specs.Does.{Does};
 ghost use Rattle.sv8_mmu.specs.Answers.{answer_of, answered_translation, translation_grows};
 ghost use Rattle.sv8_mmu.specs.Kept.{AllStand, IsAnswer};
 
@@ -45,7 +45,7 @@ pub fn translate<R: TableMemory, T: Touches>(
     notes: &mut T,
 ) -> Result<Result<u64, Fault>, AllocError>
     requires stand { AllStand R.SIZE (R.ram phys.old) registers.now.table_pointer buffer.old }
-    ensures ok { IfOk result (λ r. (bytes : List ℕ) → Does (keeping T.KEEPS T.OBSERVES) (answered_translation R.SIZE registers.now access.address access.access_type access.reach)
+    ensures ok { IfOk result (λ r. (bytes : List ℕ) → Does T.NOTING (answered_translation R.SIZE registers.now access.address access.access_type access.reach)
         (record (R.outside bytes phys.old) { ram = R.ram phys.old }) (record (R.outside bytes phys.new) { ram = R.ram phys.new }) r (T.noted notes.old) (T.noted notes.new)) }
     ensures answer { IfOk result (λ r. IsAnswer access.address access.access_type r) }
     ensures others { phys.new ≡ R.with_ram (R.ram phys.new) phys.old }

@@ -157,7 +157,7 @@ pub fn probe<R: TableMemory, T: Touches>(
     kind: ProbeKind,
     notes: &mut T,
 ) -> Result<u32, AllocError>
-    ensures ok { IfOk result (λ v. (bytes : List ℕ) → Does (keeping T.KEEPS T.OBSERVES) (probed_as R.SIZE registers.now va kind)
+    ensures ok { IfOk result (λ v. (bytes : List ℕ) → Does T.NOTING (probed_as R.SIZE registers.now va kind)
         (record (R.outside bytes phys.now) { ram = R.ram phys.now }) (record (R.outside bytes phys.now) { ram = R.ram phys.now }) v (T.noted notes.old) (T.noted notes.new)) }
     ensures err { OnErr result (T.KEEPS ≡ true) }
 {
@@ -178,7 +178,7 @@ pub fn probe_by_address<R: TableMemory, T: Touches>(
     va: u32,
     notes: &mut T,
 ) -> Result<u32, AllocError>
-    ensures ok { IfOk result (λ v. (bytes : List ℕ) → Does (keeping T.KEEPS T.OBSERVES) (probe R.SIZE registers.now va)
+    ensures ok { IfOk result (λ v. (bytes : List ℕ) → Does T.NOTING (probe R.SIZE registers.now va)
         (record (R.outside bytes phys.now) { ram = R.ram phys.now }) (record (R.outside bytes phys.now) { ram = R.ram phys.now }) v (T.noted notes.old) (T.noted notes.new)) }
     ensures err { OnErr result (T.KEEPS ≡ true) }
 {

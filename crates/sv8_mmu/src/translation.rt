@@ -175,7 +175,7 @@ fn is_served<R: TableMemory>(phys: &R, reach: Reach, pa: u64) -> bool
 
 /// Notes the entries that a walk read.
 pub fn note_reads<T: Touches>(trail: &Trail, notes: &mut T) -> Result<(), AllocError>
-    ensures ok { OnOk result (T.noted notes.new ≡ noting (keeping T.KEEPS T.OBSERVES) (T.noted notes.old) (reads_of (places_of trail.now)) []) }
+    ensures ok { OnOk result (T.noted notes.new ≡ noting T.NOTING (T.noted notes.old) (reads_of (places_of trail.now)) []) }
     ensures err { OnErr result (T.KEEPS ≡ true) }
 {
     for at in trail.places.iter().take(trail.count) {
@@ -234,7 +234,7 @@ fn store_marks<R: TableMemory, T: Touches>(
 ) -> Result<(), AllocError>
     requires kind { old % 4 ≡ 2 → entry % 4 ≡ 2 }
     requires end { IsEnd R.SIZE (Walked.Page old level at) }
-    ensures ok { OnOk result ((answer : Translated) (bytes : List ℕ) → Does (keeping T.KEEPS T.OBSERVES) (store_word (at / 4) entry (done answer))
+    ensures ok { OnOk result ((answer : Translated) (bytes : List ℕ) → Does T.NOTING (store_word (at / 4) entry (done answer))
         (record (R.outside bytes phys.old) { ram = R.ram phys.old }) (record (R.outside bytes phys.new) { ram = R.ram phys.new }) answer (T.noted notes.old) (T.noted notes.new)) }
     ensures others { phys.new ≡ R.with_ram (R.ram phys.new) phys.old }
     ensures err { OnErr result (phys.new ≡ phys.old) }
@@ -260,7 +260,7 @@ fn settle<R: TableMemory, T: Touches>(
     notes: &mut T,
 ) -> Result<Translated, AllocError>
     requires end { IsEnd R.SIZE walk.end }
-    ensures ok { IfOk result (λ r. (bytes : List ℕ) → Does (keeping T.KEEPS T.OBSERVES) (settled R.SIZE access.address access.access_type access.reach walk.end)
+    ensures ok { IfOk result (λ r. (bytes : List ℕ) → Does T.NOTING (settled R.SIZE access.address access.access_type access.reach walk.end)
         (record (R.outside bytes phys.old) { ram = R.ram phys.old }) (record (R.outside bytes phys.new) { ram = R.ram phys.new }) r (T.noted notes.old) (T.noted notes.new)) }
     ensures answer { IfOk result (λ r. IsTranslation access.address r) }
     ensures others { phys.new ≡ R.with_ram (R.ram phys.new) phys.old }
@@ -364,7 +364,7 @@ pub fn resolve_by_memo<R: TableMemory, T: Touches>(
     requires translated { translates registers.now ≡ true }
     requires stand { AllStand R.SIZE (R.ram phys.now) registers.now.table_pointer buffer.now }
     ensures found { IfOk result (λ found. MatchOption found (T.noted notes.new ≡ T.noted notes.old)
-        (λ pa. (bytes : List ℕ) → Does (keeping T.KEEPS T.OBSERVES) (translate R.SIZE registers.now access.address access.access_type access.reach)
+        (λ pa. (bytes : List ℕ) → Does T.NOTING (translate R.SIZE registers.now access.address access.access_type access.reach)
         (record (R.outside bytes phys.now) { ram = R.ram phys.now }) (record (R.outside bytes phys.now) { ram = R.ram phys.now }) (Translated.At pa) (T.noted notes.old) (T.noted notes.new))) }
     ensures ram { IfOk result (λ found. IfSome found (λ pa. nat_lt pa R.SIZE ≡ true)) }
     ensures answer { IfOk result (λ found. IfSome found (λ pa. IsTranslation access.address (Translated.At pa))) }
@@ -392,7 +392,7 @@ fn translate_by_tables<R: TableMemory, T: Touches>(
 ) -> Result<Translated, AllocError>
     requires on { translates registers.now ≡ true }
     requires stand { AllStand R.SIZE (R.ram phys.old) registers.now.table_pointer buffer.old }
-    ensures ok { IfOk result (λ r. (bytes : List ℕ) → Does (keeping T.KEEPS T.OBSERVES) (translate R.SIZE registers.now access.address access.access_type access.reach)
+    ensures ok { IfOk result (λ r. (bytes : List ℕ) → Does T.NOTING (translate R.SIZE registers.now access.address access.access_type access.reach)
         (record (R.outside bytes phys.old) { ram = R.ram phys.old }) (record (R.outside bytes phys.new) { ram = R.ram phys.new }) r (T.noted notes.old) (T.noted notes.new)) }
     ensures answer { IfOk result (λ r. IsTranslation access.address r) }
     ensures others { phys.new ≡ R.with_ram (R.ram phys.new) phys.old }
@@ -427,7 +427,7 @@ pub fn resolve<R: TableMemory, T: Touches>(
     notes: &mut T,
 ) -> Result<Translated, AllocError>
     requires stand { AllStand R.SIZE (R.ram phys.old) registers.now.table_pointer buffer.old }
-    ensures ok { IfOk result (λ r. (bytes : List ℕ) → Does (keeping T.KEEPS T.OBSERVES) (translate R.SIZE registers.now access.address access.access_type access.reach)
+    ensures ok { IfOk result (λ r. (bytes : List ℕ) → Does T.NOTING (translate R.SIZE registers.now access.address access.access_type access.reach)
         (record (R.outside bytes phys.old) { ram = R.ram phys.old }) (record (R.outside bytes phys.new) { ram = R.ram phys.new }) r (T.noted notes.old) (T.noted notes.new)) }
     ensures answer { IfOk result (λ r. IsTranslation access.address r) }
     ensures others { phys.new ≡ R.with_ram (R.ram phys.new) phys.old }

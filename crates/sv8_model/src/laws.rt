@@ -3,6 +3,8 @@
 ghost use Rattle.sv8_model.specs.Frame.{CellsHold, FrameOfAction, UntouchedStays, SoundStays};
 ghost use Rattle.sv8_model.specs.Laws.{ActionsCompose, DeedsCompose};
 
+use crate::touches::Touches;
+
 /// One action after another leads to what the second leads to from where the first one ended, and touches
 /// what both touch, in order.
 pub fn actions_compose<A, B>()
@@ -10,8 +12,8 @@ pub fn actions_compose<A, B>()
 {}
 
 /// Code that does one action and then another does the two in sequence.
-pub fn deeds_compose<A, B>()
-    ensures { DeedsCompose A B }
+pub fn deeds_compose<A, B, T: Touches>()
+    ensures { DeedsCompose T.NOTING A B }
 {}
 
 /// A cell holds what was put there last, and to put something changes no other cell.

@@ -3,7 +3,7 @@
 ghost use Rattle.std.specs.Prelude.{◌≡◌, ◌<◌, ◌≤◌, ◌/◌, ◌%◌, ℕ, List, length, OnOk, OnErr};
 ghost use Rattle.sv8_model.specs.Outside.{word_of};
 ghost use Rattle.sv8_model.specs.Action.{done, store_word};
-ghost use Rattle.sv8_model.specs.Does.{Does, keeping};
+ghost use Rattle.sv8_model.specs.Does.{Does};
 
 use crate::touches::Touches;
 use std::alloc::AllocError;
@@ -51,7 +51,7 @@ pub trait TableMemory {
     ) -> Result<(), AllocError>
         requires aligned { at % 4 ≡ 0 }
         requires within { at < SIZE }
-        ensures ok { OnOk result ((bytes : List ℕ) → Does (keeping T.KEEPS T.OBSERVES) (store_word (at / 4) value (done value))
+        ensures ok { OnOk result ((bytes : List ℕ) → Does T.NOTING (store_word (at / 4) value (done value))
             (record (outside bytes self.old) { ram = ram self.old }) (record (outside bytes self.new) { ram = ram self.new }) value (T.noted notes.old) (T.noted notes.new)) }
         ensures others { self.new ≡ with_ram (ram self.new) self.old }
         ensures err { OnErr result (self.new ≡ self.old) };

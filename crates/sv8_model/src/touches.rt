@@ -1,7 +1,7 @@
 //! Notes of what a step touches, and of what an observer sees of it.
 
 ghost use Rattle.std.specs.Prelude.{◌≡◌, ◌∷◌, [], true, OnOk, OnErr};
-ghost use Rattle.sv8_model.specs.Does.{keeping, noting};
+ghost use Rattle.sv8_model.specs.Does.{noting};
 
 use crate::observation::Observation;
 use crate::touch::Touch;
@@ -10,18 +10,19 @@ use std::alloc::AllocError;
 /// What takes notes of touches and of observations.
 pub trait Touches {
     ghost use Rattle.std.specs.Prelude.{Bool};
-    ghost use Rattle.sv8_model.specs.Does.{Notes};
+    ghost use Rattle.sv8_model.specs.Does.{Noting};
 
-    /// Whether notes of touches are kept.
-    const KEEPS: bool;
+    // How notes are taken.
+    ghost NOTING: { Noting };
 
+    // Whether notes of touches are kept, for which memory may be wanted.
     ghost KEEPS: { Bool };
 
-    // Whether notes of observations are kept.
+    // The same of observations.
     ghost OBSERVES: { Bool };
 
     /// The notes taken so far.
-    ghost noted: { Self → Notes };
+    ghost noted: { Self → NOTING.Taken };
 
     /// Takes a note of a touch, behind those taken so far.
     ///
@@ -29,7 +30,7 @@ pub trait Touches {
     ///
     /// `AllocError` where memory for the note cannot be had; never where no notes of touches are kept.
     fn note(&mut self, touch: Touch) -> Result<(), AllocError>
-        ensures ok { OnOk result (noted self.new ≡ noting (keeping KEEPS OBSERVES) (noted self.old) (touch ∷ []) []) }
+        ensures ok { OnOk result (noted self.new ≡ noting NOTING (noted self.old) (touch ∷ []) []) }
         ensures err { OnErr result (KEEPS ≡ true) };
 
     /// Takes a note of an observation, behind those taken so far.
@@ -38,7 +39,7 @@ pub trait Touches {
     ///
     /// `AllocError` where memory for the note cannot be had; never where no notes of observations are kept.
     fn observe(&mut self, observation: Observation) -> Result<(), AllocError>
-        ensures ok { OnOk result (noted self.new ≡ noting (keeping KEEPS OBSERVES) (noted self.old) [] (observation ∷ [])) }
+        ensures ok { OnOk result (noted self.new ≡ noting NOTING (noted self.old) [] (observation ∷ [])) }
         ensures err { OnErr result (OBSERVES ≡ true) };
 }
 
@@ -48,9 +49,9 @@ pub struct NoTouches;
 
 impl Touches for NoTouches {
     ghost use Rattle.std.specs.Prelude.{Bool, false};
-    ghost use Rattle.sv8_model.specs.Does.{no_notes};
+    ghost use Rattle.sv8_model.specs.Does.{keeping, no_notes};
 
-    const KEEPS: bool = false;
+    ghost NOTING = { keeping false false };
 
     ghost KEEPS = { false };
 

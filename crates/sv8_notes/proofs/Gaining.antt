@@ -1,9 +1,9 @@
 -- Notes of more touches.
 use Rattle.std.proofs.lemmas.List.{take_more}
-use Rattle.std.proofs.Common.{take, length, get_or, set, suc, zero, arith, ◌+◌, ◌≡◌, ℕ, ◌<◌, List, [], ◌∷◌, ◌++◌, ◌==◌, Bool, true, false, ◌&&◌, ◌||◌, refl, sym, subst, ◌∙◌, ap, eqb-true, eq-eqb}
+use Rattle.std.proofs.Common.{take, length, get_or, set, suc, zero, arith, ◌+◌, ◌≡◌, ℕ, ◌<◌, List, [], ◌∷◌, ◌++◌, ◌==◌, Bool, true, false, ◌&&◌, ◌||◌, refl, sym, ◌∙◌, ap, eqb-true, eq-eqb}
 use Rattle.std.specs.List.{list_any}
 use Rattle.sv8_model.specs.declared.touch.Touch.{Touch}
-use Rattle.sv8_model.specs.declared.touch.Touch.TheVariants.{Read, Write, Input, Levels, Expiry}
+use Rattle.sv8_model.specs.declared.touch.Touch.TheVariants.{Read, Write, Levels}
 use Rattle.sv8_model.specs.Outside.{word_address}
 use Rattle.sv8_model.specs.Words.{bit}
 use Rattle.sv8_model.specs.Levels.{timer_level}
@@ -127,6 +127,56 @@ module _ (offset : ℕ) (s : Steps) where
       reads waiting_bytes j = none _ (j == offset)
       reads (pending_level l) j = none _ (j == offset)
 
+  -- the note of a word that is read as data
+  pub gains_load : (a : ℕ) → Gains offset (Read a ∷ []) (Read a ∷ []) s (record s { reads = s.reads ++ record { address = a; offset = offset } ∷ [] })
+  gains_load a = record {
+    reads = λ c j. reads c j;
+    writes = λ c j. none_written a c j;
+    uses = λ c j. uses c j;
+    takes = λ j. none (is_among j s.inputs) (j == offset);
+  }
+    where
+      reads : (c : Cell) (j : ℕ) → reads_in (record s { reads = s.reads ++ word a ∷ [] }) c j ≡ (reads_in s c j || (j == offset && is_read (Read a ∷ []) c))
+      reads (ram_byte i) j =
+          let w = word_address i in
+          ap (λ b. has_word s.fetches w j || b) (noted s.reads a w j) ∙ or_groups (has_word s.fetches w j) (has_word s.reads w j) (j == offset && (a == w || false))
+      reads waiting_bytes j = none _ (j == offset)
+      reads (pending_level l) j = none _ (j == offset)
+
+      uses : (c : Cell) (j : ℕ) → data_in (record s { reads = s.reads ++ word a ∷ [] }) c j ≡ (data_in s c j || (j == offset && are_of (Read a ∷ []) c))
+      uses (ram_byte i) j =
+          let w = word_address i in
+          ap (λ b. b || has_word s.writes w j) (noted s.reads a w j ∙ ap (λ b. has_word s.reads w j || (j == offset && b)) (sym (or_none (a == w || false))))
+          ∙ turned (has_word s.reads w j) (j == offset && ((a == w || false) || false)) (has_word s.writes w j)
+      uses waiting_bytes j = none _ (j == offset)
+      uses (pending_level l) j = none _ (j == offset)
+
+  -- the note of a word that is written
+  pub gains_store : (a : ℕ) → Gains offset (Write a ∷ []) (Write a ∷ []) s (record s { writes = s.writes ++ record { address = a; offset = offset } ∷ [] })
+  gains_store a = record {
+    reads = λ c j. reads c j;
+    writes = λ c j. writes c j;
+    uses = λ c j. uses c j;
+    takes = λ j. none (is_among j s.inputs) (j == offset);
+  }
+    where
+      reads : (c : Cell) (j : ℕ) → reads_in s c j ≡ (reads_in s c j || (j == offset && is_read (Write a ∷ []) c))
+      reads (ram_byte i) j = none _ (j == offset)
+      reads waiting_bytes j = none _ (j == offset)
+      reads (pending_level l) j = none _ (j == offset)
+
+      writes : (c : Cell) (j : ℕ) → writes_in (record s { writes = s.writes ++ word a ∷ [] }) c j ≡ (writes_in s c j || (j == offset && is_told_written (Write a ∷ []) c))
+      writes (ram_byte i) j = noted s.writes a (word_address i) j
+      writes waiting_bytes j = none _ (j == offset)
+      writes (pending_level l) j = (gains_nothing offset s).writes (pending_level l) j
+
+      uses : (c : Cell) (j : ℕ) → data_in (record s { writes = s.writes ++ word a ∷ [] }) c j ≡ (data_in s c j || (j == offset && are_of (Write a ∷ []) c))
+      uses (ram_byte i) j =
+          let w = word_address i in
+          ap (λ b. has_word s.reads w j || b) (noted s.writes a w j) ∙ or_groups (has_word s.reads w j) (has_word s.writes w j) (j == offset && (a == w || false))
+      uses waiting_bytes j = none _ (j == offset)
+      uses (pending_level l) j = none _ (j == offset)
+
   -- what touches no word is no data
   abbrev NoWord : Touch → Type 0
   NoWord t = (address : ℕ) → is_touch_of address t ≡ false
@@ -193,13 +243,9 @@ gains_then offset ts us ds es r s t p q = record {
   takes = λ j. q.takes j ∙ ap (λ b. b || (j == offset && reads_input us)) (p.takes j) ∙ gathered (is_among j r.inputs) (j == offset) (reads_input ts) (reads_input us) ∙ ap (λ b. is_among j r.inputs || (j == offset && b)) (sym (any_append is_input ts us));
 }
 
--- the same of a fetch, by the notes as they stand
-pub gains_fetch : (offset a : ℕ) (old s : Steps) (fetches more : List WordNote) → old ≡ s → old.fetches ≡ fetches → more ≡ fetches ++ record { address = a; offset = offset } ∷ []
-    → Gains offset (Read a ∷ []) [] s (record old { fetches = more })
-gains_fetch offset a old s fetches more same is longer =
-    subst (λ r. Gains offset (Read a ∷ []) [] r (record old { fetches = more })) same
-    (subst (λ words. Gains offset (Read a ∷ []) [] old (record old { fetches = words })) (ap (λ words. words ++ record { address = a; offset = offset } ∷ []) is ∙ sym longer)
-    (gains_read offset old a))
+-- the note of a word more among those of words that are fetched
+pub one_fetched : (note : WordNote) (old s : Steps) (more : List WordNote) → old ≡ s → more ≡ old.fetches ++ note ∷ [] → record old { fetches = more } ≡ record s { fetches = s.fetches ++ note ∷ [] }
+one_fetched note old s more same longer = ap (λ words. record old { fetches = words }) longer ∙ ap (λ (x : Steps). record x { fetches = x.fetches ++ note ∷ [] }) same
 
 -- the same of touches that read, write and take the same, and of data that is of the same words
 pub gains_like : (offset : ℕ) (ts us ds es : List Touch) (r s : Steps) → ((c : Cell) → are_of es c ≡ are_of ds c) → ((c : Cell) → is_read us c ≡ is_read ts c) → ((c : Cell) → is_told_written us c ≡ is_told_written ts c) → reads_input us ≡ reads_input ts

@@ -9,8 +9,12 @@ use Rattle.sv8_model.specs.Cells.{Cell, ram_byte, waiting_bytes, pending_level, 
 use Rattle.sv8_touches.specs.Told.{told}
 use Rattle.sv8_notes.specs.Touched.{is_touched, is_touched_by, is_told_written}
 use Rattle.sv8_notes.specs.Steps.{Steps, Gains, are_of}
-use Rattle.sv8_notes.proofs.Gaining.{or_none, any_append, gains_like, gains_then, read_append, written_append}
+use Rattle.sv8_notes.proofs.Gaining.{or_none, any_append, are_of_append, gains_like, gains_then, read_append, written_append}
 use Rattle.sv8_notes.proofs.Touching.{any_split, byte_split, told_read, told_written, touched_parts, touched_told}
+
+pub told_nothing : told [] ≡ []
+unfolding told
+told_nothing = refl
 
 -- a word that is fetched
 pub told_fetch : (a : ℕ) → told (Read a ∷ []) ≡ Read a ∷ []
@@ -95,12 +99,31 @@ touch_parts ts i =
     any_split (is_read_of (word_address i)) (is_write_of (word_address i)) (is_touch_of (word_address i)) (λ t. refl) ts
     ∙ sym (any_split (is_read_of (word_address i)) (is_write_of (word_address i)) (is_touched_by (ram_byte i)) (byte_split i) ts)
 
+-- what is told has the data of all that was noted
+pub data_told : (ts ds : List Touch) → ((address : ℕ) → list_any (is_touch_of address) ds ≡ list_any (is_touch_of address) ts) → (c : Cell) → are_of ds c ≡ are_of (told ts) c
+data_told ts ds all (ram_byte i) = all (word_address i) ∙ touch_parts ts i ∙ touches_told ts (ram_byte i) ∙ sym (touch_parts (told ts) i)
+data_told ts ds all waiting_bytes = refl
+data_told ts ds all (pending_level l) = refl
+
 -- all that such a step touches is told, and is its data
 pub gains_all : (offset : ℕ) (ts ds : List Touch) (r s : Steps) → ((address : ℕ) → list_any (is_touch_of address) ds ≡ list_any (is_touch_of address) ts)
     → Gains offset (told ts) (told ts) r s → Gains offset (told ts) ds r s
-gains_all offset ts ds r s all p = gains_like offset (told ts) (told ts) (told ts) ds r s uses (λ c. refl) (λ c. refl) refl p
+gains_all offset ts ds r s all p = gains_like offset (told ts) (told ts) (told ts) ds r s (data_told ts ds all) (λ c. refl) (λ c. refl) refl p
+
+-- some of what it touches, but no word that it wrote, is noted before
+pub gains_twice : (offset : ℕ) (ts ds es : List Touch) (r s t : Steps) → ((c : Cell) → (is_read ds c || is_read ts c) ≡ is_read ts c) → ((c : Cell) (b : Bool) → (is_told_written ds c || b) ≡ b)
+    → ((c : Cell) → (are_of es c || are_of ts c) ≡ are_of ts c) → Gains offset ds es r s → Gains offset (told ts) (told ts) s t → Gains offset (told ts) (told ts) r t
+gains_twice offset ts ds es r s t reads writes used p q =
+    gains_like offset (ds ++ told ts) (told ts) (es ++ told ts) (told ts) r t uses reads' writes' (reads' waiting_bytes) (gains_then offset ds (told ts) es (told ts) r s t p q)
   where
-    uses : (c : Cell) → are_of ds c ≡ are_of (told ts) c
-    uses (ram_byte i) = all (word_address i) ∙ touch_parts ts i ∙ touches_told ts (ram_byte i) ∙ sym (touch_parts (told ts) i)
-    uses waiting_bytes = refl
-    uses (pending_level l) = refl
+    all : (c : Cell) → are_of ts c ≡ are_of (told ts) c
+    all = data_told ts ts (λ address. refl)
+
+    uses : (c : Cell) → are_of (told ts) c ≡ are_of (es ++ told ts) c
+    uses c = sym (are_of_append es (told ts) c ∙ ap (λ b. are_of es c || b) (sym (all c)) ∙ used c ∙ all c)
+
+    reads' : (c : Cell) → is_read (told ts) c ≡ is_read (ds ++ told ts) c
+    reads' c = sym (read_append ds (told ts) c ∙ ap (λ b. is_read ds c || b) (told_read ts c) ∙ reads c ∙ sym (told_read ts c))
+
+    writes' : (c : Cell) → is_told_written (told ts) c ≡ is_told_written (ds ++ told ts) c
+    writes' c = sym (written_append ds (told ts) c ∙ writes c (is_told_written (told ts) c))

@@ -8,3 +8,4 @@ pub mod WordRuns
 pub mod Touching
 pub mod Flags
 pub mod PageRuns
+pub mod Recording

@@ -1,17 +1,16 @@
 //! The notes of the steps from a checkpoint to the next one.
 
-ghost use Rattle.std.specs.Prelude.{◌≡◌, ℕ, ◌+◌, ◌<◌, ◌≤◌, ◌==◌, ◌&&◌, ◌||◌, ◌++◌, ◌∷◌, [], true, false, IfOk, OnOk, MatchBool};
+ghost use Rattle.std.specs.Prelude.{◌≡◌, ℕ, ◌+◌, ◌<◌, ◌≤◌, ◌==◌, ◌&&◌, ◌||◌, ◌++◌, ◌∷◌, [], true, false, IfOk, OnOk};
 ghost use Rattle.std.specs.List.{list_any};
 ghost use Rattle.sv8_model.specs.Words.{bit};
 ghost use Rattle.sv8_notes.specs.Cells.{cell_of};
 ghost use Rattle.sv8_notes.specs.Flags.{IsFlagged};
 ghost use Rattle.sv8_notes.specs.Marks.{mark_of, IsUntouched};
-ghost use Rattle.sv8_model.specs.Footprint.{behind_fetch, data_touches};
-ghost use Rattle.sv8_notes.specs.Steps.{Gains, IsAllData, IsFirstBelow, footprint_in, is_asked_in, is_word_of, has_word, no_steps};
+ghost use Rattle.sv8_notes.specs.Steps.{Gains, IsFirstBelow, footprint_in, is_asked_in, is_word_of, has_word, no_steps};
 ghost use Rattle.sv8_notes.specs.Sought.{is_met, sought_word};
 ghost use Rattle.sv8_notes.specs.Touching.{is_from_to, is_note_in, are_notes_in, touches_any};
 ghost use Rattle.sv8_notes.specs.WordRuns.{words_of};
-ghost use Rattle.sv8_touches.specs.Told.{told};
+ghost use Rattle.sv8_notes.specs.Recording.{without_last, word_at};
 
 use crate::cell::Cell;
 use crate::flags::flag_step;
@@ -229,7 +228,7 @@ impl Notes {
 
     /// Levels are asked: the last run goes on, or another begins.
     #[inline(always)]
-    fn note_levels(&mut self, levels: u16, offset: u32) -> Result<(), AllocError>
+    pub(crate) fn note_levels(&mut self, levels: u16, offset: u32) -> Result<(), AllocError>
         requires { offset < 1000000 }
         ensures asked { OnOk result ((l j : ℕ) → list_any (is_asked_in l j) self.new.levels ≡ (list_any (is_asked_in l j) self.old.levels || (j == offset && bit levels l))) }
         ensures others { OnOk result (self.new ≡ record self.old { levels = self.new.levels }) }
@@ -254,8 +253,8 @@ impl Notes {
         ensures { OnOk result (Gains offset (touch ∷ []) (touch ∷ []) self.old self.new) }
     {
         match touch {
-            Touch::Read(address) => note_word(&mut self.reads, address, offset)?,
-            Touch::Write(address) => note_word(&mut self.writes, address, offset)?,
+            Touch::Read(address) => self.note_read(address, offset)?,
+            Touch::Write(address) => self.note_write(address, offset)?,
             Touch::Input => self.inputs.push(offset)?,
             Touch::Levels(levels) => self.note_levels(levels, offset)?,
             Touch::Expiry => self.expiries.push(offset)?,
@@ -263,11 +262,11 @@ impl Notes {
         Ok(())
     }
 
-    /// Takes a note of the first word that a step reads, as no data.
+    /// Takes a note of a word that is fetched.
     #[inline(always)]
-    fn note_fetch(&mut self, address: u32, offset: u32) -> Result<(), AllocError>
+    pub(crate) fn note_fetch(&mut self, address: u32, offset: u32) -> Result<(), AllocError>
         requires { offset < 1000000 }
-        ensures { OnOk result (Gains offset (Touch.Read address ∷ []) [] self.old self.new) }
+        ensures { OnOk result (self.new ≡ record self.old { fetches = self.old.fetches ++ word_at address offset }) }
     {
         if extend_last(&mut self.fetches, address, offset) {
             return Ok(());
@@ -277,91 +276,28 @@ impl Notes {
         Ok(())
     }
 
-    /// Takes a note of the only touch of a step, if it reads a word. Tells whether it does; else no note is taken.
+    /// Takes a note of a word that is read as data.
     #[inline(always)]
-    fn note_one(&mut self, touch: Touch, offset: u32) -> Result<bool, AllocError>
-        requires { offset < 1000000 }
-        ensures { IfOk result (λ done. MatchBool done (Gains offset (told (touch ∷ [])) (behind_fetch (touch ∷ [])) self.old self.new) ((self.new ≡ self.old) × (behind_fetch (touch ∷ []) ≡ touch ∷ []))) }
+    pub(crate) fn note_read(&mut self, address: u32, offset: u32) -> Result<(), AllocError>
+        ensures { OnOk result (self.new ≡ record self.old { reads = self.old.reads ++ word_at address offset }) }
     {
-        match touch {
-            Touch::Read(fetched) => {
-                self.note_fetch(fetched, offset)?;
-                Ok(true)
-            }
-            _ => Ok(false),
-        }
+        note_word(&mut self.reads, address, offset)
     }
 
-    /// The same of a step that touches twice: it reads a word, and reads a word or writes another one.
+    /// Takes a note of a word that is written.
     #[inline(always)]
-    fn note_two(&mut self, first: Touch, second: Touch, offset: u32) -> Result<bool, AllocError>
-        requires { offset < 1000000 }
-        ensures { IfOk result (λ done. MatchBool done (Gains offset (told (first ∷ second ∷ [])) (behind_fetch (first ∷ second ∷ [])) self.old self.new) ((self.new ≡ self.old) × (behind_fetch (first ∷ second ∷ []) ≡ first ∷ second ∷ []))) }
+    pub(crate) fn note_write(&mut self, address: u32, offset: u32) -> Result<(), AllocError>
+        ensures { OnOk result (self.new ≡ record self.old { writes = self.old.writes ++ word_at address offset }) }
     {
-        match (first, second) {
-            (Touch::Read(fetched), Touch::Read(_)) => {
-                self.note_fetch(fetched, offset)?;
-                self.note(second, offset)?;
-                Ok(true)
-            }
-            (Touch::Read(fetched), Touch::Write(written)) if fetched != written => {
-                self.note_fetch(fetched, offset)?;
-                self.note(second, offset)?;
-                Ok(true)
-            }
-            _ => Ok(false),
-        }
+        note_word(&mut self.writes, address, offset)
     }
 
-    /// The same of one touch or two: an instruction that is fetched, and its data.
-    #[inline(always)]
-    fn note_words(&mut self, touches: &[Touch], offset: u32) -> Result<bool, AllocError>
-        requires { offset < 1000000 }
-        ensures { IfOk result (λ done. MatchBool done (Gains offset (told touches.now) (behind_fetch touches.now) self.old self.new) ((self.new ≡ self.old) × (behind_fetch touches.now ≡ touches.now))) }
+    /// Lets the last note of a word that is written go.
+    pub(crate) fn forget_write(&mut self)
+        ensures { self.new ≡ record self.old { writes = without_last self.old.writes } }
     {
-        match touches {
-            [touch] => self.note_one(*touch, offset),
-            [first, second] => self.note_two(*first, *second, offset),
-            _ => Ok(false),
-        }
-    }
-
-    /// The same of a step that asks interrupt levels first.
-    #[inline(always)]
-    fn note_asking(
-        &mut self,
-        levels: u16,
-        touches: &[Touch],
-        offset: u32,
-    ) -> Result<bool, AllocError>
-        requires { offset < 1000000 }
-        ensures { IfOk result (λ done. MatchBool done (Gains offset (told (Touch.Levels levels ∷ touches.now)) (data_touches (Touch.Levels levels ∷ touches.now)) self.old self.new) ((self.new ≡ self.old) × IsAllData (Touch.Levels levels ∷ touches.now))) }
-    {
-        if !self.note_words(touches, offset)? {
-            return Ok(false);
-        }
-        self.note_levels(levels, offset)?;
-        Ok(true)
-    }
-
-    /// Takes notes of a step, if it is one of the frequent ones: it fetches a word, may read or write one more, and may ask
-    /// interrupt levels before. Tells whether it is such a step; of another no note is taken.
-    ///
-    /// # Errors
-    ///
-    /// `AllocError` where memory for them cannot be had; some are then taken.
-    #[inline(always)]
-    pub fn note_frequent(&mut self, touches: &[Touch], offset: u32) -> Result<bool, AllocError>
-        requires { offset < 1000000 }
-        ensures { IfOk result (λ done. MatchBool done (Gains offset (told touches.now) (data_touches touches.now) self.old self.new) ((self.new ≡ self.old) × IsAllData touches.now)) }
-    {
-        match touches {
-            [] => Ok(false),
-            [first, rest @ ..] => match *first {
-                Touch::Levels(levels) => self.note_asking(levels, rest, offset),
-                _ => self.note_words(touches, offset),
-            },
-        }
+        let count = self.writes.len();
+        self.writes.truncate(count.saturating_sub(1));
     }
 
     /// Takes notes of what a step touches, of all as data.
@@ -369,7 +305,7 @@ impl Notes {
     /// # Errors
     ///
     /// `AllocError` where memory for them cannot be had; some are then taken.
-    #[inline(never)]
+    #[inline(always)]
     pub fn note_step(&mut self, touches: &[Touch], offset: u32) -> Result<(), AllocError>
         requires { offset < 1000000 }
         ensures { OnOk result (Gains offset touches.now touches.now self.old self.new) }

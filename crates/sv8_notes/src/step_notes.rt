@@ -1,39 +1,15 @@
 //! The notes of one step.
 
-ghost use Rattle.std.specs.Prelude.{◌≡◌, []};
+ghost use Rattle.std.specs.Prelude.{◌≡◌};
 ghost use Rattle.sv8_model.specs.Words.{bit};
 ghost use Rattle.sv8_notes.specs.Touched.{is_touched, is_touched_by};
 ghost use Rattle.sv8_notes.specs.Cells.{cell_of};
 
 use crate::cell::Cell;
-use std::alloc::Global;
 use sv8_phys::Touch;
-use sv8_touches::StepTouches;
 
 /// The interrupt level of the timer.
 pub(crate) const TIMER_LEVEL: u32 = 10;
-
-/// A place for the notes of a step, as they come and as they are told, whose memory the next step uses again.
-#[derive(Drop)]
-pub struct StepNotes {
-    /// What the step touches, as it comes.
-    pub noted: StepTouches,
-    /// The same as it is told (`sv8_phys::tell_all`).
-    pub told: StepTouches,
-}
-
-impl StepNotes {
-    /// With no notes. It takes no memory.
-    pub fn new(alloc: Global) -> StepNotes
-        ensures noted { result.noted ≡ [] }
-        ensures told { result.told ≡ [] }
-    {
-        StepNotes {
-            noted: StepTouches::new(alloc),
-            told: StepTouches::new(alloc),
-        }
-    }
-}
 
 /// Whether a word of levels, bit l for level l, has one of them.
 pub(crate) fn asks(levels: u16, level: u32) -> bool

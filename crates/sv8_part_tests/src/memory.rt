@@ -8,7 +8,7 @@ use std::alloc::{AllocError, Global};
 use std::test::Fail;
 use sv8_phys::*;
 use sv8_time::Timeline;
-use sv8_touches::StepTouches;
+use sv8_touches::{StepTouches, tell_all};
 
 /// A memory of two pages.
 fn blank(alloc: Global) -> Result<Phys<2>, Fail> {
@@ -51,7 +51,7 @@ fn exchange(memory: &mut Phys<2>) -> Result<bool, Fail> {
 /// Asks the levels as a step does, whose notes are told.
 fn ask(memory: &Phys<2>, notes: &mut StepTouches, told: &mut Told) -> Result<bool, Fail> {
     memory.pending_among(0xfffe, notes)?;
-    notes.tell(told)?;
+    tell_all(notes.touches(), told)?;
     Ok(told.notes.len() == 1)
 }
 

@@ -11,9 +11,9 @@ pub struct Told {
 
 impl Touches for Told {
     ghost use Rattle.std.specs.Prelude.{true, false};
-    ghost use Rattle.sv8_model.specs.Does.{touching};
+    ghost use Rattle.sv8_model.specs.Does.{keeping, touching};
 
-    const KEEPS: bool = true;
+    ghost NOTING = { keeping true false };
 
     ghost KEEPS = { true };
 

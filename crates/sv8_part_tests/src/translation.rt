@@ -17,9 +17,9 @@ struct Full;
 
 impl Touches for Full {
     ghost use Rattle.std.specs.Prelude.{true};
-    ghost use Rattle.sv8_model.specs.Does.{no_notes};
+    ghost use Rattle.sv8_model.specs.Does.{keeping, no_notes};
 
-    const KEEPS: bool = true;
+    ghost NOTING = { keeping true true };
 
     ghost KEEPS = { true };
 

@@ -6,7 +6,7 @@ use Rattle.sv8_model.specs.Outside.{Outside}
 use Rattle.sv8_model.specs.declared.touch.Touch.TheVariants.{Levels}
 use Rattle.sv8_model.specs.Levels.{asked, cleared, every_level}
 use Rattle.sv8_model.specs.Action.{done, ask_levels, clear_levels, expire, ◌>>=◌}
-use Rattle.sv8_model.specs.Does.{Does, Keeps, Notes, noting}
+use Rattle.sv8_model.specs.Does.{Does, Noting, noting}
 use Rattle.sv8_model.proofs.Common.{does_map, does_done, does_if_true, does_if_false}
 use Rattle.sv8_model.specs.declared.size.Size.{Size}
 use Rattle.sv8_model.specs.declared.size.Size.TheVariants.{Byte, Half, Word, Double}
@@ -19,30 +19,30 @@ use Rattle.sv8_phys.specs.Notes.{load_touches, store_touches}
 -- ---- RAM
 
 -- a load of what stands in RAM, with its notes
-pub ram_loads : (keeps : Keeps) (size : Size) (a : ℕ) (o : Outside) (v : ℕ) (ns ns1 : Notes)
-    → v ≡ value_at size a o.ram → ns1 ≡ noting keeps ns (load_touches size a) [] → Does keeps (ram_load size a) o o v ns ns1
+pub ram_loads : (way : Noting) (size : Size) (a : ℕ) (o : Outside) (v : ℕ) (ns ns1 : way.Taken)
+    → v ≡ value_at size a o.ram → ns1 ≡ noting way ns (load_touches size a) [] → Does way (ram_load size a) o o v ns ns1
 unfolding value_at
-ram_loads keeps Byte a o v ns ns1 e n = record { result = e; outside = refl; noted = n }
-ram_loads keeps Half a o v ns ns1 e n = record { result = e; outside = refl; noted = n }
-ram_loads keeps Word a o v ns ns1 e n = record { result = e; outside = refl; noted = n }
-ram_loads keeps Double a o v ns ns1 e n = record { result = e; outside = refl; noted = n }
+ram_loads way Byte a o v ns ns1 e n = record { result = e; outside = refl; noted = n }
+ram_loads way Half a o v ns ns1 e n = record { result = e; outside = refl; noted = n }
+ram_loads way Word a o v ns ns1 e n = record { result = e; outside = refl; noted = n }
+ram_loads way Double a o v ns ns1 e n = record { result = e; outside = refl; noted = n }
 
 -- a store that leaves in RAM what it should, with its notes
-pub ram_stores : {R : Type 0} (keeps : Keeps) (size : Size) (a v : ℕ) (x : R) (o o1 : Outside) (ns ns1 : Notes)
-    → o1 ≡ record o { ram = with_value size a v o.ram } → ns1 ≡ noting keeps ns (store_touches size a) [] → Does keeps (ram_store size a v x) o o1 x ns ns1
+pub ram_stores : {R : Type 0} (way : Noting) (size : Size) (a v : ℕ) (x : R) (o o1 : Outside) (ns ns1 : way.Taken)
+    → o1 ≡ record o { ram = with_value size a v o.ram } → ns1 ≡ noting way ns (store_touches size a) [] → Does way (ram_store size a v x) o o1 x ns ns1
 unfolding with_value
-ram_stores keeps Byte a v x o o1 ns ns1 e n = record { result = refl; outside = e; noted = n }
-ram_stores keeps Half a v x o o1 ns ns1 e n = record { result = refl; outside = e; noted = n }
-ram_stores keeps Word a v x o o1 ns ns1 e n = record { result = refl; outside = e; noted = n }
-ram_stores keeps Double a v x o o1 ns ns1 e n = record { result = refl; outside = e; noted = n }
+ram_stores way Byte a v x o o1 ns ns1 e n = record { result = refl; outside = e; noted = n }
+ram_stores way Half a v x o o1 ns ns1 e n = record { result = refl; outside = e; noted = n }
+ram_stores way Word a v x o o1 ns ns1 e n = record { result = refl; outside = e; noted = n }
+ram_stores way Double a v x o o1 ns ns1 e n = record { result = refl; outside = e; noted = n }
 
 -- ---- the whole
 
-module _ (keeps : Keeps) (limit : ℕ) (timer : Timer) (size : Size) (a : ℕ) (ns ns1 : Notes) where
-  pub load_in_ram : (o : Outside) (v : ℕ) → a < limit → Does keeps (ram_load size a) o o v ns ns1 → Does keeps (load limit timer size a) o o (Ok v) ns ns1
+module _ (way : Noting) (limit : ℕ) (timer : Timer) (size : Size) (a : ℕ) (ns ns1 : way.Taken) where
+  pub load_in_ram : (o : Outside) (v : ℕ) → a < limit → Does way (ram_load size a) o o v ns ns1 → Does way (load limit timer size a) o o (Ok v) ns ns1
   load_in_ram o v below h =
-      does_if_true keeps (nat_lt a limit) (ram_load size a >>= answered) (outside_load timer size a) o o (Ok v) ns ns1 (lt-ltb a limit below)
-      (does_map keeps (ram_load size a) (λ w. Ok w) o o v (Ok v) ns ns1 h refl)
+      does_if_true way (nat_lt a limit) (ram_load size a >>= answered) (outside_load timer size a) o o (Ok v) ns ns1 (lt-ltb a limit below)
+      (does_map way (ram_load size a) (λ w. Ok w) o o v (Ok v) ns ns1 h refl)
 
 -- ---- devices
 
@@ -53,61 +53,61 @@ not_eqb a b apart = elim (eqb_tells a b) [
   | inr other ↦ other.0
 ]
 
-module _ (keeps : Keeps) (timer : Timer) (o : Outside) (ns : Notes) where
-  pub output_load : Does keeps (device_load timer output_address) o o (Ok 0) ns ns
+module _ (way : Noting) (timer : Timer) (o : Outside) (ns : way.Taken) where
+  pub output_load : Does way (device_load timer output_address) o o (Ok 0) ns ns
   unfolding device_load
-  output_load = does_done keeps (Ok 0) (Ok 0) o ns refl
+  output_load = does_done way (Ok 0) (Ok 0) o ns refl
 
-  pub count_load : (v : ℕ) → v ≡ timer.count → Does keeps (device_load timer count_address) o o (Ok v) ns ns
+  pub count_load : (v : ℕ) → v ≡ timer.count → Does way (device_load timer count_address) o o (Ok v) ns ns
   unfolding device_load
-  count_load v e = does_done keeps (Ok timer.count) (Ok v) o ns (ap (λ w. Ok w) e)
+  count_load v e = does_done way (Ok timer.count) (Ok v) o ns (ap (λ w. Ok w) e)
 
-  pub reload_load : (v : ℕ) → v ≡ timer.reload → Does keeps (device_load timer reload_address) o o (Ok v) ns ns
+  pub reload_load : (v : ℕ) → v ≡ timer.reload → Does way (device_load timer reload_address) o o (Ok v) ns ns
   unfolding device_load
-  reload_load v e = does_done keeps (Ok timer.reload) (Ok v) o ns (ap (λ w. Ok w) e)
+  reload_load v e = does_done way (Ok timer.reload) (Ok v) o ns (ap (λ w. Ok w) e)
 
-  pub pending_load : (w v : ℕ) (ns1 : Notes) → v ≡ w → Does keeps (ask_levels every_level (λ x. done x)) o o w ns ns1 → Does keeps (device_load timer pending_address) o o (Ok v) ns ns1
+  pub pending_load : (w v : ℕ) (ns1 : way.Taken) → v ≡ w → Does way (ask_levels every_level (λ x. done x)) o o w ns ns1 → Does way (device_load timer pending_address) o o (Ok v) ns ns1
   unfolding device_load
   pending_load w v ns1 e h = record { result = ap (λ x. Ok x) (e ∙ h.result); outside = h.outside; noted = h.noted }
 
-  pub no_load : (a : ℕ) → a ≢ output_address → a ≢ count_address → a ≢ reload_address → a ≢ pending_address → Does keeps (device_load timer a) o o (Err no_answer) ns ns
+  pub no_load : (a : ℕ) → a ≢ output_address → a ≢ count_address → a ≢ reload_address → a ≢ pending_address → Does way (device_load timer a) o o (Err no_answer) ns ns
   unfolding device_load
   no_load a e1 e2 e3 e4 =
-      rw (not_eqb a output_address e1, not_eqb a count_address e2, not_eqb a reload_address e3, not_eqb a pending_address e4) (does_done keeps (Err no_answer) (Err no_answer) o ns refl)
+      rw (not_eqb a output_address e1, not_eqb a count_address e2, not_eqb a reload_address e3, not_eqb a pending_address e4) (does_done way (Err no_answer) (Err no_answer) o ns refl)
 
-module _ (keeps : Keeps) (timer : Timer) (v : ℕ) (o o1 : Outside) (ns ns1 : Notes) where
-  pub pending_store : (w : ℕ) (t : Timer) → w ≡ v % 2 ^ 32 → t ≡ timer → Does keeps (clear_levels w (done (stored_with timer))) o o1 (stored_with timer) ns ns1
-      → Does keeps (device_store timer pending_address v) o o1 (stored_with t) ns ns1
+module _ (way : Noting) (timer : Timer) (v : ℕ) (o o1 : Outside) (ns ns1 : way.Taken) where
+  pub pending_store : (w : ℕ) (t : Timer) → w ≡ v % 2 ^ 32 → t ≡ timer → Does way (clear_levels w (done (stored_with timer))) o o1 (stored_with timer) ns ns1
+      → Does way (device_store timer pending_address v) o o1 (stored_with t) ns ns1
   unfolding device_store
   pending_store w t low e h = rw (e, ← low) h
 
 -- who leaves those levels pending that are not cleared, and notes that every level is read, clears them
-pub clears : {R : Type 0} (keeps : Keeps) (word : ℕ) (x : R) (ps : List Bool) (o o1 : Outside) (ns ns1 : Notes)
-    → ps ≡ cleared word o.pending → o1 ≡ record o { pending = ps } → ns1 ≡ noting keeps ns (Levels every_level ∷ []) [] → Does keeps (clear_levels word (done x)) o o1 x ns ns1
-clears keeps word x ps o o1 ns ns1 h same n = rw (same, h) (record { result = refl; outside = refl; noted = n })
+pub clears : {R : Type 0} (way : Noting) (word : ℕ) (x : R) (ps : List Bool) (o o1 : Outside) (ns ns1 : way.Taken)
+    → ps ≡ cleared word o.pending → o1 ≡ record o { pending = ps } → ns1 ≡ noting way ns (Levels every_level ∷ []) [] → Does way (clear_levels word (done x)) o o1 x ns ns1
+clears way word x ps o o1 ns ns1 h same n = rw (same, h) (record { result = refl; outside = refl; noted = n })
 
 -- who notes the levels that are asked, and leads to those that are pending, asks them
-pub asks_levels : (keeps : Keeps) (word r : ℕ) (ps : List Bool) (o : Outside) (ns ns1 : Notes)
-    → r ≡ asked word ps → ps ≡ o.pending → ns1 ≡ noting keeps ns (Levels word ∷ []) [] → Does keeps (ask_levels word (λ x. done x)) o o r ns ns1
-asks_levels keeps word r ps o ns ns1 h same n = record { result = h ∙ ap (asked word) same; outside = refl; noted = n }
+pub asks_levels : (way : Noting) (word r : ℕ) (ps : List Bool) (o : Outside) (ns ns1 : way.Taken)
+    → r ≡ asked word ps → ps ≡ o.pending → ns1 ≡ noting way ns (Levels word ∷ []) [] → Does way (ask_levels word (λ x. done x)) o o r ns ns1
+asks_levels way word r ps o ns ns1 h same n = record { result = h ∙ ap (asked word) same; outside = refl; noted = n }
 
 -- ---- the timer
 
-module _ (keeps : Keeps) (timer : Timer) (o : Outside) (ns : Notes) where
-  pub tick_none : timer.count ≡ 0 → Does keeps (tick timer) o o timer ns ns
+module _ (way : Noting) (timer : Timer) (o : Outside) (ns : way.Taken) where
+  pub tick_none : timer.count ≡ 0 → Does way (tick timer) o o timer ns ns
   unfolding tick
-  tick_none e = does_if_true keeps (timer.count == 0) (done timer) _ o o timer ns ns (rw e refl) (does_done keeps timer timer o ns refl)
+  tick_none e = does_if_true way (timer.count == 0) (done timer) _ o o timer ns ns (rw e refl) (does_done way timer timer o ns refl)
 
-  pub tick_last : (o1 : Outside) (t : Timer) (ns1 : Notes) → timer.count ≡ 1
-      → Does keeps (expire (done (record timer { count = timer.reload }))) o o1 t ns ns1 → Does keeps (tick timer) o o1 t ns ns1
+  pub tick_last : (o1 : Outside) (t : Timer) (ns1 : way.Taken) → timer.count ≡ 1
+      → Does way (expire (done (record timer { count = timer.reload }))) o o1 t ns ns1 → Does way (tick timer) o o1 t ns ns1
   unfolding tick
   tick_last o1 t ns1 e h =
-      does_if_false keeps (timer.count == 0) (done timer) _ o o1 t ns ns1 (rw e refl)
-      (does_if_true keeps (timer.count == 1) (expire (done (record timer { count = timer.reload }))) _ o o1 t ns ns1 (rw e refl) h)
+      does_if_false way (timer.count == 0) (done timer) _ o o1 t ns ns1 (rw e refl)
+      (does_if_true way (timer.count == 1) (expire (done (record timer { count = timer.reload }))) _ o o1 t ns ns1 (rw e refl) h)
 
-  pub tick_down : (o1 : Outside) (t : Timer) → 1 < timer.count → t ≡ record timer { count = timer.count - 1 } → o1 ≡ o → Does keeps (tick timer) o o1 t ns ns
+  pub tick_down : (o1 : Outside) (t : Timer) → 1 < timer.count → t ≡ record timer { count = timer.count - 1 } → o1 ≡ o → Does way (tick timer) o o1 t ns ns
   unfolding tick
   tick_down o1 t above e same =
-      rw same (does_if_false keeps (timer.count == 0) (done timer) _ o o t ns ns (not_eqb timer.count 0 (omega arith))
-      (does_if_false keeps (timer.count == 1) (expire (done (record timer { count = timer.reload }))) _ o o t ns ns (not_eqb timer.count 1 (omega arith))
-      (does_done keeps (record timer { count = timer.count - 1 }) t o ns e)))
+      rw same (does_if_false way (timer.count == 0) (done timer) _ o o t ns ns (not_eqb timer.count 0 (omega arith))
+      (does_if_false way (timer.count == 1) (expire (done (record timer { count = timer.reload }))) _ o o t ns ns (not_eqb timer.count 1 (omega arith))
+      (does_done way (record timer { count = timer.count - 1 }) t o ns e)))

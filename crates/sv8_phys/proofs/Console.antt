@@ -8,7 +8,7 @@ use Rattle.std.proofs.Math.ListN.{drop_of_length-le}
 use Rattle.sv8_model.specs.Outside.{Outside, oldest, without_oldest}
 use Rattle.sv8_model.specs.declared.touch.Touch.TheVariants as note
 use Rattle.sv8_model.specs.Action.{done, take_input, count_waiting}
-use Rattle.sv8_model.specs.Does.{Does, Keeps, Notes, noting}
+use Rattle.sv8_model.specs.Does.{Does, Noting, noting}
 use Rattle.sv8_phys.specs.Contents.{Contents, outside_of}
 
 -- a byte that stands at k, and what is behind it
@@ -27,24 +27,24 @@ none_at (x ∷ xs) zero e = absurd (true≢false (ap has e)) where
 none_at (x ∷ xs) (suc k) e = let rest = none_at xs k e in omega arith
 
 -- what is noted of either access
-abbrev noted_input : Keeps → Notes → Notes → Type 0
-noted_input keeps ns ns1 = ns1 ≡ noting keeps ns (note.Input ∷ []) []
+abbrev noted_input : (way : Noting) → way.Taken → way.Taken → Type 0
+noted_input way ns ns1 = ns1 ≡ noting way ns (note.Input ∷ []) []
 
-module _ (keeps : Keeps) (m : Contents) (bytes : List ℕ) (ns ns1 : Notes) (note : noted_input keeps ns ns1) where
+module _ (way : Noting) (m : Contents) (bytes : List ℕ) (ns ns1 : way.Taken) (note : noted_input way ns ns1) where
   abbrev waits : List ℕ → Outside
   waits w = record { ram = m.ram; waiting = w; output = m.output; pending = m.pending }
 
   pub takes_byte : (b : ℕ) (m1 : Contents) → m1 ≡ record m { taken = m.taken + 1 } → slice_get bytes m.taken ≡ Some b
-      → Does keeps (take_input (λ x. done x)) (outside_of m bytes) (outside_of m1 bytes) b ns ns1
+      → Does way (take_input (λ x. done x)) (outside_of m bytes) (outside_of m1 bytes) b ns ns1
   takes_byte b m1 next e =
       let behind : suc m.taken ≡ m.taken + 1 = omega arith in
       let d = drop_at bytes m.taken b e ∙ ap (λ n. b ∷ drop n bytes) behind in
       rw next record { result = sym (ap oldest d); outside = ap waits (sym (ap without_oldest d)); noted = note }
 
-  pub takes_none : length bytes ≤ m.taken → Does keeps (take_input (λ x. done x)) (outside_of m bytes) (outside_of m bytes) 0 ns ns1
+  pub takes_none : length bytes ≤ m.taken → Does way (take_input (λ x. done x)) (outside_of m bytes) (outside_of m bytes) 0 ns ns1
   takes_none all =
       let d : drop m.taken bytes ≡ [] = drop_of_length-le bytes all in
       record { result = sym (ap oldest d); outside = ap waits (d ∙ sym (ap without_oldest d)); noted = note }
 
-  pub counts_waiting : (n : ℕ) → n ≡ length bytes - m.taken → Does keeps (count_waiting (λ x. done x)) (outside_of m bytes) (outside_of m bytes) n ns ns1
+  pub counts_waiting : (n : ℕ) → n ≡ length bytes - m.taken → Does way (count_waiting (λ x. done x)) (outside_of m bytes) (outside_of m bytes) n ns ns1
   counts_waiting n e = record { result = e ∙ sym (length-drop m.taken bytes); outside = refl; noted = note }

@@ -3,7 +3,8 @@ use Rattle.std.proofs.Common.{◌≡◌, ◌∙◌, ℕ, ◌+◌, ◌-◌, ◌*�
 use Rattle.std.proofs.lemmas.Bool.{ltb-true, ltb-false}
 use Rattle.std.proofs.Math.Nat.{le-div_iff_mul-le, mul_comm, mul-le-mul_left, mul-div-le, div-add-mod, mod-lt}
 use Rattle.sv8_history.specs.Growing.{restored}
-use Rattle.sv8_trace.specs.Recorder.{counted_by, RaisedUpTo}
+use Rattle.sv8_trace.specs.Recorder.{RaisedUpTo}
+use Rattle.sv8_cpu.specs.Work.{counted_by}
 use Rattle.sv8_search.specs.Search.{checkpoint_of, sought_steps, IsSought, IsPassedOrSearched, IsAbandoned, IsStart}
 use Rattle.sv8_bench.specs.Workbench.{Workbench, checkpoints}
 use Rattle.sv8_walks.proofs.Made.{in_interval as interval_of}

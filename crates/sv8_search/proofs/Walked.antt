@@ -1,7 +1,7 @@
 -- Steps that were made one after the other, or some of them: what is made of a workbench.
 use Rattle.std.proofs.Common.{◌≡◌, ◌∙◌, ◌⊎◌, inl, inr, ℕ, ◌+◌, ◌-◌, ◌/◌, ◌<◌, ◌≤◌, Result, Ok, Err, OnErr, length, refl, sym, ap, subst, arith}
-use Rattle.sv8_cpu.specs.Work.{counted}
-use Rattle.sv8_trace.specs.Recorder.{counted_by, RaisedUpTo}
+use Rattle.sv8_cpu.specs.Work.{counted, counted_by}
+use Rattle.sv8_trace.specs.Recorder.{RaisedUpTo}
 use Rattle.sv8_walks.specs.Made.{IsMade, IsUnmade}
 use Rattle.sv8_bench.specs.Workbench.{Workbench, checkpoints}
 use Rattle.sv8_bench.proofs.Queried.{counted_more, raised_more}

@@ -3,9 +3,9 @@ use Rattle.std.specs.Prelude.{◌≡◌, ◌⊎◌, ℕ, zero, suc, ◌≤◌, �
 use Rattle.std.specs.List.{list_any}
 use Rattle.sv8_model.specs.declared.touch.Touch.{Touch as Note}
 use Rattle.sv8_cpu.specs.State.{State}
-use Rattle.sv8_cpu.specs.Work.{counted}
+use Rattle.sv8_cpu.specs.Work.{counted, counted_by}
 use Rattle.sv8_history.specs.Growing.{restored}
-use Rattle.sv8_trace.specs.Recorder.{counted_by, RaisedUpTo}
+use Rattle.sv8_trace.specs.Recorder.{RaisedUpTo}
 use Rattle.sv8_time.specs.declared.fault.TimeFault.TheVariants.{BadAddress}
 use Rattle.sv8_workbench.specs.declared.fault.BenchFault.{BenchFault}
 use Rattle.sv8_workbench.specs.declared.fault.BenchFault.TheVariants.{Time}

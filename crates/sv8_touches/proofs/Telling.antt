@@ -5,8 +5,7 @@ use Rattle.std.specs.Int.Bits.{or_zero_r}
 use Rattle.std.proofs.Math.ListN.{drop_of_length-le}
 use Rattle.std.proofs.lemmas.List.{drop_more}
 use Rattle.sv8_model.specs.declared.touch.Touch.{Touch}
-use Rattle.sv8_model.specs.Does.{Keeps, Notes, noting}
-use Rattle.sv8_model.proofs.Common.{noting_then}
+use Rattle.sv8_model.specs.Does.{Noting, noting}
 use Rattle.sv8_touches.specs.Told.{levels_of, levels_in}
 use Rattle.sv8_model.proofs.Bits.{or_groups}
 
@@ -30,12 +29,12 @@ filter-append p (x ∷ xs) ys = elim (p x) as (λ b. cond b (x ∷ filter p (xs 
 ]
 
 -- one note more is handed on, if it passes
-pub handed_more : (keeps : Keeps) (p : Touch → Bool) (ts : List Touch) (i : ℕ) (d : Touch) (before after all : Notes) → i < length ts
-    → after ≡ noting keeps before (filter p (get_or ts i d ∷ [])) [] → noting keeps before (filter p (drop i ts)) [] ≡ all
-    → noting keeps after (filter p (drop (i + 1) ts)) [] ≡ all
-handed_more keeps p ts i d before after all h e so_far =
+pub handed_more : (way : Noting) (p : Touch → Bool) (ts : List Touch) (i : ℕ) (d : Touch) (before after all : way.Taken) → i < length ts
+    → after ≡ noting way before (filter p (get_or ts i d ∷ [])) [] → noting way before (filter p (drop i ts)) [] ≡ all
+    → noting way after (filter p (drop (i + 1) ts)) [] ≡ all
+handed_more way p ts i d before after all h e so_far =
     let t = get_or ts i d in
     let rest = drop (i + 1) ts in
-    ap (λ (l : Notes). noting keeps l (filter p rest) []) e ∙ noting_then keeps before (filter p (t ∷ [])) (filter p rest) [] []
-    ∙ ap (λ l. noting keeps before l []) (sym (filter-append p (t ∷ []) rest) ∙ ap (filter p) (sym (drop_more ts i d h)))
+    ap (λ (l : way.Taken). noting way l (filter p rest) []) e ∙ way.together before (filter p (t ∷ [])) (filter p rest) [] []
+    ∙ ap (λ l. noting way before l []) (sym (filter-append p (t ∷ []) rest) ∙ ap (filter p) (sym (drop_more ts i d h)))
     ∙ so_far

@@ -1,7 +1,7 @@
 //! The notes of one step, kept until its end.
 
 ghost use Rattle.std.specs.Prelude.{◌≡◌, ◌∷◌, [], IfOk, OnOk, OnErr, true, filter};
-ghost use Rattle.sv8_model.specs.Does.{kept, noting, keeping};
+ghost use Rattle.sv8_model.specs.Does.{kept, noting};
 ghost use Rattle.sv8_model.specs.Footprint.{reads_word};
 ghost use Rattle.sv8_touches.specs.Told.{is_told, levels_of, levels_in, levels_note, told};
 
@@ -35,9 +35,9 @@ impl Model for StepTouches {
 
 impl Touches for StepTouches {
     ghost use Rattle.std.specs.Prelude.{true, false};
-    ghost use Rattle.sv8_model.specs.Does.{touching};
+    ghost use Rattle.sv8_model.specs.Does.{keeping, touching};
 
-    const KEEPS: bool = true;
+    ghost NOTING = { keeping true false };
 
     ghost KEEPS = { true };
 
@@ -88,7 +88,7 @@ fn levels_of_note(note: Touch) -> u16
 
 /// Hands on a note, if it is told as it stands.
 fn tell_note<T: Touches>(from: &[Touch], note: Touch, notes: &mut T) -> Result<(), AllocError>
-    ensures ok { OnOk result (T.noted notes.new ≡ noting (keeping T.KEEPS T.OBSERVES) (T.noted notes.old) (filter (is_told from.now) (note ∷ [])) []) }
+    ensures ok { OnOk result (T.noted notes.new ≡ noting T.NOTING (T.noted notes.old) (filter (is_told from.now) (note ∷ [])) []) }
     ensures err { OnErr result (T.KEEPS ≡ true) }
 {
     if !stands(from, note) {
@@ -100,7 +100,7 @@ fn tell_note<T: Touches>(from: &[Touch], note: Touch, notes: &mut T) -> Result<(
 /// Hands on the notes that are told as they stand. Answers all levels that some note asks.
 #[tactic(auto, using(crate::proofs::Telling::handed_more, crate::proofs::Telling::levels_more, crate::proofs::Telling::levels_all))]
 fn tell_standing<T: Touches>(from: &[Touch], notes: &mut T) -> Result<u16, AllocError>
-    ensures ok { OnOk result (T.noted notes.new ≡ noting (keeping T.KEEPS T.OBSERVES) (T.noted notes.old) (filter (is_told from.now) from.now) []) }
+    ensures ok { OnOk result (T.noted notes.new ≡ noting T.NOTING (T.noted notes.old) (filter (is_told from.now) from.now) []) }
     ensures levels { IfOk result (λ levels. levels ≡ levels_in from.now) }
     ensures err { OnErr result (T.KEEPS ≡ true) }
 {
@@ -114,7 +114,7 @@ fn tell_standing<T: Touches>(from: &[Touch], notes: &mut T) -> Result<u16, Alloc
 
 /// Hands on a note of levels, if there are any.
 fn tell_levels<T: Touches>(levels: u16, notes: &mut T) -> Result<(), AllocError>
-    ensures ok { OnOk result (T.noted notes.new ≡ noting (keeping T.KEEPS T.OBSERVES) (T.noted notes.old) (levels_note levels) []) }
+    ensures ok { OnOk result (T.noted notes.new ≡ noting T.NOTING (T.noted notes.old) (levels_note levels) []) }
     ensures err { OnErr result (T.KEEPS ≡ true) }
 {
     if levels == 0 {
@@ -130,7 +130,7 @@ fn tell_levels<T: Touches>(levels: u16, notes: &mut T) -> Result<(), AllocError>
 /// `AllocError` where those that take the notes cannot have memory for them. Some may have been handed on then.
 #[tactic(auto, using(sv8_model::proofs::Common::noting_then), unfolding(crate::specs::Told::told))]
 pub fn tell_all<T: Touches>(from: &[Touch], notes: &mut T) -> Result<(), AllocError>
-    ensures ok { OnOk result (T.noted notes.new ≡ noting (keeping T.KEEPS T.OBSERVES) (T.noted notes.old) (told from.now) []) }
+    ensures ok { OnOk result (T.noted notes.new ≡ noting T.NOTING (T.noted notes.old) (told from.now) []) }
     ensures err { OnErr result (T.KEEPS ≡ true) }
 {
     match tell_standing(from, notes) {
@@ -157,28 +157,7 @@ impl StepTouches {
         &self.notes
     }
 
-    /// Hands on what the notes of a step tell, and forgets them.
-    ///
-    /// # Errors
-    ///
-    /// `AllocError` where those that take the notes cannot have memory for them. Some may have been handed on then, and
-    /// none is forgotten.
-    pub fn tell<T: Touches>(&mut self, notes: &mut T) -> Result<(), AllocError>
-        ensures ok { OnOk result (T.noted notes.new ≡ noting (keeping T.KEEPS T.OBSERVES) (T.noted notes.old) (told self.old) []) }
-        ensures empty { OnOk result (self.new ≡ []) }
-        ensures err { OnErr result (T.KEEPS ≡ true) }
-        ensures stays { OnErr result (self.new ≡ self.old) }
-    {
-        match tell_all(&self.notes, notes) {
-            Ok(()) => {
-                self.notes.clear();
-                Ok(())
-            }
-            Err(fault) => Err(fault),
-        }
-    }
-
-    /// Forgets the notes, as those of a step that was given up.
+    /// Forgets the notes.
     pub fn clear(&mut self)
         ensures { self.new ≡ [] }
     {

@@ -24,8 +24,9 @@ impl Model for Watch {
 
 impl Touches for Watch {
     ghost use Rattle.std.specs.Prelude.{true};
+    ghost use Rattle.sv8_model.specs.Does.{keeping};
 
-    const KEEPS: bool = true;
+    ghost NOTING = { keeping true true };
 
     ghost KEEPS = { true };
 

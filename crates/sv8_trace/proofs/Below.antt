@@ -233,3 +233,22 @@ module _ (offset : ℕ) (s : State) where
       front =
           kept_in-append j (pending_level l) old (below_words offset s ws)
           ∙ ap (λ y. cond (is_some (kept_in j (pending_level l) old)) (kept_in j (pending_level l) old) y) (no_level_words j l ws) ∙ tail_none (kept_in j (pending_level l) old)
+
+-- what is kept, where nothing was and nothing happens
+pub nothing_below : (kept : List Kept) (e : Event) (touched : Bool) (j offset : ℕ) (c : Cell) (s : State) → kept ≡ [] → e.pokes ≡ [] → e.requests ≡ []
+    → kept_in j c kept ≡ cond touched None (cond (j == offset && is_some (poke_of c e)) (Some (get c s)) (kept_in j c kept))
+nothing_below kept e touched j offset c s none no_pokes no_requests =
+    ap (kept_in j c) none
+    ∙ nowhere touched (j == offset)
+    ∙ ap (λ o. cond touched None (cond (j == offset && is_some o) (Some (get c s)) None)) (sym (unset c))
+    ∙ ap (λ k. cond touched None (cond (j == offset && is_some (poke_of c e)) (Some (get c s)) (kept_in j c k))) (sym none)
+  where
+    unset : (d : Cell) → poke_of d e ≡ None
+    unset (ram_byte i) = ap (λ ps. option_map byte (value_poked i ps None)) no_pokes
+    unset waiting_bytes = refl
+    unset (pending_level l) = ap (λ rs. if list_any (λ r. r.level == l) rs then Some (held true) else None) no_requests
+
+    nowhere : (t o : Bool) → None ≡ cond t None (cond (o && false) (Some (get c s)) None)
+    nowhere true o = refl
+    nowhere false true = refl
+    nowhere false false = refl

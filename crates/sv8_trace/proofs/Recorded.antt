@@ -15,11 +15,10 @@ use Rattle.sv8_notes.specs.Steps.{no_steps, footprint_in, reads_in, writes_in, d
 use Rattle.sv8_notes.proofs.Common.{touched_told, told_read, told_written}
 use Rattle.sv8_cpu.specs.State.{State}
 use Rattle.sv8_cpu.specs.Run.{step, footprint}
-use Rattle.sv8_cpu.specs.Work.{counted}
 use Rattle.sv8_cpu.specs.Recorded.{event_at, poke_of, get}
 use Rattle.sv8_trace.specs.declared.interval.Interval.{Interval}
 use Rattle.sv8_trace.specs.Signs.{no_signs, with_step}
-use Rattle.sv8_trace.specs.Recorder.{steps_on, footprint_on, touches_on, counted_by, IsRecorded, HasOneMore, RaisedUpTo}
+use Rattle.sv8_trace.specs.Recorder.{steps_on, footprint_on, touches_on, IsRecorded, HasOneMore}
 
 -- no steps are recorded
 none_read : (c : Cell) (j : ℕ) → reads_in no_steps c j ≡ false
@@ -147,11 +146,6 @@ module _ (windows pages : ℕ) (schedule : Schedule) (n : ℕ) (s : State) where
         go : (j : ℕ) → j < suc count → (j < count) ⊎ (count ≤ j) → SameFootprint (footprint_in new.notes j) (footprint_on windows pages schedule n s j)
         go j b (inl l) = then (footprint_in new.notes j) (footprint_in old.notes j) (footprint_on windows pages schedule n s j) (not_here j (λ e. omega arith)) (h.footprints j l)
         go j b (inr l) = at_count j (omega arith)
-
--- the count of steps where one more was made, or none
-pub up_to_one : (j most first old new : ℕ) → j < most → old ≡ counted_by j first → (new ≡ old) ⊎ (new ≡ counted old) → RaisedUpTo most first new
-up_to_one j most first old new h is (inl e) = (j, omega arith, e ∙ is)
-up_to_one j most first old new h is (inr e) = (suc j, omega arith, e ∙ ap counted is)
 
 -- one step more
 pub one_more : (windows pages : ℕ) (schedule : Schedule) (n : ℕ) (first s next : State) (j : ℕ) (old new : Interval) → s ≡ steps_on windows pages schedule n first j

@@ -4,7 +4,7 @@ use Rattle.sv8_model.specs.Cells.{Cell}
 use Rattle.sv8_model.specs.Footprint.{data_touches}
 use Rattle.sv8_history.specs.Machine.{Footprint, SameFootprint}
 use Rattle.sv8_history.specs.Trace.{some_from}
-use Rattle.sv8_time.specs.Schedule.{Schedule}
+use Rattle.sv8_time.specs.Schedule.{Schedule, pokes_of_step, requests_of_step}
 use Rattle.sv8_time.specs.declared.words.WordPoke.{WordPoke}
 use Rattle.sv8_time.specs.declared.requests.Request.{Request}
 use Rattle.sv8_touches.specs.Told.{told}
@@ -16,9 +16,10 @@ use Rattle.sv8_notes.specs.Touched.{is_touched}
 use Rattle.sv8_notes.specs.Steps.{Gains, no_steps, footprint_in}
 use Rattle.sv8_cpu.specs.State.{State}
 use Rattle.sv8_cpu.specs.Run.{step, footprint}
-use Rattle.sv8_cpu.specs.Work.{counted}
+use Rattle.sv8_cpu.specs.Work.{counted_by}
 use Rattle.sv8_cpu.specs.Recorded.{event_at, poke_of, footprint_of, get}
 use Rattle.sv8_trace.specs.declared.interval.Interval.{Interval}
+use Rattle.sv8_trace.specs.declared.open_interval.OpenInterval.{OpenInterval}
 use Rattle.sv8_trace.specs.Signs.{signs_among, with_step}
 
 -- ---- the values below the events of a step
@@ -78,12 +79,15 @@ pub record HasOneMore (windows pages : ℕ) (schedule : Schedule) (n offset : �
       ≡ cond (is_touched (told (footprint windows pages schedule n s)) c) None (cond (j == offset && is_some (poke_of c (event_at schedule n))) (Some (get c s)) (kept_in j c old.kept))
   pub signs : new.signs ≡ with_step old.signs offset s s'
 
--- ---- the count of steps
+-- what is recorded so far of the interval under way
+abbrev pub so_far : OpenInterval → Interval
+so_far i = record { notes = i.recorder.notes; kept = i.kept; signs = i.signs }
 
--- so many steps more
-abbrev pub counted_by : ℕ → ℕ → ℕ
-counted_by zero done = done
-counted_by (suc n) done = counted (counted_by n done)
+-- a timeline has neither pokes nor requests at step n
+abbrev pub IsQuiet : Schedule → ℕ → Type 0
+IsQuiet schedule n = (pokes_of_step n schedule.pokes ≡ []) × (requests_of_step n schedule.requests ≡ [])
+
+-- ---- the count of steps
 
 -- no more steps more than so many
 abbrev pub RaisedUpTo : ℕ → ℕ → ℕ → Type 0

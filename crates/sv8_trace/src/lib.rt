@@ -6,6 +6,7 @@
 mod checkpoint;
 mod finished;
 mod interval;
+mod open_interval;
 mod points;
 mod prepared;
 mod recorder;
@@ -14,6 +15,7 @@ mod trace;
 
 pub use checkpoint::Checkpoint;
 pub use interval::Interval;
+pub use open_interval::OpenInterval;
 pub use prepared::Prepared;
 pub use recorder::record_watched;
 pub use signs::{Signs, TrapNote};

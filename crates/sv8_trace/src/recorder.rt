@@ -1,6 +1,6 @@
 //! Steps that are made and recorded.
 
-ghost use Rattle.std.specs.Prelude.{◌≡◌, ℕ, ◌+◌, ◌≤◌, ◌<◌, ◌&&◌, ◌==◌, ◌++◌, ◌⊎◌, cond, None, Some, is_some, IfOk, OnOk, OnErr};
+ghost use Rattle.std.specs.Prelude.{◌≡◌, ℕ, ◌+◌, ◌≤◌, ◌<◌, ◌&&◌, ◌==◌, ◌++◌, [], true, cond, None, Some, is_some, IfOk, OnOk};
 ghost use Rattle.sv8_model.specs.Cells as model;
 ghost use Rattle.sv8_model.specs.Footprint.{data_touches};
 ghost use Rattle.sv8_time.specs.Schedule.{bytes_below};
@@ -12,16 +12,17 @@ ghost use Rattle.sv8_notes.specs.Steps.{Gains};
 ghost use Rattle.sv8_memory.specs.WordPokes.{AreInside};
 ghost use Rattle.sv8_cpu.specs.Run.{step, footprint, observed};
 ghost use Rattle.sv8_cpu.specs.Recorded.{event_at, poke_of, get};
-ghost use Rattle.sv8_cpu.specs.Work.{counted};
-ghost use Rattle.sv8_trace.specs.Recorder.{below_byte, below_word, below_words, below_requests, counted_by, steps_on, IsRecorded, HasOneMore, RaisedUpTo};
+ghost use Rattle.sv8_cpu.specs.Work.{counted_by};
+ghost use Rattle.sv8_trace.specs.Recorder.{below_byte, below_word, below_words, below_requests, so_far, steps_on, IsQuiet, IsRecorded, HasOneMore, RaisedUpTo};
 
 use crate::interval::Interval;
+use crate::open_interval::OpenInterval;
 use std::alloc::AllocError;
 use sv8_cpu::{Machine, Work};
-use sv8_notes::{Cell, Content, KeptList, StepNotes};
+use sv8_notes::{Cell, Content, KeptList, Recorder};
 use sv8_phys::Touch;
 use sv8_time::{Request, Timeline, WordPoke};
-use sv8_touches::{StepTouches, Watch, tell_all};
+use sv8_touches::Watch;
 
 /// Keeps what stands in a byte, if it is about to be poked.
 fn keep_byte<const NW: usize, const PAGES: usize>(
@@ -151,40 +152,32 @@ fn keep_below<const NW: usize, const PAGES: usize>(
     Ok(())
 }
 
-/// Takes the notes of a step, the one with this offset, into those of its interval, and lets go what is kept of cells that
-/// it touches. `room` is a place for the notes of a step that are told otherwise than they came.
-#[inline(always)]
-fn record_notes(
-    interval: &mut Interval,
+/// Takes the notes of a step, the one with this offset, from the list of all that it touched, and lets go what is kept of
+/// cells that it touched.
+fn record_touches(
+    recorder: &mut Recorder,
+    kept: &mut KeptList,
     touches: &[Touch],
-    room: &mut StepTouches,
     offset: u32,
 ) -> Result<(), AllocError>
     requires { offset < 1000000 }
-    ensures gained { OnOk result (Gains offset (told touches.now) (data_touches touches.now) interval.old.notes interval.new.notes) }
-    ensures kept { OnOk result ((j : ℕ) (c : model.Cell) → kept_in j c interval.new.kept ≡ cond (is_touched (told touches.now) c) None (kept_in j c interval.old.kept)) }
-    ensures signs { interval.new.signs ≡ interval.old.signs }
+    ensures gained { OnOk result (Gains offset (told touches.now) (data_touches touches.now) recorder.old.notes recorder.new.notes) }
+    ensures kept { OnOk result ((j : ℕ) (c : model.Cell) → kept_in j c kept.new ≡ cond (is_touched (told touches.now) c) None (kept_in j c kept.old)) }
 {
-    interval.kept.forget(touches);
-    if interval.notes.note_frequent(touches, offset)? {
-        return Ok(());
-    }
-    room.clear();
-    tell_all(touches, room)?;
-    interval.notes.note_step(room.touches(), offset)?;
+    kept.forget(touches);
+    recorder.record(offset, touches)?;
     Ok(())
 }
 
-/// Makes step n and records it, as the step with this offset in its interval. `notes` is a place for what it touches.
-#[inline(always)]
-fn record_step<const NW: usize, const PAGES: usize>(
+/// Makes step n and records it, as the step with this offset in its interval. Where something happens from outside, what
+/// stood in cells before is kept, until a step touches them.
+#[inline(never)]
+fn record_eventful_step<const NW: usize, const PAGES: usize>(
     machine: &mut Machine<NW, PAGES>,
     timeline: &Timeline,
     n: u32,
     offset: u32,
-    notes: &mut StepNotes,
-    interval: &mut Interval,
-    work: &mut Work,
+    interval: &mut OpenInterval,
 ) -> Result<(), AllocError>
     requires few_windows { NW ≤ 32 }
     requires few_pages { PAGES ≤ 65536 }
@@ -194,22 +187,114 @@ fn record_step<const NW: usize, const PAGES: usize>(
     requires free { (c : model.Cell) → kept_in offset c interval.old.kept ≡ None }
     ensures state { OnOk result (machine.new ≡ step NW PAGES timeline.now n machine.old) }
     ensures delivered { OnOk result (machine.new.memory.taken ≤ bytes_below (n + 1) timeline.now.inputs) }
-    ensures recorded { OnOk result (HasOneMore NW PAGES timeline.now n offset machine.old machine.new interval.old interval.new) }
-    ensures counted { OnOk result (work.new ≡ counted work.old) }
-    ensures uncounted { OnErr result (work.new ≡ work.old ⊎ work.new ≡ counted work.old) }
+    ensures recorded { OnOk result (HasOneMore NW PAGES timeline.now n offset machine.old machine.new (so_far interval.old) (so_far interval.new)) }
 {
-    notes.noted.clear();
+    interval.touches.clear();
     let ran = machine.is_running();
     interval.signs.note_before(machine);
     keep_below(&mut interval.kept, machine, timeline, n, offset)?;
-    machine.watch(n, timeline, &mut notes.noted, work)?;
+    machine.watch(n, timeline, &mut interval.touches)?;
     interval.signs.note_after(offset, ran, machine)?;
-    record_notes(interval, notes.noted.touches(), &mut notes.told, offset)?;
+    let touches = interval.touches.touches();
+    record_touches(&mut interval.recorder, &mut interval.kept, touches, offset)?;
+    Ok(())
+}
+
+/// The same of a step at which the timeline has neither pokes nor requests, in an interval that keeps nothing. Its notes go
+/// straight into those of the interval.
+#[inline(always)]
+fn record_quiet_step<const NW: usize, const PAGES: usize>(
+    machine: &mut Machine<NW, PAGES>,
+    timeline: &Timeline,
+    n: u32,
+    offset: u32,
+    interval: &mut OpenInterval,
+) -> Result<(), AllocError>
+    requires few_windows { NW ≤ 32 }
+    requires few_pages { PAGES ≤ 65536 }
+    requires delivered { machine.old.memory.taken ≤ bytes_below n timeline.now.inputs }
+    requires offset { offset < 1000000 }
+    requires quiet { IsQuiet timeline.now n }
+    requires nothing_kept { interval.old.kept ≡ [] }
+    ensures state { OnOk result (machine.new ≡ step NW PAGES timeline.now n machine.old) }
+    ensures delivered { OnOk result (machine.new.memory.taken ≤ bytes_below (n + 1) timeline.now.inputs) }
+    ensures recorded { OnOk result (HasOneMore NW PAGES timeline.now n offset machine.old machine.new (so_far interval.old) (so_far interval.new)) }
+    ensures nothing_kept { interval.new.kept ≡ [] }
+{
+    let ran = machine.is_running();
+    interval.signs.note_before(machine);
+    interval.recorder.begin(offset);
+    machine.watch_quiet(n, timeline, &mut interval.recorder)?;
+    interval.recorder.end()?;
+    interval.signs.note_after(offset, ran, machine)?;
+    Ok(())
+}
+
+/// The same where addresses are translated. A step then touches the entries of its walks too, and most go through the list.
+#[inline(never)]
+fn record_translated_step<const NW: usize, const PAGES: usize>(
+    machine: &mut Machine<NW, PAGES>,
+    timeline: &Timeline,
+    n: u32,
+    offset: u32,
+    interval: &mut OpenInterval,
+) -> Result<(), AllocError>
+    requires few_windows { NW ≤ 32 }
+    requires few_pages { PAGES ≤ 65536 }
+    requires delivered { machine.old.memory.taken ≤ bytes_below n timeline.now.inputs }
+    requires offset { offset < 1000000 }
+    requires quiet { IsQuiet timeline.now n }
+    requires nothing_kept { interval.old.kept ≡ [] }
+    ensures state { OnOk result (machine.new ≡ step NW PAGES timeline.now n machine.old) }
+    ensures delivered { OnOk result (machine.new.memory.taken ≤ bytes_below (n + 1) timeline.now.inputs) }
+    ensures recorded { OnOk result (HasOneMore NW PAGES timeline.now n offset machine.old machine.new (so_far interval.old) (so_far interval.new)) }
+    ensures nothing_kept { interval.new.kept ≡ [] }
+{
+    interval.touches.clear();
+    let ran = machine.is_running();
+    interval.signs.note_before(machine);
+    machine.watch_quiet(n, timeline, &mut interval.touches)?;
+    let touches = interval.touches.touches();
+    interval.recorder.record(offset, touches)?;
+    interval.signs.note_after(offset, ran, machine)?;
+    Ok(())
+}
+
+/// Makes step n and records it, as the step with this offset in its interval. `quiet` says that the timeline has neither
+/// pokes nor requests at any step of the interval.
+#[inline(always)]
+fn record_step<const NW: usize, const PAGES: usize>(
+    machine: &mut Machine<NW, PAGES>,
+    timeline: &Timeline,
+    n: u32,
+    offset: u32,
+    quiet: bool,
+    interval: &mut OpenInterval,
+) -> Result<(), AllocError>
+    requires few_windows { NW ≤ 32 }
+    requires few_pages { PAGES ≤ 65536 }
+    requires limit { timeline.now.limit ≡ ram_size PAGES }
+    requires delivered { machine.old.memory.taken ≤ bytes_below n timeline.now.inputs }
+    requires offset { offset < 1000000 }
+    requires free { (c : model.Cell) → kept_in offset c interval.old.kept ≡ None }
+    requires quiet { quiet ≡ true → IsQuiet timeline.now n × (interval.old.kept ≡ []) }
+    ensures state { OnOk result (machine.new ≡ step NW PAGES timeline.now n machine.old) }
+    ensures delivered { OnOk result (machine.new.memory.taken ≤ bytes_below (n + 1) timeline.now.inputs) }
+    ensures recorded { OnOk result (HasOneMore NW PAGES timeline.now n offset machine.old machine.new (so_far interval.old) (so_far interval.new)) }
+    ensures nothing_kept { OnOk result (quiet ≡ true → interval.new.kept ≡ []) }
+{
+    if !quiet {
+        record_eventful_step(machine, timeline, n, offset, interval)?;
+    } else if machine.mmu().translates() {
+        record_translated_step(machine, timeline, n, offset, interval)?;
+    } else {
+        record_quiet_step(machine, timeline, n, offset, interval)?;
+    }
     Ok(())
 }
 
 /// Makes step n and records it, as the step with this offset in an interval under way. `watch` has afterwards what the step
-/// touches, and what an observer sees of it. `told` is a place for notes of the step. `work` counts it.
+/// touches, and what an observer sees of it. Who calls it counts the step.
 ///
 /// # Errors
 ///
@@ -219,36 +304,37 @@ pub fn record_watched<const NW: usize, const PAGES: usize>(
     timeline: &Timeline,
     n: u32,
     offset: u32,
-    told: &mut StepTouches,
-    interval: &mut Interval,
+    interval: &mut OpenInterval,
     watch: &mut Watch,
-    work: &mut Work,
 ) -> Result<(), AllocError>
     requires few_windows { NW ≤ 32 }
     requires few_pages { PAGES ≤ 65536 }
     requires limit { timeline.now.limit ≡ ram_size PAGES }
     requires delivered { machine.old.memory.taken ≤ bytes_below n timeline.now.inputs }
     requires offset { offset < 1000000 }
-    requires free { (c : model.Cell) → kept_in offset c interval.old.kept ≡ None }
+    requires free { (c : model.Cell) → kept_in offset c (so_far interval.old).kept ≡ None }
     ensures state { OnOk result (machine.new ≡ step NW PAGES timeline.now n machine.old) }
     ensures delivered { OnOk result (machine.new.memory.taken ≤ bytes_below (n + 1) timeline.now.inputs) }
     ensures watched { OnOk result (watch.new ≡ record { touches = footprint NW PAGES timeline.now n machine.old; observations = observed NW PAGES timeline.now n machine.old }) }
-    ensures recorded { OnOk result (HasOneMore NW PAGES timeline.now n offset machine.old machine.new interval.old interval.new) }
-    ensures counted { OnOk result (work.new ≡ counted work.old) }
-    ensures uncounted { OnErr result (work.new ≡ work.old ⊎ work.new ≡ counted work.old) }
+    ensures recorded { OnOk result (HasOneMore NW PAGES timeline.now n offset machine.old machine.new (so_far interval.old) (so_far interval.new)) }
 {
     watch.clear();
     let ran = machine.is_running();
     interval.signs.note_before(machine);
     keep_below(&mut interval.kept, machine, timeline, n, offset)?;
-    machine.watch(n, timeline, watch, work)?;
+    machine.watch(n, timeline, watch)?;
     interval.signs.note_after(offset, ran, machine)?;
-    record_notes(interval, watch.touches(), told, offset)?;
+    record_touches(
+        &mut interval.recorder,
+        &mut interval.kept,
+        watch.touches(),
+        offset,
+    )?;
     Ok(())
 }
 
-/// Makes so many steps from the machine of step n on, and records them. `notes` and `draft` are places for what is gathered
-/// meanwhile, whose memory the next call uses again.
+/// Makes so many steps from the machine of step n on, and records them. `interval` is a place for what is recorded
+/// meanwhile.
 ///
 /// # Errors
 ///
@@ -259,8 +345,7 @@ pub(crate) fn record<const NW: usize, const PAGES: usize>(
     timeline: &Timeline,
     n: u32,
     count: u32,
-    notes: &mut StepNotes,
-    draft: &mut Interval,
+    interval: &mut OpenInterval,
     work: &mut Work,
 ) -> Result<(Machine<NW, PAGES>, Interval), AllocError>
     requires few_windows { NW ≤ 32 }
@@ -274,21 +359,20 @@ pub(crate) fn record<const NW: usize, const PAGES: usize>(
     ensures counted { OnOk result (work.new ≡ counted_by count work.old) }
     ensures raised { RaisedUpTo count work.old work.new }
 {
-    draft.clear();
+    interval.clear();
     let mut machine = machine;
+    let quiet = !timeline.may_have_events_between(n, n + count);
     // A range would be taken apart and put together again at each step.
     let mut offset = 0;
     while offset < count {
-        record_step(
-            &mut machine,
-            timeline,
-            n + offset,
-            offset,
-            notes,
-            draft,
-            work,
-        )?;
-        offset += 1;
+        match record_step(&mut machine, timeline, n + offset, offset, quiet, interval) {
+            Ok(()) => offset += 1,
+            Err(fault) => {
+                work.raise_by(offset);
+                return Err(fault);
+            }
+        }
     }
-    Ok((machine, draft.copy()?))
+    work.raise_by(count);
+    Ok((machine, interval.copy()?))
 }

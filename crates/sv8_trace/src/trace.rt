@@ -5,7 +5,8 @@ ghost use Rattle.sv8_time.specs.Schedule.{Schedule, bytes_below};
 ghost use Rattle.sv8_phys.specs.Memory.{ram_size};
 ghost use Rattle.sv8_history.specs.Growing.{restored};
 ghost use Rattle.sv8_trace.specs.Checkpoints.{IsCheckpoint};
-ghost use Rattle.sv8_trace.specs.Recorder.{counted_by, steps_on, IsRecorded, RaisedUpTo};
+ghost use Rattle.sv8_trace.specs.Recorder.{steps_on, IsRecorded, RaisedUpTo};
+ghost use Rattle.sv8_cpu.specs.Work.{counted_by};
 ghost use Rattle.sv8_trace.specs.Recording.{fresh, last_point, recorded, trace_of, IsExtended};
 
 mod copying;
@@ -18,12 +19,13 @@ mod search;
 use crate::checkpoint::Checkpoint;
 use crate::finished::Finished;
 use crate::interval::Interval;
+use crate::open_interval::OpenInterval;
 use crate::points::Points;
 use crate::recorder::record;
 use std::alloc::{AllocError, Global};
 use std::marker::Model;
 use sv8_cpu::{Machine, Work};
-use sv8_notes::{Marks, StepNotes};
+use sv8_notes::Marks;
 use sv8_time::Timeline;
 
 /// The recorded run of a machine with `NW` register windows (2 to 32) and `PAGES` pages of RAM (1 to 65,536): a checkpoint of every
@@ -32,9 +34,8 @@ pub struct Trace<const NW: usize, const PAGES: usize, const K: u32> {
     points: Points<NW, PAGES>,
     intervals: Vec<Finished>,
     marks: Marks,
-    /// Places for the notes of the step and of the interval under way.
-    notes: StepNotes,
-    draft: Interval,
+    /// A place for the interval under way.
+    open: OpenInterval,
 }
 
 // Written out, so that crates above prove no drop of its parts.
@@ -44,8 +45,7 @@ impl<const NW: usize, const PAGES: usize, const K: u32> Drop for Trace<NW, PAGES
             points: _,
             intervals: _,
             marks: _,
-            notes: _,
-            draft: _,
+            open: _,
         } = self;
     }
 }
@@ -85,8 +85,7 @@ impl<const NW: usize, const PAGES: usize, const K: u32> Trace<NW, PAGES, K> {
             points,
             intervals: Vec::new(alloc),
             marks: Marks::new(alloc),
-            notes: StepNotes::new(alloc),
-            draft: Interval::new(alloc),
+            open: OpenInterval::new(alloc),
         })
     }
 
@@ -148,9 +147,7 @@ impl<const NW: usize, const PAGES: usize, const K: u32> Trace<NW, PAGES, K> {
         let count = self.intervals.len();
         let machine = self.points.snapshot(alloc, count)?;
         let n = K * count as u32;
-        let notes = &mut self.notes;
-        let draft = &mut self.draft;
-        let (machine, interval) = record(machine, timeline, n, K, notes, draft, work)?;
+        let (machine, interval) = record(machine, timeline, n, K, &mut self.open, work)?;
         self.add(alloc, machine, interval)?;
         Ok(())
     }

@@ -5,7 +5,7 @@ use Rattle.sv8_time.specs.Schedule.{Schedule, bytes_below}
 use Rattle.sv8_cpu.specs.State.{State}
 use Rattle.sv8_cpu.specs.Run.{step}
 use Rattle.sv8_cpu.specs.Sameness.{IsSameProcessor}
-use Rattle.sv8_trace.specs.Recorder.{counted_by}
+use Rattle.sv8_cpu.specs.Work.{counted_by}
 use Rattle.sv8_workbench.specs.Kept.{Kept}
 use Rattle.sv8_workbench.specs.Shown.{machine_state}
 use Rattle.sv8_bench.proofs.Queried.{full}

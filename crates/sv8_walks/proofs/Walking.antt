@@ -2,8 +2,8 @@
 use Rattle.std.proofs.Common.{◌≡◌, ◌∙◌, ℕ, suc, ◌+◌, ◌-◌, ◌*◌, ◌/◌, ◌<◌, ◌≤◌, ◌⊎◌, inl, inr, max, ap, arith, subst}
 use Rattle.std.proofs.Math.Nat.{div-lt_iff_lt-mul}
 use Rattle.sv8_cpu.specs.State.{State}
-use Rattle.sv8_cpu.specs.Work.{counted}
-use Rattle.sv8_trace.specs.Recorder.{counted_by, RaisedUpTo}
+use Rattle.sv8_cpu.specs.Work.{counted, counted_by}
+use Rattle.sv8_trace.specs.Recorder.{RaisedUpTo}
 use Rattle.sv8_trace.specs.Recording.{recorded}
 use Rattle.sv8_walks.specs.Made.{IsMade}
 use Rattle.sv8_bench.specs.Workbench.{Workbench, checkpoints}

@@ -12,26 +12,25 @@ ghost use Rattle.sv8_walks.specs.Made.{HasRoom, IsMade, IsUnmade};
 use std::alloc::{AllocError, Global};
 use std::marker::Model;
 use sv8_bench::Bench;
-use sv8_cpu::{Machine, Work};
-use sv8_touches::{StepTouches, Watch};
-use sv8_trace::{Interval, record_watched};
+use sv8_cpu::Machine;
+use sv8_touches::Watch;
+use sv8_trace::{OpenInterval, record_watched};
 
 /// A machine beyond the last checkpoint of a workbench's run, with what is recorded of the steps since.
 #[derive(Drop)]
 pub struct Draft<const NW: usize, const PAGES: usize> {
     machine: Machine<NW, PAGES>,
-    interval: Interval,
+    interval: OpenInterval,
     count: u32,
-    /// A place for the notes of a step.
-    told: StepTouches,
 }
 
 impl<const NW: usize, const PAGES: usize> Model for Draft<NW, PAGES> {
     ghost use Rattle.sv8_walks.specs.Drafts.{Drafted};
+    ghost use Rattle.sv8_trace.specs.Recorder.{so_far};
 
     ghost Value = { Drafted };
 
-    ghost view = { λ d. record { state = d.machine; interval = d.interval; count = d.count } };
+    ghost view = { λ d. record { state = d.machine; interval = so_far d.interval; count = d.count } };
 }
 
 impl<const NW: usize, const PAGES: usize> Draft<NW, PAGES> {
@@ -42,9 +41,8 @@ impl<const NW: usize, const PAGES: usize> Draft<NW, PAGES> {
     {
         Draft {
             machine,
-            interval: Interval::new(alloc),
+            interval: OpenInterval::new(alloc),
             count: 0,
-            told: StepTouches::new(alloc),
         }
     }
 
@@ -105,17 +103,13 @@ impl<const NW: usize, const PAGES: usize> Draft<NW, PAGES> {
         ensures unmade { OnErr result (IsUnmade bench.old bench.new) }
     {
         bench.sizes();
-        // The workbench counts the step.
-        let mut work = Work::new();
         record_watched(
             &mut self.machine,
             bench.timeline(),
             step,
             self.count,
-            &mut self.told,
             &mut self.interval,
             watch,
-            &mut work,
         )?;
         bench.count_step();
         self.count += 1;

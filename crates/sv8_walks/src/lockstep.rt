@@ -2,7 +2,8 @@
 
 ghost use Rattle.std.specs.Prelude.{◌≡◌, ◌+◌, ◌-◌, ◌/◌, ◌<◌, ◌≤◌, MatchBool, IfOk, OnOk, OnErr};
 ghost use Rattle.sv8_cpu.specs.Sameness.{IsSameProcessor};
-ghost use Rattle.sv8_trace.specs.Recorder.{counted_by, RaisedUpTo};
+ghost use Rattle.sv8_trace.specs.Recorder.{RaisedUpTo};
+ghost use Rattle.sv8_cpu.specs.Work.{counted_by};
 ghost use Rattle.sv8_trace.specs.Recording.{recorded};
 ghost use Rattle.sv8_walks.specs.Made.{IsMade};
 ghost use Rattle.sv8_walks.specs.Walks.{IsWalk, state_in};

@@ -2,7 +2,8 @@
 
 ghost use Rattle.std.specs.Prelude.{◌≡◌, ◌+◌, ◌-◌, ◌/◌, ◌%◌, ◌<◌, ◌≤◌, ◌⊎◌, true, IfOk, OnOk, OnErr};
 ghost use Rattle.sv8_cpu.specs.Run.{footprint, observed};
-ghost use Rattle.sv8_trace.specs.Recorder.{counted_by, RaisedUpTo};
+ghost use Rattle.sv8_trace.specs.Recorder.{RaisedUpTo};
+ghost use Rattle.sv8_cpu.specs.Work.{counted_by};
 ghost use Rattle.sv8_trace.specs.Recording.{recorded};
 ghost use Rattle.sv8_walks.specs.Made.{IsMade, IsUnmade};
 ghost use Rattle.sv8_workbench.specs.Shown.{machine_state};
@@ -12,7 +13,7 @@ ghost use Rattle.sv8_walks.specs.Walks.{state_in, IsReady, IsWalk};
 use crate::draft::Draft;
 use std::alloc::AllocError;
 use sv8_bench::{Bench, LAST_STEP};
-use sv8_cpu::{Machine, Work};
+use sv8_cpu::Machine;
 use sv8_touches::Watch;
 
 /// Where a walk stands.
@@ -313,13 +314,11 @@ fn step_restored<
     ensures unmade { OnErr result (bench.new ≡ bench.old) }
 {
     bench.sizes();
-    // The workbench counts the step.
-    let mut work = Work::new();
     if SEEN {
         watch.clear();
-        machine.watch(step, bench.timeline(), watch, &mut work)?;
+        machine.watch(step, bench.timeline(), watch)?;
     } else {
-        machine.pass(step, bench.timeline(), &mut work)?;
+        machine.pass(step, bench.timeline())?;
     }
     bench.count_step();
     Ok(())

@@ -6,7 +6,8 @@ ghost use Rattle.sv8_time.specs.Schedule.{bytes_below};
 ghost use Rattle.sv8_phys.specs.Memory.{ram_size};
 ghost use Rattle.sv8_cpu.specs.State.{State};
 ghost use Rattle.sv8_cpu.specs.Recorded.{event_at, AreEvents};
-ghost use Rattle.sv8_trace.specs.Recorder.{steps_on, counted_by, RaisedUpTo};
+ghost use Rattle.sv8_trace.specs.Recorder.{steps_on, RaisedUpTo};
+ghost use Rattle.sv8_cpu.specs.Work.{counted_by};
 ghost use Rattle.sv8_trace.specs.Recording.{last_point, recorded};
 ghost use Rattle.sv8_workbench.specs.Faults.{are_words, step_refusal, words_refusal};
 ghost use Rattle.sv8_workbench.specs.Shown.{machine_state, shown_at, words_in, words_shown, output_shown};
@@ -16,7 +17,6 @@ use crate::bench::Bench;
 use std::alloc::{AllocError, Global};
 use sv8_cpu::{Machine, Work};
 use sv8_model::Refused;
-use sv8_phys::NoTouches;
 use sv8_time::Timeline;
 use sv8_trace::Trace;
 use sv8_workbench::{BAD_ADDRESS, BenchFault, STEP_TOO_LARGE, Shown};
@@ -104,7 +104,7 @@ fn run_on<const NW: usize, const PAGES: usize>(
 {
     let mut machine = machine;
     for n in from..step {
-        machine = machine.step(n, timeline, &mut NoTouches, work)?;
+        machine = machine.step(n, timeline, work)?;
     }
     Ok(machine)
 }

@@ -1,7 +1,7 @@
 //! Loads and stores.
 
 ghost use Rattle.std.specs.Prelude.{◌≡◌, ℕ, ◌+◌, ◌*◌, ◌/◌, ◌%◌, ◌<◌, ◌∷◌, [], true, false, List, IfOk, OnOk, OnErr};
-ghost use Rattle.sv8_model.specs.Does.{Does, DoesUnnoted, noting, keeping};
+ghost use Rattle.sv8_model.specs.Does.{Does, DoesUnnoted, noting};
 ghost use Rattle.sv8_model.specs.Outside.{word_address};
 ghost use Rattle.sv8_model.specs.Size.{bytes_in};
 ghost use Rattle.sv8_phys.specs.Memory.{ram_size};
@@ -71,7 +71,7 @@ impl<const PAGES: usize> Phys<PAGES> {
         notes: &mut T,
     ) -> Result<Result<u64, BusError>, AllocError>
         requires { pa % bytes_in size ≡ 0 }
-        ensures ok { IfOk result (λ r. (bytes : List ℕ) → Does (keeping T.KEEPS T.OBSERVES) (load (ram_size PAGES) self.now.timer size pa)
+        ensures ok { IfOk result (λ r. (bytes : List ℕ) → Does T.NOTING (load (ram_size PAGES) self.now.timer size pa)
             (outside_of self.now bytes) (outside_of self.now bytes) r (T.noted notes.old) (T.noted notes.new)) }
         ensures growth { OnErr result (load_grows T.KEEPS (ram_size PAGES) size pa ≡ true) }
     {
@@ -99,7 +99,7 @@ impl<const PAGES: usize> Phys<PAGES> {
         notes: &mut T,
     ) -> Result<Result<(), BusError>, AllocError>
         requires { pa % bytes_in size ≡ 0 }
-        ensures ok { IfOk result (λ r. (bytes : List ℕ) → Does (keeping T.KEEPS T.OBSERVES) (store (ram_size PAGES) self.old.timer size pa value)
+        ensures ok { IfOk result (λ r. (bytes : List ℕ) → Does T.NOTING (store (ram_size PAGES) self.old.timer size pa value)
             (outside_of self.old bytes) (outside_of self.new bytes) (record { answer = r; timer = self.new.timer }) (T.noted notes.old) (T.noted notes.new)) }
         ensures taken { self.new.taken ≡ self.old.taken }
         ensures err { OnErr result (self.new ≡ self.old) }
@@ -128,7 +128,7 @@ impl<const PAGES: usize> Phys<PAGES> {
     ) -> Result<u64, AllocError>
         requires within { pa < ram_size PAGES }
         requires aligned { pa % bytes_in size ≡ 0 }
-        ensures ok { IfOk result (λ v. (bytes : List ℕ) → Does (keeping T.KEEPS T.OBSERVES) (ram_load size pa)
+        ensures ok { IfOk result (λ v. (bytes : List ℕ) → Does T.NOTING (ram_load size pa)
             (outside_of self.now bytes) (outside_of self.now bytes) v (T.noted notes.old) (T.noted notes.new)) }
         ensures err { OnErr result (T.KEEPS ≡ true) }
     {
@@ -152,7 +152,7 @@ impl<const PAGES: usize> Phys<PAGES> {
     ) -> Result<(), AllocError>
         requires within { pa < ram_size PAGES }
         requires aligned { pa % bytes_in size ≡ 0 }
-        ensures ok { OnOk result ((bytes : List ℕ) (timer : Timer) → Does (keeping T.KEEPS T.OBSERVES) (ram_store size pa value (stored_with timer))
+        ensures ok { OnOk result ((bytes : List ℕ) (timer : Timer) → Does T.NOTING (ram_store size pa value (stored_with timer))
             (outside_of self.old bytes) (outside_of self.new bytes) (stored_with timer) (T.noted notes.old) (T.noted notes.new)) }
         ensures others { self.new ≡ record self.old { ram = self.new.ram } }
         ensures err { OnErr result (self.new ≡ self.old) }
@@ -176,7 +176,7 @@ fn word_address(pa: u32) -> u32
 #[inline(always)]
 fn note_load<T: Touches>(pa: u32, size: Size, notes: &mut T) -> Result<(), AllocError>
     requires { pa % bytes_in size ≡ 0 }
-    ensures ok { OnOk result (T.noted notes.new ≡ noting (keeping T.KEEPS T.OBSERVES) (T.noted notes.old) (load_touches size pa) []) }
+    ensures ok { OnOk result (T.noted notes.new ≡ noting T.NOTING (T.noted notes.old) (load_touches size pa) []) }
     ensures err { OnErr result (T.KEEPS ≡ true) }
 {
     match size {
@@ -199,7 +199,7 @@ fn note_load<T: Touches>(pa: u32, size: Size, notes: &mut T) -> Result<(), Alloc
 #[inline(always)]
 fn note_store<T: Touches>(pa: u32, size: Size, notes: &mut T) -> Result<(), AllocError>
     requires { pa % bytes_in size ≡ 0 }
-    ensures ok { OnOk result (T.noted notes.new ≡ noting (keeping T.KEEPS T.OBSERVES) (T.noted notes.old) (store_touches size pa) []) }
+    ensures ok { OnOk result (T.noted notes.new ≡ noting T.NOTING (T.noted notes.old) (store_touches size pa) []) }
     ensures err { OnErr result (T.KEEPS ≡ true) }
 {
     match size {
@@ -216,9 +216,9 @@ fn note_store<T: Touches>(pa: u32, size: Size, notes: &mut T) -> Result<(), Allo
 
 /// Takes two notes, one behind the other.
 #[inline(always)]
-#[tactic(auto, using(sv8_model::proofs::Common::kept_append))]
+#[tactic(auto, using(sv8_model::proofs::Common::noting_then))]
 fn note_both<T: Touches>(first: Touch, second: Touch, notes: &mut T) -> Result<(), AllocError>
-    ensures ok { OnOk result (T.noted notes.new ≡ noting (keeping T.KEEPS T.OBSERVES) (T.noted notes.old) (first ∷ second ∷ []) []) }
+    ensures ok { OnOk result (T.noted notes.new ≡ noting T.NOTING (T.noted notes.old) (first ∷ second ∷ []) []) }
     ensures err { OnErr result (T.KEEPS ≡ true) }
 {
     notes.note(first)?;

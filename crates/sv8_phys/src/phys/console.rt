@@ -2,7 +2,7 @@
 
 ghost use Rattle.std.specs.Prelude.{◌≡◌, ◌≤◌, true, length, IfOk, OnErr};
 ghost use Rattle.sv8_model.specs.Action as model;
-ghost use Rattle.sv8_model.specs.Does.{Does, keeping};
+ghost use Rattle.sv8_model.specs.Does.{Does};
 ghost use Rattle.sv8_model.specs.Outside.{oldest};
 ghost use Rattle.sv8_phys.specs.Contents.{outside_of};
 ghost use Rattle.sv8_phys.specs.Calls.{waiting_bytes, after_take};
@@ -49,7 +49,7 @@ impl<const PAGES: usize> Phys<PAGES> {
         notes: &mut T,
     ) -> Result<u8, AllocError>
         requires { self.old.taken ≤ length (A.arrived before arrivals.now) }
-        ensures ok { IfOk result (λ byte. Does (keeping T.KEEPS T.OBSERVES) (model.take_input (λ b. model.done b))
+        ensures ok { IfOk result (λ byte. Does T.NOTING (model.take_input (λ b. model.done b))
             (outside_of self.old (A.arrived before arrivals.now)) (outside_of self.new (A.arrived before arrivals.now)) byte (T.noted notes.old) (T.noted notes.new)) }
         ensures others { self.new ≡ record self.old { taken = self.new.taken } }
         ensures delivered { self.new.taken ≤ length (A.arrived before arrivals.now) }
@@ -78,7 +78,7 @@ impl<const PAGES: usize> Phys<PAGES> {
         notes: &mut T,
     ) -> Result<u32, AllocError>
         requires { self.now.taken ≤ length (A.arrived before arrivals.now) }
-        ensures ok { IfOk result (λ count. Does (keeping T.KEEPS T.OBSERVES) (model.count_waiting (λ n. model.done n))
+        ensures ok { IfOk result (λ count. Does T.NOTING (model.count_waiting (λ n. model.done n))
             (outside_of self.now (A.arrived before arrivals.now)) (outside_of self.now (A.arrived before arrivals.now)) count (T.noted notes.old) (T.noted notes.new)) }
         ensures quiet { OnErr result (T.KEEPS ≡ true) }
     {

@@ -2,7 +2,7 @@
 
 ghost use Rattle.std.specs.Prelude.{◌≡◌, ℕ, ◌%◌, true, List, IfOk, OnOk, OnErr};
 ghost use Rattle.sv8_model.specs.Action as model;
-ghost use Rattle.sv8_model.specs.Does.{Does, keeping};
+ghost use Rattle.sv8_model.specs.Does.{Does};
 ghost use Rattle.sv8_phys.specs.Contents.{outside_of};
 ghost use Rattle.sv8_phys.specs.Devices.{tick, outside_load, outside_store, device_load, device_store, stored_with};
 ghost use Rattle.sv8_phys.specs.Growths.{outside_load_grows, outside_store_grows};
@@ -39,7 +39,7 @@ impl<const PAGES: usize> Phys<PAGES> {
     /// `AllocError` where memory for the note of an expiry cannot be had; the timer is then as it was.
     #[inline]
     pub fn tick_noted<T: Touches>(&mut self, notes: &mut T) -> Result<(), AllocError>
-        ensures ok { IfOk result (λ _. (bytes : List ℕ) → Does (keeping T.KEEPS T.OBSERVES) (tick self.old.timer)
+        ensures ok { IfOk result (λ _. (bytes : List ℕ) → Does T.NOTING (tick self.old.timer)
             (outside_of self.old bytes) (outside_of self.new bytes) self.new.timer (T.noted notes.old) (T.noted notes.new)) }
         ensures taken { self.new.taken ≡ self.old.taken }
         ensures err { OnErr result (self.new ≡ self.old) }
@@ -60,7 +60,7 @@ impl<const PAGES: usize> Phys<PAGES> {
     /// `AllocError` where memory for the note cannot be had.
     #[inline]
     pub fn pending_among<T: Touches>(&self, levels: u16, notes: &mut T) -> Result<u32, AllocError>
-        ensures ok { IfOk result (λ word. (bytes : List ℕ) → Does (keeping T.KEEPS T.OBSERVES) (model.ask_levels levels (λ word. model.done word))
+        ensures ok { IfOk result (λ word. (bytes : List ℕ) → Does T.NOTING (model.ask_levels levels (λ word. model.done word))
             (outside_of self.now bytes) (outside_of self.now bytes) word (T.noted notes.old) (T.noted notes.new)) }
         ensures quiet { OnErr result (T.KEEPS ≡ true) }
     {
@@ -76,7 +76,7 @@ impl<const PAGES: usize> Phys<PAGES> {
         size: Size,
         notes: &mut T,
     ) -> Result<Result<u64, BusError>, AllocError>
-        ensures ok { IfOk result (λ r. (bytes : List ℕ) → Does (keeping T.KEEPS T.OBSERVES) (outside_load self.now.timer size pa)
+        ensures ok { IfOk result (λ r. (bytes : List ℕ) → Does T.NOTING (outside_load self.now.timer size pa)
             (outside_of self.now bytes) (outside_of self.now bytes) r (T.noted notes.old) (T.noted notes.new)) }
         ensures growth { OnErr result (outside_load_grows T.KEEPS size pa ≡ true) }
     {
@@ -96,7 +96,7 @@ impl<const PAGES: usize> Phys<PAGES> {
         pa: u64,
         notes: &mut T,
     ) -> Result<Result<u64, BusError>, AllocError>
-        ensures ok { IfOk result (λ r. (bytes : List ℕ) → Does (keeping T.KEEPS T.OBSERVES) (device_load self.now.timer pa)
+        ensures ok { IfOk result (λ r. (bytes : List ℕ) → Does T.NOTING (device_load self.now.timer pa)
             (outside_of self.now bytes) (outside_of self.now bytes) r (T.noted notes.old) (T.noted notes.new)) }
         ensures growth { OnErr result (outside_load_grows T.KEEPS Size.Word pa ≡ true) }
     {
@@ -121,7 +121,7 @@ impl<const PAGES: usize> Phys<PAGES> {
         value: u64,
         notes: &mut T,
     ) -> Result<Result<(), BusError>, AllocError>
-        ensures ok { IfOk result (λ r. (bytes : List ℕ) → Does (keeping T.KEEPS T.OBSERVES) (outside_store self.old.timer size pa value)
+        ensures ok { IfOk result (λ r. (bytes : List ℕ) → Does T.NOTING (outside_store self.old.timer size pa value)
             (outside_of self.old bytes) (outside_of self.new bytes) (record { answer = r; timer = self.new.timer }) (T.noted notes.old) (T.noted notes.new)) }
         ensures taken { self.new.taken ≡ self.old.taken }
         ensures err { OnErr result (self.new ≡ self.old) }
@@ -144,7 +144,7 @@ impl<const PAGES: usize> Phys<PAGES> {
         value: u64,
         notes: &mut T,
     ) -> Result<Result<(), BusError>, AllocError>
-        ensures ok { IfOk result (λ r. (bytes : List ℕ) → Does (keeping T.KEEPS T.OBSERVES) (device_store self.old.timer pa value)
+        ensures ok { IfOk result (λ r. (bytes : List ℕ) → Does T.NOTING (device_store self.old.timer pa value)
             (outside_of self.old bytes) (outside_of self.new bytes) (record { answer = r; timer = self.new.timer }) (T.noted notes.old) (T.noted notes.new)) }
         ensures taken { self.new.taken ≡ self.old.taken }
         ensures err { OnErr result (self.new ≡ self.old) }
@@ -163,7 +163,7 @@ impl<const PAGES: usize> Phys<PAGES> {
 
     /// Clears the pending levels of a word.
     fn clear_pending<T: Touches>(&mut self, levels: u32, notes: &mut T) -> Result<(), AllocError>
-        ensures ok { OnOk result ((bytes : List ℕ) (timer : Timer) → Does (keeping T.KEEPS T.OBSERVES) (model.clear_levels levels (model.done (stored_with timer)))
+        ensures ok { OnOk result ((bytes : List ℕ) (timer : Timer) → Does T.NOTING (model.clear_levels levels (model.done (stored_with timer)))
             (outside_of self.old bytes) (outside_of self.new bytes) (stored_with timer) (T.noted notes.old) (T.noted notes.new)) }
         ensures others { self.new ≡ record self.old { pending = self.new.pending } }
         ensures err { OnErr result (self.new ≡ self.old) }
@@ -177,7 +177,7 @@ impl<const PAGES: usize> Phys<PAGES> {
     /// The timer's count reaches 0.
     #[cold]
     fn expire<T: Touches>(&mut self, notes: &mut T) -> Result<(), AllocError>
-        ensures ok { OnOk result ((bytes : List ℕ) → Does (keeping T.KEEPS T.OBSERVES) (model.expire (model.done (record self.old.timer { count = self.old.timer.reload })))
+        ensures ok { OnOk result ((bytes : List ℕ) → Does T.NOTING (model.expire (model.done (record self.old.timer { count = self.old.timer.reload })))
             (outside_of self.old bytes) (outside_of self.new bytes) self.new.timer (T.noted notes.old) (T.noted notes.new)) }
         ensures taken { self.new.taken ≡ self.old.taken }
         ensures err { OnErr result (self.new ≡ self.old) }

@@ -3,10 +3,9 @@
 ghost use Rattle.std.specs.Prelude.{◌≡◌, IfOk};
 
 use crate::finished::Finished;
-use crate::interval::Interval;
+use crate::open_interval::OpenInterval;
 use crate::trace::Trace;
 use std::alloc::{AllocError, Global};
-use sv8_notes::StepNotes;
 
 /// The same intervals once more, which share their notes and signs.
 fn share_all(alloc: Global, intervals: &[Finished]) -> Result<Vec<Finished>, AllocError>
@@ -32,8 +31,7 @@ impl<const NW: usize, const PAGES: usize, const K: u32> Trace<NW, PAGES, K> {
             points: self.points.copy(alloc)?,
             intervals: share_all(alloc, &self.intervals)?,
             marks: self.marks.copy(alloc)?,
-            notes: StepNotes::new(alloc),
-            draft: Interval::new(alloc),
+            open: OpenInterval::new(alloc),
         })
     }
 }

@@ -13,7 +13,7 @@ returns-clause-recorded g c =
     record {
       gained = search rules;
       kept = λ j cell.
-          c.in_ok-record_notes.ensures.kept j cell
+          c.in_ok-record_touches.ensures.kept j cell
           ∙ ap (λ ts. cond (is_touched (told ts) cell) None (kept_in j cell c.keep_below.new.kept)) seen
           ∙ ap (λ o. cond (is_touched (told touched) cell) None o) (c.in_ok-keep_below.ensures j cell);
       signs = search rules;

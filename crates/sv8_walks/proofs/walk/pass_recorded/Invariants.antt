@@ -1,5 +1,5 @@
 use Rattle.std.proofs.Common.{◌≡◌, ◌≤◌, ◌-◌}
-use Rattle.sv8_trace.specs.Recorder.{counted_by}
+use Rattle.sv8_cpu.specs.Work.{counted_by}
 use Rattle.sv8_workbench.specs.Shown.{machine_state}
 use Rattle.sv8_bench.specs.Workbench.{checkpoints}
 use Rattle.sv8_walks.proofs.walk.pass_recorded.Given as goal

@@ -1,6 +1,6 @@
 use Rattle.std.proofs.Common.{◌≡◌, ◌∙◌, ◌+◌, ◌-◌, ◌*◌, ◌/◌, ◌<◌, ◌≤◌, length, refl, sym, ap, arith, subst}
 use Rattle.sv8_cpu.specs.Recorded.{event_at}
-use Rattle.sv8_trace.specs.Recorder.{counted_by}
+use Rattle.sv8_cpu.specs.Work.{counted_by}
 use Rattle.sv8_trace.specs.Recording.{Recording, recorded}
 use Rattle.sv8_bench.specs.Workbench.{IsRecordOf}
 use Rattle.sv8_bench.proofs.Queried.{counted_more, raised_more, room, all_recorded, all_counted, interval_more, interval_few, extended_keeps}

@@ -2,7 +2,7 @@ use Rattle.std.proofs.Common.{◌≡◌, ◌-◌, ◌*◌, ◌/◌, ◌≤◌, m
 use Rattle.sv8_time.specs.Schedule.{bytes_below}
 use Rattle.sv8_cpu.specs.State.{State}
 use Rattle.sv8_cpu.specs.Recorded.{event_at, AreEvents}
-use Rattle.sv8_trace.specs.Recorder.{counted_by}
+use Rattle.sv8_cpu.specs.Work.{counted_by}
 use Rattle.sv8_trace.specs.Recording.{last_point, recorded}
 use Rattle.sv8_bench.specs.Workbench.{IsRecordOf}
 use Rattle.sv8_bench.proofs.bench.queries.record_up_to.Given as goal

@@ -1,6 +1,7 @@
 use Rattle.std.proofs.Common.{◌≡◌, ◌-◌, ◌≤◌}
 use Rattle.sv8_time.specs.Schedule.{bytes_below}
-use Rattle.sv8_trace.specs.Recorder.{steps_on, counted_by}
+use Rattle.sv8_trace.specs.Recorder.{steps_on}
+use Rattle.sv8_cpu.specs.Work.{counted_by}
 use Rattle.sv8_bench.proofs.bench.queries.run_on.Given as goal
 
 abbrev pub invariant-loop-n : goal.invariant-loop-n

@@ -1,17 +1,12 @@
-use Rattle.std.proofs.Common.{◌++◌, [], ◌∷◌, refl, ◌∙◌, ap}
+use Rattle.std.proofs.Common.{◌++◌, [], ◌∷◌, ◌∙◌, ap}
 use Rattle.sv8_notes.specs.declared.notes.WordNote.{WordNote}
 use Rattle.sv8_notes.specs.WordRuns.{words_of}
-use Rattle.sv8_notes.proofs.Gaining.{gains_fetch}
+use Rattle.sv8_notes.proofs.Gaining.{one_fetched}
 use Rattle.sv8_notes.proofs.RunsOfWords.{words_more}
 use Rattle.sv8_notes.proofs.notes.Notes.note_fetch.Goals as goal
-
-pub returns-then-extend_last : goal.returns-then-extend_last
-returns-then-extend_last c =
-    gains_fetch c.args.offset c.args.address _ c.args.self.now (words_of c.self.inside.fetches.items) (words_of c.extend_last.new.runs.items) c.self.view_is refl c.if-extend_last.ensures
 
 pub returns : goal.returns
 returns c =
     let note : WordNote = record { address = c.args.address; offset = c.args.offset } in
     let items = c.push_reserved.ensures.items ∙ ap (λ rs. rs ++ c.new.result ∷ []) (c.in_ok-reserve.ensures.items ∙ c.if-extend_last.ensures) in
-    gains_fetch c.args.offset c.args.address _ c.args.self.now (words_of c.self.inside.fetches.items) (words_of c.push_reserved.new.self.items) c.self.view_is refl
-    (ap words_of items ∙ words_more c.self.inside.fetches.items c.new.result note c.new.ensures)
+    one_fetched note _ c.args.self.now (words_of c.push_reserved.new.self.items) c.self.view_is (ap words_of items ∙ words_more c.self.inside.fetches.items c.new.result note c.new.ensures)

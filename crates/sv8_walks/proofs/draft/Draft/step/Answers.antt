@@ -1,5 +1,5 @@
 use Rattle.std.proofs.Common.{◌≡◌, ◌∙◌, ◌+◌, ◌*◌, ◌<◌, ◌≤◌, length, refl, sym, ap, arith, subst}
-use Rattle.sv8_trace.specs.Recorder.{steps_on, IsRecorded}
+use Rattle.sv8_trace.specs.Recorder.{so_far, steps_on, IsRecorded}
 use Rattle.sv8_trace.specs.Recording.{last_point, recorded}
 use Rattle.sv8_workbench.specs.Kept.{Kept}
 use Rattle.sv8_workbench.specs.Shown.{machine_state}
@@ -19,7 +19,7 @@ record_watched-requires g c =
     let state = ap (λ (x : Drafted). x.state) c.self.view_is ∙ c.requires.state in
     let fed = fed_by w.kept c.args.step c.timeline.result.now inside.machine c.timeline.ensures state in
     let few : inside.count < 1000000 = omega (arith, ap (λ (x : Drafted). x.count) c.self.view_is, c.requires.draft.few, sizes.few_steps) in
-    let none = free g.row.K w c.args.self.now inside.machine inside.interval inside.count c.self.view_is c.requires.draft in
+    let none = free g.row.K w c.args.self.now inside.machine (so_far inside.interval) inside.count c.self.view_is c.requires.draft in
     (omega arith, (sizes.few_windows, (sizes.few_pages, (rw c.timeline.ensures sizes.limit, (fed, (few, none))))))
 
 pub returns-then-self-clause-state : goal.returns-then-self-clause-state
@@ -39,9 +39,9 @@ returns-then-self-clause-draft g c =
     let sizes = c.sizes.ensures in
     let made = c.record_watched in
     let told = c.in_ok-record_watched.ensures in
-    let both = drafted_more k w c.args.self.now inside.machine inside.interval inside.count c.self.view_is c.requires.draft g.row.NW g.row.PAGES c.args.step c.timeline.result.now sizes.windows sizes.pages
-    c.timeline.ensures c.requires.step made.new.machine made.new.interval told.state told.recorded in
-    let next : Drafted = record { state = made.new.machine; interval = made.new.interval; count = inside.count + 1 } in
+    let both = drafted_more k w c.args.self.now inside.machine (so_far inside.interval) inside.count c.self.view_is c.requires.draft g.row.NW g.row.PAGES c.args.step c.timeline.result.now sizes.windows sizes.pages
+    c.timeline.ensures c.requires.step made.new.machine (so_far made.new.interval) told.state told.recorded in
+    let next : Drafted = record { state = made.new.machine; interval = so_far made.new.interval; count = inside.count + 1 } in
     subst (λ (x : Workbench). IsDraft x.kept.windows x.kept.pages k x.kept.timeline x.recording next) (sym c.count_step.ensures)
     (rw (sizes.windows, sizes.pages) (record { few = c.if-self.true; state = both.0; steps = both.1 }))
 
@@ -53,12 +53,12 @@ finish-requires g c =
     let sizes = c.sizes.ensures in
     let made = c.record_watched in
     let told = c.in_ok-record_watched.ensures in
-    let both = drafted_more k w c.args.self.now inside.machine inside.interval inside.count c.self.view_is c.requires.draft g.row.NW g.row.PAGES c.args.step c.timeline.result.now sizes.windows sizes.pages
-    c.timeline.ensures c.requires.step made.new.machine made.new.interval told.state told.recorded in
+    let both = drafted_more k w c.args.self.now inside.machine (so_far inside.interval) inside.count c.self.view_is c.requires.draft g.row.NW g.row.PAGES c.args.step c.timeline.result.now sizes.windows sizes.pages
+    c.timeline.ensures c.requires.step made.new.machine (so_far made.new.interval) told.state told.recorded in
     let whole : inside.count + 1 ≡ k = omega (arith, ap (λ (x : Drafted). x.count) c.self.view_is, c.if-self.false, c.requires.draft.few) in
     let back = sym c.count_step.ensures in
     let state = subst (λ x. made.new.machine ≡ steps_on g.row.NW g.row.PAGES w.kept.timeline (recorded k w.recording) (last_point w.recording) x) whole both.0 in
-    let steps = subst (λ x. IsRecorded g.row.NW g.row.PAGES w.kept.timeline (recorded k w.recording) (last_point w.recording) x made.new.interval) whole both.1 in (
+    let steps = subst (λ x. IsRecorded g.row.NW g.row.PAGES w.kept.timeline (recorded k w.recording) (last_point w.recording) x (so_far made.new.interval)) whole both.1 in (
       omega arith,
       (
         omega arith,
@@ -66,7 +66,7 @@ finish-requires g c =
           subst (λ (x : Workbench). HasRoom k x.recording) back c.requires.room,
           (
             subst (λ (x : Workbench). made.new.machine ≡ steps_on g.row.NW g.row.PAGES x.kept.timeline (recorded k x.recording) (last_point x.recording) k) back state,
-            subst (λ (x : Workbench). IsRecorded g.row.NW g.row.PAGES x.kept.timeline (recorded k x.recording) (last_point x.recording) k made.new.interval) back steps,
+            subst (λ (x : Workbench). IsRecorded g.row.NW g.row.PAGES x.kept.timeline (recorded k x.recording) (last_point x.recording) k (so_far made.new.interval)) back steps,
           ),
         ),
       ),

@@ -1,5 +1,5 @@
 use Rattle.std.proofs.Common.{◌∙◌, ◌+◌, ◌-◌, ◌/◌, max, sym, ap, arith}
-use Rattle.sv8_trace.specs.Recorder.{counted_by}
+use Rattle.sv8_cpu.specs.Work.{counted_by}
 use Rattle.sv8_bench.specs.Workbench.{checkpoints}
 use Rattle.sv8_walks.proofs.Walking.{none_more, step_counted, raised_tried}
 use Rattle.sv8_walks.proofs.walk.Walk.go_to.Goals as goal

@@ -1,5 +1,5 @@
 use Rattle.std.proofs.Common.{◌≡◌, ◌-◌, ◌≤◌}
-use Rattle.sv8_trace.specs.Recorder.{counted_by}
+use Rattle.sv8_cpu.specs.Work.{counted_by}
 use Rattle.sv8_walks.specs.Walks.{IsWalk}
 use Rattle.sv8_bench.specs.Workbench.{checkpoints}
 use Rattle.sv8_walks.proofs.walk.Walk.go_to.Given as goal
