@@ -1,9 +1,10 @@
 //! Writes to a memory whose pages and output are shared with snapshots, with notes of what is touched: each write that is refused memory
-//! leaves the memory as it was, each other one does what it should, and notes that could not be told are still there.
+//! leaves the memory as it was, each other one does what it should, and what a step touched is recorded once there is room.
 
 use std::alloc::{AllocError, Global};
-use sv8_phys::{Observation, Phys, Size, Touch, Touches};
-use sv8_touches::{StepTouches, tell_all};
+use sv8_notes::{Cell, Notes, Recorder, Sought};
+use sv8_phys::{Phys, Size, Touch, Touches};
+use sv8_touches::StepTouches;
 
 /// Memory of 66 pages.
 type Memory = Phys<66>;
@@ -16,34 +17,6 @@ const PLACES: [u32; 4] = [0x300, 0x304, 0x5000, 0x4_1ffc];
 struct Seen {
     words: [u32; 4],
     output: Option<Vec<u8>>,
-}
-
-/// What a step has told.
-#[derive(Drop)]
-struct Told {
-    notes: Vec<Touch>,
-}
-
-impl Touches for Told {
-    ghost use Rattle.std.specs.Prelude.{true, false};
-    ghost use Rattle.sv8_model.specs.Does.{keeping, touching};
-
-    ghost NOTING = { keeping true false };
-
-    ghost KEEPS = { true };
-
-    ghost OBSERVES = { false };
-
-    ghost noted = { λ t. touching t.notes.items };
-
-    fn note(&mut self, touch: Touch) -> Result<(), AllocError> {
-        self.notes.push(touch)?;
-        Ok(())
-    }
-
-    fn observe(&mut self, _observation: Observation) -> Result<(), AllocError> {
-        Ok(())
-    }
 }
 
 fn words(memory: &Memory) -> [u32; 4] {
@@ -159,22 +132,32 @@ fn changes(alloc: Global, memory: &mut Memory, turn: u32, notes: &mut StepTouche
     kept && is_same(&before, &look_at(alloc, &snapshot))
 }
 
-/// Tells the notes twice, and tells whether each time that was not refused has them all.
-fn tells(alloc: Global, notes: &StepTouches) -> bool {
-    let mut told = Told {
-        notes: Vec::new(alloc),
-    };
-    let first = tell_all(notes.touches(), &mut told);
-    let mut again = Told {
-        notes: Vec::new(alloc),
-    };
-    let second = tell_all(notes.touches(), &mut again);
-    match (first, second) {
-        (Ok(()), Ok(())) => !told.notes.is_empty() && again.notes.len() == told.notes.len(),
-        (Err(_), Ok(())) => told.notes.len() < again.notes.len(),
-        (Ok(()), Err(_)) => again.notes.len() < told.notes.len(),
-        (Err(_), Err(_)) => false,
+/// Records a step of these touches, and gives the notes.
+fn record(recorder: &mut Recorder, touches: &[Touch]) -> Result<Notes, AllocError> {
+    recorder.record(0, touches)?;
+    recorder.begin(1);
+    for place in 0..4u32 {
+        recorder.note(Touch::Read(0x100 + 8 * place))?;
     }
+    recorder.end()?;
+    recorder.copy_notes()
+}
+
+/// Records the step of a memory's changes and one that reads four words, once more where that was refused, and tells whether both
+/// are there.
+fn records(alloc: Global, touches: &[Touch]) -> bool {
+    let mut recorder = Recorder::new(alloc);
+    let notes = match record(&mut recorder, touches) {
+        Ok(notes) => notes,
+        Err(_) => match record(&mut recorder, touches) {
+            Ok(notes) => notes,
+            Err(_) => return false,
+        },
+    };
+    let is_written = |place: u32| notes.first_from(Sought::Write(Cell::Byte(place)), 0, 2)
+        == Some(0);
+    let is_read = |place: u32| notes.first_from(Sought::Read(Cell::Byte(place)), 0, 2) == Some(1);
+    PLACES.iter().all(|place| is_written(*place)) && is_read(0x100) && is_read(0x118)
 }
 
 pub fn keeps(alloc: Global) -> Result<bool, AllocError> {
@@ -184,7 +167,7 @@ pub fn keeps(alloc: Global) -> Result<bool, AllocError> {
     for turn in 0..6u32 {
         kept = changes(alloc, &mut memory, turn, &mut notes) && kept;
     }
-    kept = tells(alloc, &notes) && kept;
+    kept = records(alloc, notes.touches()) && kept;
     notes.clear();
     // Up to the end of a chunk of the output, and over it.
     for turn in 0..4_070u64 {

@@ -98,7 +98,7 @@ pub fn waiting_at_once<const PAGES: usize>(
     }
     let count = physical
         .phys
-        .waiting_noted(feed.before, feed.timeline, &mut NoTouches)?;
+        .waiting_noted(feed.end_step(), feed.timeline, &mut NoTouches)?;
     Ok(Some(u64::from(count)))
 }
 

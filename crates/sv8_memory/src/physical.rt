@@ -282,11 +282,13 @@ impl<const PAGES: usize> Physical<PAGES> {
         if takes_byte(size, pa) {
             let byte = self
                 .phys
-                .take_input_noted(feed.before, feed.timeline, notes)?;
+                .take_input_noted(feed.end_step(), feed.timeline, notes)?;
             notes.observe(seen(AccessKind::Load, size, va, pa))?;
             Ok(Response::Value(byte as u64))
         } else if counts_bytes(size, pa) {
-            let count = self.phys.waiting_noted(feed.before, feed.timeline, notes)?;
+            let count = self
+                .phys
+                .waiting_noted(feed.end_step(), feed.timeline, notes)?;
             notes.observe(seen(AccessKind::Load, size, va, pa))?;
             Ok(Response::Value(count as u64))
         } else {

@@ -1,6 +1,5 @@
 -- Notes of more touches.
-use Rattle.std.proofs.lemmas.List.{take_more}
-use Rattle.std.proofs.Common.{take, length, get_or, set, suc, zero, arith, ◌+◌, ◌≡◌, ℕ, ◌<◌, List, [], ◌∷◌, ◌++◌, ◌==◌, Bool, true, false, ◌&&◌, ◌||◌, refl, sym, ◌∙◌, ap, eqb-true, eq-eqb}
+use Rattle.std.proofs.Common.{length, get_or, set, suc, zero, arith, ◌≡◌, ℕ, List, [], ◌∷◌, ◌++◌, ◌==◌, Bool, true, false, ◌&&◌, ◌||◌, refl, sym, ◌∙◌, ap, eqb-true, eq-eqb}
 use Rattle.std.specs.List.{list_any}
 use Rattle.sv8_model.specs.declared.touch.Touch.{Touch}
 use Rattle.sv8_model.specs.declared.touch.Touch.TheVariants.{Read, Write, Levels}
@@ -11,6 +10,9 @@ use Rattle.sv8_model.specs.Footprint.{is_read_of, is_write_of, is_touch_of, is_i
 use Rattle.sv8_model.specs.Cells.{Cell, ram_byte, waiting_bytes, pending_level, is_read}
 use Rattle.sv8_notes.specs.declared.notes.WordNote.{WordNote}
 use Rattle.sv8_notes.specs.Touched.{is_told_written}
+use Rattle.sv8_notes.specs.declared.word_run.WordRun.{WordRun}
+use Rattle.sv8_notes.specs.WordRuns.{words_of_run}
+use Rattle.sv8_notes.specs.Recording.{with_run}
 use Rattle.sv8_notes.specs.Steps.{Steps, Gains, is_word_of, has_word, is_asked_in, is_among, reads_in, writes_in, data_in, are_of}
 
 flip : (p q : Bool) → (p ≡ true → q ≡ true) → (q ≡ true → p ≡ true) → p ≡ q
@@ -243,10 +245,6 @@ gains_then offset ts us ds es r s t p q = record {
   takes = λ j. q.takes j ∙ ap (λ b. b || (j == offset && reads_input us)) (p.takes j) ∙ gathered (is_among j r.inputs) (j == offset) (reads_input ts) (reads_input us) ∙ ap (λ b. is_among j r.inputs || (j == offset && b)) (sym (any_append is_input ts us));
 }
 
--- the note of a word more among those of words that are fetched
-pub one_fetched : (note : WordNote) (old s : Steps) (more : List WordNote) → old ≡ s → more ≡ old.fetches ++ note ∷ [] → record old { fetches = more } ≡ record s { fetches = s.fetches ++ note ∷ [] }
-one_fetched note old s more same longer = ap (λ words. record old { fetches = words }) longer ∙ ap (λ (x : Steps). record x { fetches = x.fetches ++ note ∷ [] }) same
-
 -- the same of touches that read, write and take the same, and of data that is of the same words
 pub gains_like : (offset : ℕ) (ts us ds es : List Touch) (r s : Steps) → ((c : Cell) → are_of es c ≡ are_of ds c) → ((c : Cell) → is_read us c ≡ is_read ts c) → ((c : Cell) → is_told_written us c ≡ is_told_written ts c) → reads_input us ≡ reads_input ts
     → Gains offset ts ds r s → Gains offset us es r s
@@ -257,6 +255,32 @@ gains_like offset ts us ds es r s uses reads writes takes p = record {
   takes = λ j. p.takes j ∙ ap (λ b. is_among j r.inputs || (j == offset && b)) (sym takes);
 }
 
-pub gains_taken : (offset : ℕ) (ts : List Touch) (i : ℕ) (d : Touch) (r s t : Steps) → i < length ts → Gains offset (take i ts) (take i ts) r s
-    → Gains offset (get_or ts i d ∷ []) (get_or ts i d ∷ []) s t → Gains offset (take (i + 1) ts) (take (i + 1) ts) r t
-gains_taken offset ts i d r s t h p q = rw (take_more ts i d h) (gains_then offset (take i ts) (get_or ts i d ∷ []) (take i ts) (get_or ts i d ∷ []) r s t p q)
+-- beside words that are fetched
+pub gains_beside : (offset : ℕ) (ts ds : List Touch) (s t : Steps) (run : WordRun) → Gains offset ts ds s t → Gains offset ts ds (with_run s run) (with_run t run)
+gains_beside offset ts ds s t run p = record { uses = uses; reads = reads; writes = writes; takes = p.takes }
+  where
+    ws : List WordNote
+    ws = words_of_run run
+
+    uses : (c : Cell) (j : ℕ) → data_in (with_run t run) c j ≡ (data_in (with_run s run) c j || (j == offset && are_of ds c))
+    uses (ram_byte i) j = p.uses (ram_byte i) j
+    uses waiting_bytes j = p.uses waiting_bytes j
+    uses (pending_level l) j = p.uses (pending_level l) j
+
+    beside : (x : Steps) (i j : ℕ) → reads_in (with_run x run) (ram_byte i) j ≡ (reads_in x (ram_byte i) j || has_word ws (word_address i) j)
+    beside x i j =
+        let w = word_address i in
+        ap (λ b. b || has_word x.reads w j) (any_append (is_word_of w j) x.fetches ws) ∙ turned offset x (has_word x.fetches w j) (has_word ws w j) (has_word x.reads w j)
+
+    reads : (c : Cell) (j : ℕ) → reads_in (with_run t run) c j ≡ (reads_in (with_run s run) c j || (j == offset && is_read ts c))
+    reads (ram_byte i) j =
+        let w = word_address i in
+        let more = j == offset && is_read ts (ram_byte i) in
+        beside t i j ∙ ap (λ b. b || has_word ws w j) (p.reads (ram_byte i) j) ∙ turned offset s (reads_in s (ram_byte i) j) more (has_word ws w j) ∙ ap (λ b. b || more) (sym (beside s i j))
+    reads waiting_bytes j = p.reads waiting_bytes j
+    reads (pending_level l) j = p.reads (pending_level l) j
+
+    writes : (c : Cell) (j : ℕ) → writes_in (with_run t run) c j ≡ (writes_in (with_run s run) c j || (j == offset && is_told_written ts c))
+    writes (ram_byte i) j = p.writes (ram_byte i) j
+    writes waiting_bytes j = p.writes waiting_bytes j
+    writes (pending_level l) j = p.writes (pending_level l) j

@@ -3,6 +3,7 @@ pub mod Touching
 pub mod Gaining
 pub mod Flagging
 pub mod Told
+pub mod Telling
 pub mod Recorded
 pub mod Firsts
 pub mod RunsOfWords

@@ -1,5 +1,5 @@
 -- Marks of words, and what they say of steps.
-use Rattle.std.proofs.Common.{◌≡◌, ◌≢◌, ℕ, zero, suc, ◌+◌, ◌-◌, ◌*◌, ◌/◌, ◌%◌, ◌≤◌, ◌<◌, List, [], ◌∷◌, ◌++◌, length, length-append, take, take_all, replicate, get_or, set, false, Option, Some, unwrap_or, refl, ◌∙◌, ap, arith, inl, inr, ◌⊎◌, ne_eqb, get_or-set_same, get_or-set_other}
+use Rattle.std.proofs.Common.{◌≡◌, ◌≢◌, ℕ, zero, suc, ◌+◌, ◌-◌, ◌*◌, ◌/◌, ◌%◌, ◌≤◌, ◌<◌, List, [], ◌∷◌, ◌++◌, length, length-append, take, take_all, replicate, get_or, false, Option, Some, unwrap_or, refl, ◌∙◌, ap, arith, inl, inr, ◌⊎◌, ne_eqb}
 use Rattle.std.proofs.lemmas.Bool.{cases_eq}
 use Rattle.std.proofs.lemmas.Option.{none-some}
 use Rattle.sv8_notes.specs.declared.notes.WordNote.{WordNote}

@@ -1,5 +1,5 @@
 -- What the notes of an interval have gained once a step has ended.
-use Rattle.std.proofs.Common.{◌≡◌, ℕ, ◌+◌, ◌-◌, take, length, arith, List, [], ◌∷◌, ◌++◌, ◌==◌, Bool, true, false, ◌||◌, ◌&&◌, Option, Some, None, if◌then◌else◌, refl, sym, ◌∙◌, ap, subst}
+use Rattle.std.proofs.Common.{◌≡◌, ℕ, ◌-◌, take, length, arith, List, [], ◌∷◌, ◌++◌, ◌==◌, Bool, true, false, ◌||◌, ◌&&◌, Option, Some, None, if◌then◌else◌, refl, sym, ◌∙◌, ap, subst}
 use Rattle.std.proofs.lemmas.Bool.{eqb-false, true≢false}
 use Rattle.std.proofs.lemmas.List.{append_assoc, append-nil, length-append}
 use Rattle.std.proofs.Math.Seq.{take-append_seam}
@@ -14,6 +14,7 @@ use Rattle.sv8_touches.specs.Told.{told}
 use Rattle.sv8_notes.specs.declared.notes.WordNote.{WordNote}
 use Rattle.sv8_notes.specs.Touched.{is_told_written}
 use Rattle.sv8_notes.specs.Steps.{Steps, Gains, IsAllData, are_of}
+use Rattle.sv8_notes.specs.Laws.{EndedStepsAreTold}
 use Rattle.sv8_notes.specs.Recording.{HasAsked, HasEnded, Recording, Shape, asked_first, begun, fetched, is_short, loaded, nothing, rare, stored, with_rare, with_touch, with_touches, without_last, without_stored, word_at}
 use Rattle.sv8_notes.proofs.Gaining.{gains_load, gains_nothing, gains_read, gains_store, gains_then}
 use Rattle.sv8_notes.proofs.Told.{gains_all, gains_levels_first, gains_twice, told_fetch, told_load, told_nothing, told_store}
@@ -291,6 +292,5 @@ pub long_gains : (base new : Steps) (offset : ℕ) (ts : List Touch) → is_shor
 long_gains base new offset ts long p = gains_all offset ts (data_touches ts) base new (long_is_data ts long) p
 
 -- THE NOTES OF AN INTERVAL GAIN, by a step that has ended, what is told of all that it touched.
-pub ended_gains : (base new : Steps) (offset : ℕ) (ts : List Touch) (r : Recording) → r ≡ with_touches (begun base offset) ts → HasEnded r.shape r.asked r.offset r.notes new
-    → Gains offset (told ts) (data_touches ts) base new
+pub ended_gains : EndedStepsAreTold
 ended_gains base new offset ts r is h = gains_by base new offset ts (subst (λ x. Ends x new) is h)

@@ -1,10 +1,11 @@
 -- Runs of words, and the notes that they stand for.
-use Rattle.std.proofs.Common.{◌≡◌, ◌≢◌, ℕ, zero, suc, ◌+◌, ◌-◌, ◌*◌, ◌<◌, List, [], ◌∷◌, ◌++◌, length, take, get_or, set, Option, ◌==◌, Bool, true, false, ◌||◌, MatchBool, refl, sym, ◌∙◌, ap, ap₂, arith, eq-eqb, ne_eqb}
-use Rattle.std.proofs.lemmas.List.{append_assoc, append-nil, set-get_or, take_more}
+use Rattle.std.proofs.Common.{◌≡◌, ◌≢◌, ℕ, zero, suc, ◌+◌, ◌-◌, ◌*◌, ◌<◌, List, [], ◌∷◌, ◌++◌, length, take, get_or, Option, ◌==◌, Bool, true, false, ◌||◌, refl, sym, ◌∙◌, ap, ap₂, arith, eq-eqb, ne_eqb}
+use Rattle.std.proofs.lemmas.List.{append_assoc, append-nil, take_more}
 use Rattle.std.specs.List.{list_any}
 use Rattle.sv8_notes.specs.declared.notes.WordNote.{WordNote}
 use Rattle.sv8_notes.specs.declared.word_run.WordRun.{WordRun}
-use Rattle.sv8_notes.specs.Steps.{is_word_of, has_word, IsFirstBelow}
+use Rattle.sv8_notes.specs.Steps.{Steps, is_word_of, has_word, IsFirstBelow}
+use Rattle.sv8_notes.specs.Recording.{with_run}
 use Rattle.sv8_notes.specs.Marks.{mark_of, AreMarkedFrom}
 use Rattle.sv8_notes.specs.WordRuns.{words_from, words_of_run, words_of, AreMarkedBelow}
 use Rattle.sv8_notes.proofs.Gaining.{any_append, or_none}
@@ -67,24 +68,17 @@ pub words_append : (xs ys : List WordRun) → words_of (xs ++ ys) ≡ words_of x
 words_append [] ys = refl
 words_append (r ∷ rs) ys = ap (λ ws. words_of_run r ++ ws) (words_append rs ys) ∙ sym (append_assoc (words_of_run r) (words_of rs) (words_of ys))
 
--- a run of one word more
-pub words_more : (rs : List WordRun) (r : WordRun) (note : WordNote) → words_of_run r ≡ note ∷ [] → words_of (rs ++ r ∷ []) ≡ words_of rs ++ note ∷ []
-words_more rs r note is = words_append rs (r ∷ []) ∙ ap (λ ws. words_of rs ++ ws) (append-nil (words_of_run r) ∙ is)
+-- one run more
+pub words_with : (rs : List WordRun) (r : WordRun) → words_of (rs ++ r ∷ []) ≡ words_of rs ++ words_of_run r
+words_with rs r = words_append rs (r ∷ []) ∙ ap (λ ws. words_of rs ++ ws) (append-nil (words_of_run r))
 
--- the last run is one word longer
-longer : (rs : List WordRun) (n : ℕ) (r d : WordRun) (note : WordNote) → suc n ≡ length rs → words_of_run r ≡ words_of_run (get_or rs n d) ++ note ∷ [] → words_of (set rs n r) ≡ words_of rs ++ note ∷ []
-longer [] n r d note last is = absurd (omega (arith, last))
-longer (q ∷ []) zero r d note last is = append-nil (words_of_run r) ∙ is ∙ ap (λ ws. ws ++ note ∷ []) (sym (append-nil (words_of_run q)))
-longer (q ∷ s ∷ rs) zero r d note last is = absurd (omega (arith, last))
-longer (q ∷ []) (suc n) r d note last is = absurd (omega (arith, last))
-longer (q ∷ s ∷ rs) (suc n) r d note last is =
-    ap (λ ws. words_of_run q ++ ws) (longer (s ∷ rs) n r d note (omega (arith, last)) is) ∙ sym (append_assoc (words_of_run q) (words_of (s ∷ rs)) (note ∷ []))
+-- or none, as it is of no word
+pub words_without : (rs : List WordRun) (r : WordRun) → r.count ≡ 0 → words_of rs ≡ words_of rs ++ words_of_run r
+words_without rs r none = sym (ap (λ n. words_of rs ++ words_from r.address r.first n) none ∙ append-nil (words_of rs))
 
--- or it stays as it is
-pub extended : (b : Bool) (rs : List WordRun) (n : ℕ) (r q : WordRun) (note : WordNote) → suc n ≡ length rs → r ≡ get_or rs n r
-    → MatchBool b (words_of_run q ≡ words_of_run r ++ note ∷ []) (q ≡ r) → MatchBool b (words_of (set rs n q) ≡ words_of rs ++ note ∷ []) (set rs n q ≡ rs)
-extended true rs n r q note last is law = longer rs n q r note last (law ∙ ap (λ (x : WordRun). words_of_run x ++ note ∷ []) is)
-extended false rs n r q note last is law = ap (λ x. set rs n x) (law ∙ is) ∙ set-get_or rs n r
+-- the words of a run more among those that are fetched
+pub one_run : (run : WordRun) (old s : Steps) (more : List WordNote) → old ≡ s → more ≡ old.fetches ++ words_of_run run → record old { fetches = more } ≡ with_run s run
+one_run run old s more same longer = ap (λ words. record old { fetches = words }) longer ∙ ap (λ x. with_run x run) same
 
 -- ---- notes in a range
 

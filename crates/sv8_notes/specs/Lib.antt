@@ -1,5 +1,6 @@
 pub mod Cells
 pub mod Kept
+pub mod Laws
 pub mod Touched
 pub mod Steps
 pub mod Sought

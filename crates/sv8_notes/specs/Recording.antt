@@ -6,9 +6,15 @@ use Rattle.sv8_model.specs.declared.touch.Touch.TheVariants.{Read, Write, Input,
 use Rattle.sv8_model.specs.Does.{Noting}
 use Rattle.sv8_touches.specs.Told.{told}
 use Rattle.sv8_notes.specs.declared.notes.WordNote.{WordNote}
+use Rattle.sv8_notes.specs.declared.word_run.WordRun.{WordRun}
 use Rattle.sv8_notes.specs.declared.recorder.Stage.{Stage}
 use Rattle.sv8_notes.specs.declared.recorder.Stage.TheVariants as stage
+use Rattle.sv8_notes.specs.WordRuns.{words_of_run}
 use Rattle.sv8_notes.specs.Steps.{Steps, Gains}
+
+-- the notes with the words of a run among those that steps fetch
+abbrev pub with_run : Steps → WordRun → Steps
+with_run s run = record s { fetches = s.fetches ++ words_of_run run }
 
 -- ---- a step under way
 
@@ -69,26 +75,34 @@ without_stored (rare ts) s = s
 abbrev pub with_rare : Recording → Touch → Recording
 with_rare r t = record { notes = without_stored r.shape r.notes; offset = r.offset; asked = None; shape = rare (so_far r.shape r.asked ++ t ∷ []) }
 
--- one more of what it touches, where it is known to be none of them
-abbrev pub with_more : List Touch → Recording → Touch → Recording
-with_more ts r t = record r { shape = rare (ts ++ t ∷ []) }
-
 abbrev pub word_at : ℕ → ℕ → List WordNote
 word_at address offset = record { address = address; offset = offset } ∷ []
 
+-- a word that it reads first
+abbrev pub with_fetch : Recording → ℕ → Recording
+with_fetch r a = record r { notes = record r.notes { fetches = r.notes.fetches ++ word_at a r.offset }; shape = fetched a }
+
+-- a word that it reads behind others
+abbrev pub with_load : Shape → Recording → ℕ → Recording
+with_load (fetched f) r a = record r { notes = record r.notes { reads = r.notes.reads ++ word_at a r.offset }; shape = loaded f a }
+with_load nothing r a = with_rare r (Read a)
+with_load (loaded f b) r a = with_rare r (Read a)
+with_load (stored f b) r a = with_rare r (Read a)
+with_load (rare ts) r a = with_rare r (Read a)
+
 abbrev pub with_read : Shape → Recording → ℕ → Recording
-with_read nothing r a = record r { notes = record r.notes { fetches = r.notes.fetches ++ word_at a r.offset }; shape = fetched a }
-with_read (fetched f) r a = record r { notes = record r.notes { reads = r.notes.reads ++ word_at a r.offset }; shape = loaded f a }
-with_read (loaded f b) r a = with_rare r (Read a)
-with_read (stored f b) r a = with_rare r (Read a)
-with_read (rare ts) r a = with_more ts r (Read a)
+with_read nothing r a = with_fetch r a
+with_read (fetched f) r a = with_load (fetched f) r a
+with_read (loaded f b) r a = with_load (loaded f b) r a
+with_read (stored f b) r a = with_load (stored f b) r a
+with_read (rare ts) r a = with_load (rare ts) r a
 
 abbrev pub with_write : Shape → Recording → ℕ → Recording
 with_write (fetched f) r a = if f == a then with_rare r (Write a) else record r { notes = record r.notes { writes = r.notes.writes ++ word_at a r.offset }; shape = stored f a }
 with_write nothing r a = with_rare r (Write a)
 with_write (loaded f b) r a = with_rare r (Write a)
 with_write (stored f b) r a = with_rare r (Write a)
-with_write (rare ts) r a = with_more ts r (Write a)
+with_write (rare ts) r a = with_rare r (Write a)
 
 abbrev pub with_levels : Shape → Option ℕ → Recording → ℕ → Recording
 with_levels nothing None r word = record r { asked = Some word }
@@ -96,21 +110,14 @@ with_levels nothing (Some other) r word = with_rare r (Levels word)
 with_levels (fetched f) asked r word = with_rare r (Levels word)
 with_levels (loaded f a) asked r word = with_rare r (Levels word)
 with_levels (stored f a) asked r word = with_rare r (Levels word)
-with_levels (rare ts) asked r word = with_more ts r (Levels word)
-
-abbrev pub with_other : Shape → Recording → Touch → Recording
-with_other nothing r t = with_rare r t
-with_other (fetched f) r t = with_rare r t
-with_other (loaded f a) r t = with_rare r t
-with_other (stored f a) r t = with_rare r t
-with_other (rare ts) r t = with_more ts r t
+with_levels (rare ts) asked r word = with_rare r (Levels word)
 
 abbrev pub with_touch : Recording → Touch → Recording
 with_touch r (Read a) = with_read r.shape r a
 with_touch r (Write a) = with_write r.shape r a
 with_touch r (Levels word) = with_levels r.shape r.asked r word
-with_touch r Input = with_other r.shape r Input
-with_touch r Expiry = with_other r.shape r Expiry
+with_touch r Input = with_rare r Input
+with_touch r Expiry = with_rare r Expiry
 
 abbrev pub with_touches : Recording → List Touch → Recording
 with_touches r [] = r

@@ -7,6 +7,7 @@ mod cell;
 mod column;
 mod flags;
 mod kept;
+pub mod laws;
 mod level_run;
 mod mark_words;
 mod marks;

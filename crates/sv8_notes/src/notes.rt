@@ -3,14 +3,15 @@
 ghost use Rattle.std.specs.Prelude.{◌≡◌, ℕ, ◌+◌, ◌<◌, ◌≤◌, ◌==◌, ◌&&◌, ◌||◌, ◌++◌, ◌∷◌, [], true, false, IfOk, OnOk};
 ghost use Rattle.std.specs.List.{list_any};
 ghost use Rattle.sv8_model.specs.Words.{bit};
+ghost use Rattle.sv8_touches.specs.Told.{told};
 ghost use Rattle.sv8_notes.specs.Cells.{cell_of};
 ghost use Rattle.sv8_notes.specs.Flags.{IsFlagged};
 ghost use Rattle.sv8_notes.specs.Marks.{mark_of, IsUntouched};
 ghost use Rattle.sv8_notes.specs.Steps.{Gains, IsFirstBelow, footprint_in, is_asked_in, is_word_of, has_word, no_steps};
 ghost use Rattle.sv8_notes.specs.Sought.{is_met, sought_word};
 ghost use Rattle.sv8_notes.specs.Touching.{is_from_to, is_note_in, are_notes_in, touches_any};
-ghost use Rattle.sv8_notes.specs.WordRuns.{words_of};
-ghost use Rattle.sv8_notes.specs.Recording.{without_last, word_at};
+ghost use Rattle.sv8_notes.specs.WordRuns.{words_of, words_of_run};
+ghost use Rattle.sv8_notes.specs.Recording.{with_run, without_last, word_at};
 
 use crate::cell::Cell;
 use crate::flags::flag_step;
@@ -20,10 +21,11 @@ use crate::marks::Marks;
 use crate::offsets::{first_among, lesser, within};
 use crate::step_notes::TIMER_LEVEL;
 use crate::word_run::WordRun;
-use crate::word_runs::{are_in_runs, extend_last, first_of_runs, flag_runs};
+use crate::word_runs::{are_in_runs, first_of_runs, flag_runs};
 use std::alloc::{AllocError, Global};
 use std::marker::Model;
 use sv8_phys::{Touch, TouchKind};
+use sv8_touches::{is_told, levels_of};
 
 /// A word of RAM that a step reads, or writes. Steps are named by their offset, the number of steps since the checkpoint.
 #[derive(Clone, Copy)]
@@ -85,7 +87,7 @@ impl Drop for Notes {
 
 impl Model for Notes {
     ghost use Rattle.sv8_notes.specs.Steps.{Steps};
-    ghost use Rattle.sv8_notes.specs.WordRuns.{words_of};
+    ghost use Rattle.sv8_notes.specs.WordRuns.{words_of, words_of_run};
 
     ghost Value = { Steps };
 
@@ -171,14 +173,48 @@ fn are_in(notes: &[WordNote], low: u32, last: u32, from: u32, end: u32) -> bool
     false
 }
 
+/// Puts an item behind others where there is no room for it.
+#[cold]
+#[inline(never)]
+fn push_growing<T: Copy>(items: &mut Vec<T>, item: T) -> Result<(), AllocError>
+    ensures { OnOk result (items.new.items ≡ items.old.items ++ item ∷ []) }
+{
+    items.push(item)?;
+    Ok(())
+}
+
+/// Puts an item behind others. What a growth needs of the stack stays out of the way where there is room.
+#[inline(always)]
+fn push<T: Copy>(items: &mut Vec<T>, item: T) -> Result<(), AllocError>
+    ensures { OnOk result (items.new.items ≡ items.old.items ++ item ∷ []) }
+{
+    if items.len() == items.capacity() {
+        return push_growing(items, item);
+    }
+    items.push_reserved(item);
+    Ok(())
+}
+
 /// Takes a note of a word.
 #[inline(always)]
 fn note_word(notes: &mut Vec<WordNote>, address: u32, offset: u32) -> Result<(), AllocError>
     ensures { OnOk result (notes.new.items ≡ notes.old.items ++ record { address = address; offset = offset } ∷ []) }
 {
-    notes.reserve(1)?;
-    notes.push_reserved(WordNote { address, offset });
-    Ok(())
+    push(notes, WordNote { address, offset })
+}
+
+/// The same runs once more and another behind them, in no more memory than they need.
+fn runs_with(runs: &Vec<WordRun>, run: WordRun) -> Result<Vec<WordRun>, AllocError>
+    ensures { IfOk result (λ all. words_of all.items ≡ words_of runs.now.items ++ words_of_run run) }
+{
+    if run.count() == 0 {
+        let all = runs.clone()?;
+        return Ok(all);
+    }
+    let mut all = Vec::with_capacity(*runs.allocator(), runs.len() + 1)?;
+    all.extend_from_slice(runs)?;
+    all.push(run)?;
+    Ok(all)
 }
 
 impl Notes {
@@ -208,16 +244,17 @@ impl Notes {
         self.expiries.clear();
     }
 
-    /// The same notes once more, in no more memory than they need.
+    /// The same notes once more and those of a run behind them, in no more memory than they need.
     ///
     /// # Errors
     ///
     /// `AllocError` where that memory cannot be had.
-    pub fn copy(&self) -> Result<Notes, AllocError>
-        ensures { IfOk result (λ n. n ≡ self.now) }
+    pub(crate) fn copy_with(&self, run: WordRun) -> Result<Notes, AllocError>
+        ensures { IfOk result (λ n. n ≡ with_run self.now run) }
     {
+        let fetches = runs_with(&self.fetches, run)?;
         Ok(Notes {
-            fetches: self.fetches.clone()?,
+            fetches,
             reads: self.reads.clone()?,
             writes: self.writes.clone()?,
             levels: self.levels.clone()?,
@@ -262,17 +299,15 @@ impl Notes {
         Ok(())
     }
 
-    /// Takes a note of a word that is fetched.
+    /// Takes notes of words that are fetched.
     #[inline(always)]
-    pub(crate) fn note_fetch(&mut self, address: u32, offset: u32) -> Result<(), AllocError>
-        requires { offset < 1000000 }
-        ensures { OnOk result (self.new ≡ record self.old { fetches = self.old.fetches ++ word_at address offset }) }
+    pub(crate) fn note_run(&mut self, run: WordRun) -> Result<(), AllocError>
+        ensures { OnOk result (self.new ≡ with_run self.old run) }
     {
-        if extend_last(&mut self.fetches, address, offset) {
+        if run.count() == 0 {
             return Ok(());
         }
-        self.fetches.reserve(1)?;
-        self.fetches.push_reserved(WordRun::new(address, offset));
+        push(&mut self.fetches, run)?;
         Ok(())
     }
 
@@ -300,18 +335,21 @@ impl Notes {
         self.writes.truncate(count.saturating_sub(1));
     }
 
-    /// Takes notes of what a step touches, of all as data.
-    ///
-    /// # Errors
-    ///
-    /// `AllocError` where memory for them cannot be had; some are then taken.
-    #[inline(always)]
-    pub fn note_step(&mut self, touches: &[Touch], offset: u32) -> Result<(), AllocError>
+    /// Takes notes of what is told of a step, as data, from the list of all that it touched.
+    #[inline(never)]
+    pub(crate) fn note_told(&mut self, touches: &[Touch], offset: u32) -> Result<(), AllocError>
         requires { offset < 1000000 }
-        ensures { OnOk result (Gains offset touches.now touches.now self.old self.new) }
+        ensures { OnOk result (Gains offset (told touches.now) (told touches.now) self.old self.new) }
     {
+        let mut levels = 0;
         for touch in touches {
-            self.note(*touch, offset)?;
+            levels |= levels_of(*touch);
+            if is_told(touches, *touch) {
+                self.note(*touch, offset)?;
+            }
+        }
+        if levels != 0 {
+            self.note_levels(levels, offset)?;
         }
         Ok(())
     }

@@ -1,18 +1,19 @@
 //! The notes of the interval under way, taken as its steps are made.
 
-ghost use Rattle.std.specs.Prelude.{◌≡◌, ℕ, ◌<◌, List, IfOk, OnOk};
+ghost use Rattle.std.specs.Prelude.{◌≡◌, ℕ, ◌<◌, ◌++◌, List, IfOk, OnOk};
 ghost use Rattle.sv8_model.specs.declared.touch.Touch.{Touch};
 ghost use Rattle.sv8_model.specs.Footprint.{data_touches};
 ghost use Rattle.sv8_touches.specs.Told.{told};
 ghost use Rattle.sv8_notes.specs.Steps.{Gains, no_steps};
-ghost use Rattle.sv8_notes.specs.Recording.{HasAsked, HasEnded, asked_first, begun, is_levels, is_short, shape_of, so_far, with_levels, with_other, with_rare, with_read, with_touches, with_write, without_stored};
+ghost use Rattle.sv8_notes.specs.Recording.{HasAsked, HasEnded, asked_first, begun, is_levels, is_short, shape_of, so_far, word_at, with_fetch, with_levels, with_load, with_rare, with_read, with_touches, with_write, with_run, without_stored};
 
 use crate::notes::Notes;
+use crate::word_run::WordRun;
 use std::alloc::{AllocError, Global};
 use std::marker::Model;
 use sv8_model::{Observation, Touches};
 use sv8_phys::Touch;
-use sv8_touches::{StepTouches, tell_all};
+use sv8_touches::StepTouches;
 
 /// What the step under way has touched so far, behind the interrupt levels that it may have asked first.
 #[derive(Clone, Copy)]
@@ -31,7 +32,10 @@ pub(crate) enum Stage {
 /// Takes the notes of steps, one after the other, straight into those of their interval. What a step fetches, loads or
 /// stores stands there at once; what a rarer step touches waits in a list for the end of the step.
 pub struct Recorder {
+    /// All of them, but for those of the run under way.
     notes: Notes,
+    /// The words that were fetched one behind the other, up to the last one.
+    run: WordRun,
     /// The number of steps between the checkpoint and the step under way.
     offset: u32,
     /// The levels that it asked first, which are noted at its end.
@@ -42,8 +46,6 @@ pub struct Recorder {
     second: u32,
     /// All that it touched, where it is a rare one.
     list: StepTouches,
-    /// A place for what is told of the list.
-    told: StepTouches,
     ghost few: { offset < 1000000 },
 }
 
@@ -52,23 +54,23 @@ impl Drop for Recorder {
     fn drop(self) {
         let Recorder {
             notes: _,
+            run: _,
             offset: _,
             asked: _,
             stage: _,
             first: _,
             second: _,
             list: _,
-            told: _,
         } = self;
     }
 }
 
 impl Model for Recorder {
-    ghost use Rattle.sv8_notes.specs.Recording.{Recording, shape_of};
+    ghost use Rattle.sv8_notes.specs.Recording.{Recording, shape_of, with_run};
 
     ghost Value = { Recording };
 
-    ghost view = { λ r. record { notes = r.notes; offset = r.offset; asked = r.asked; shape = shape_of r.stage r.first r.second r.list } };
+    ghost view = { λ r. record { notes = with_run r.notes r.run; offset = r.offset; asked = r.asked; shape = shape_of r.stage r.first r.second r.list } };
 }
 
 impl Touches for Recorder {
@@ -89,8 +91,8 @@ impl Touches for Recorder {
             Touch::Read(address) => self.read(address),
             Touch::Write(address) => self.write(address),
             Touch::Levels(levels) => self.ask(levels),
-            Touch::Input => self.note_other(Touch::Input),
-            Touch::Expiry => self.note_other(Touch::Expiry),
+            Touch::Input => self.note_rare(Touch::Input),
+            Touch::Expiry => self.note_rare(Touch::Expiry),
         }
     }
 
@@ -135,22 +137,6 @@ fn may_be_frequent(touches: &[Touch]) -> bool
         [first, _, _] => asks_levels(*first),
         _ => false,
     }
-}
-
-/// Notes what is told of a list, as data. `room` is a place for it.
-#[inline(never)]
-fn note_list(
-    notes: &mut Notes,
-    touches: &[Touch],
-    room: &mut StepTouches,
-    offset: u32,
-) -> Result<(), AllocError>
-    requires { offset < 1000000 }
-    ensures { OnOk result (Gains offset (told touches.now) (told touches.now) notes.old notes.new) }
-{
-    room.clear();
-    tell_all(touches, room)?;
-    notes.note_step(room.touches(), offset)
 }
 
 /// Makes a list of what a step has touched so far, unless it is one already.
@@ -211,13 +197,13 @@ impl Recorder {
     {
         Recorder {
             notes: Notes::new(alloc),
+            run: WordRun::empty(),
             offset: 0,
             asked: None,
             stage: Stage::Nothing,
             first: 0,
             second: 0,
             list: StepTouches::new(alloc),
-            told: StepTouches::new(alloc),
         }
     }
 
@@ -226,6 +212,7 @@ impl Recorder {
         ensures { self.new ≡ record self.old { notes = no_steps } }
     {
         self.notes.clear();
+        self.run = WordRun::empty();
     }
 
     /// The notes once more, in no more memory than they need.
@@ -236,7 +223,7 @@ impl Recorder {
     pub fn copy_notes(&self) -> Result<Notes, AllocError>
         ensures { IfOk result (λ notes. notes ≡ self.now.notes) }
     {
-        self.notes.copy()
+        self.notes.copy_with(self.run)
     }
 
     /// A step begins, the one with this offset.
@@ -261,14 +248,7 @@ impl Recorder {
         ensures { OnOk result (HasEnded self.old.shape self.old.asked self.old.offset self.old.notes self.new.notes) }
     {
         match self.stage {
-            Stage::Rare => {
-                note_list(
-                    &mut self.notes,
-                    self.list.touches(),
-                    &mut self.told,
-                    self.offset,
-                )
-            }
+            Stage::Rare => { self.notes.note_told(self.list.touches(), self.offset) }
             Stage::Nothing | Stage::Fetched | Stage::Loaded | Stage::Stored => {
                 note_asked(&mut self.notes, self.asked, self.offset)
             }
@@ -286,7 +266,7 @@ impl Recorder {
         ensures { OnOk result (Gains offset (told touches.now) (data_touches touches.now) self.old.notes self.new.notes) }
     {
         if !may_be_frequent(touches) {
-            note_list(&mut self.notes, touches, &mut self.told, offset)?;
+            self.notes.note_told(touches, offset)?;
             return Ok(());
         }
         self.begin(offset);
@@ -307,24 +287,53 @@ impl Recorder {
         Ok(())
     }
 
+    /// A word is fetched: it is the next one of the run, or another run begins.
+    #[inline(always)]
+    fn fetch(&mut self, address: u32) -> Result<(), AllocError>
+        ensures { OnOk result (self.new ≡ with_fetch self.old address) }
+    {
+        self.stage = Stage::Fetched;
+        self.first = address;
+        if self.run.extend(address, self.offset) {
+            return Ok(());
+        }
+        self.begin_run(address)?;
+        Ok(())
+    }
+
+    /// Another run of words begins.
+    #[inline(never)]
+    fn begin_run(&mut self, address: u32) -> Result<(), AllocError>
+        ensures { OnOk result (self.new ≡ record self.old { notes = record self.old.notes { fetches = self.old.notes.fetches ++ word_at address self.old.offset } }) }
+    {
+        let ended = self.run;
+        self.run = WordRun::new(address, self.offset);
+        self.notes.note_run(ended)
+    }
+
     /// A word is read.
     #[inline(always)]
     fn read(&mut self, address: u32) -> Result<(), AllocError>
         ensures { OnOk result (self.new ≡ with_read self.old.shape self.old address) }
     {
         match self.stage {
-            Stage::Nothing => {
-                self.stage = Stage::Fetched;
-                self.first = address;
-                self.notes.note_fetch(address, self.offset)
-            }
+            Stage::Nothing => self.fetch(address),
+            _ => self.load(address),
+        }
+    }
+
+    /// A word is read, behind others.
+    #[inline(never)]
+    fn load(&mut self, address: u32) -> Result<(), AllocError>
+        ensures { OnOk result (self.new ≡ with_load self.old.shape self.old address) }
+    {
+        match self.stage {
             Stage::Fetched => {
                 self.stage = Stage::Loaded;
                 self.second = address;
                 self.notes.note_read(address, self.offset)
             }
-            Stage::Loaded | Stage::Stored => self.read_rarely(address),
-            Stage::Rare => self.list.note(Touch::Read(address)),
+            _ => self.read_rarely(address),
         }
     }
 
@@ -342,8 +351,7 @@ impl Recorder {
                 self.second = address;
                 self.notes.note_write(address, self.offset)
             }
-            Stage::Nothing | Stage::Loaded | Stage::Stored => self.write_rarely(address),
-            Stage::Rare => self.list.note(Touch::Write(address)),
+            _ => self.write_rarely(address),
         }
     }
 
@@ -352,28 +360,12 @@ impl Recorder {
     fn ask(&mut self, levels: u16) -> Result<(), AllocError>
         ensures { OnOk result (self.new ≡ with_levels self.old.shape self.old.asked self.old levels) }
     {
-        match self.stage {
-            Stage::Nothing => match self.asked {
-                None => {
-                    self.asked = Some(levels);
-                    Ok(())
-                }
-                Some(_) => self.ask_rarely(levels),
-            },
-            Stage::Fetched | Stage::Loaded | Stage::Stored => self.ask_rarely(levels),
-            Stage::Rare => self.list.note(Touch::Levels(levels)),
-        }
-    }
-
-    /// Something else is touched, which no frequent step does.
-    fn note_other(&mut self, touch: Touch) -> Result<(), AllocError>
-        ensures { OnOk result (self.new ≡ with_other self.old.shape self.old touch) }
-    {
-        match self.stage {
-            Stage::Nothing | Stage::Fetched | Stage::Loaded | Stage::Stored => self.note_rare(
-                touch,
-            ),
-            Stage::Rare => self.list.note(touch),
+        match (self.stage, self.asked) {
+            (Stage::Nothing, None) => {
+                self.asked = Some(levels);
+                Ok(())
+            }
+            _ => self.ask_rarely(levels),
         }
     }
 

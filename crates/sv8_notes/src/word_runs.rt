@@ -1,6 +1,6 @@
 //! Lists of runs of words.
 
-ghost use Rattle.std.specs.Prelude.{◌≡◌, ◌+◌, ◌<◌, ◌++◌, ◌∷◌, [], MatchBool};
+ghost use Rattle.std.specs.Prelude.{◌≡◌, ◌+◌};
 ghost use Rattle.sv8_notes.specs.Flags.{IsFlagged};
 ghost use Rattle.sv8_notes.specs.Steps.{IsFirstBelow, has_word};
 ghost use Rattle.sv8_notes.specs.Touching.{are_notes_in};
@@ -8,19 +8,6 @@ ghost use Rattle.sv8_notes.specs.WordRuns.{words_of};
 
 use crate::offsets::lesser;
 use crate::word_run::WordRun;
-
-/// Takes a word more into the last run, if it is the next one. Tells whether it was taken.
-#[inline(always)]
-pub(crate) fn extend_last(runs: &mut Vec<WordRun>, address: u32, offset: u32) -> bool
-    requires { offset < 1000000 }
-    ensures { MatchBool result (words_of runs.new.items ≡ words_of runs.old.items ++ record { address = address; offset = offset } ∷ []) (runs.new.items ≡ runs.old.items) }
-{
-    let count = runs.len();
-    if count == 0 {
-        return false;
-    }
-    runs[count - 1].extend(address, offset)
-}
 
 /// The first step from one offset on and below another that reads a word of some runs.
 pub(crate) fn first_of_runs(runs: &[WordRun], address: u32, from: u32, end: u32) -> Option<u32>

@@ -1,5 +1,5 @@
 //! Tests of the parts of a machine: instruction words, registers, arithmetic, the choice among traps, timelines,
-//! physical memory and translation. They stand here, and not in the crates that they test, as each crate with tests is proved twice.
+//! physical memory, translation and what is recorded of steps. They stand here, and not in the crates that they test, as each crate with tests is proved twice.
 #![tactic(auto)]
 
 #[cfg(test)]
@@ -8,6 +8,8 @@ mod arithmetic;
 mod instructions;
 #[cfg(test)]
 mod memory;
+#[cfg(test)]
+mod recorder;
 #[cfg(test)]
 mod registers;
 #[cfg(test)]

@@ -8,7 +8,6 @@ use std::alloc::{AllocError, Global};
 use std::test::Fail;
 use sv8_phys::*;
 use sv8_time::Timeline;
-use sv8_touches::{StepTouches, tell_all};
 
 /// A memory of two pages.
 fn blank(alloc: Global) -> Result<Phys<2>, Fail> {
@@ -46,13 +45,6 @@ fn exchange(memory: &mut Phys<2>) -> Result<bool, Fail> {
     page.set_word(0x20, 5)?;
     memory.put_page(0x1000, page)?;
     Ok(memory.word(0x1020) == 5 && memory.word(0x20) == 0)
-}
-
-/// Asks the levels as a step does, whose notes are told.
-fn ask(memory: &Phys<2>, notes: &mut StepTouches, told: &mut Told) -> Result<bool, Fail> {
-    memory.pending_among(0xfffe, notes)?;
-    tell_all(notes.touches(), told)?;
-    Ok(told.notes.len() == 1)
 }
 
 #[test]
@@ -138,13 +130,13 @@ fn pieces_are_the_output(rt: HostRuntime) -> Result<(), Fail> {
 }
 
 #[test]
-fn notes_are_told(rt: HostRuntime) -> Result<(), Fail> {
+fn levels_are_asked_at_once(rt: HostRuntime) -> Result<(), Fail> {
     let memory = blank(rt.alloc())?;
-    let mut notes = StepTouches::new(rt.alloc());
     let mut told = Told {
         notes: Vec::new(rt.alloc()),
     };
-    assert!(rt; ask(&memory, &mut notes, &mut told)?);
+    memory.pending_among(0xfffe, &mut told)?;
+    assert!(rt; told.notes.as_slice() == [Touch::Levels(0xfffe)].as_slice());
     Ok(())
 }
 

@@ -6,5 +6,5 @@ pub mod laws;
 mod step_touches;
 mod watch;
 
-pub use step_touches::{StepTouches, tell_all};
+pub use step_touches::{StepTouches, is_told, levels_of};
 pub use watch::Watch;

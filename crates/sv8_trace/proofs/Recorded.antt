@@ -17,7 +17,8 @@ use Rattle.sv8_cpu.specs.State.{State}
 use Rattle.sv8_cpu.specs.Run.{step, footprint}
 use Rattle.sv8_cpu.specs.Recorded.{event_at, poke_of, get}
 use Rattle.sv8_trace.specs.declared.interval.Interval.{Interval}
-use Rattle.sv8_trace.specs.Signs.{no_signs, with_step}
+use Rattle.sv8_mmu.specs.Registers.{translates}
+use Rattle.sv8_trace.specs.Signs.{Signs, no_signs, with_end, with_step}
 use Rattle.sv8_trace.specs.Recorder.{steps_on, footprint_on, touches_on, IsRecorded, HasOneMore}
 
 -- no steps are recorded
@@ -155,3 +156,15 @@ pub one_more : (windows pages : ℕ) (schedule : Schedule) (n : ℕ) (first s ne
 one_more windows pages schedule n first s next j old new is stepped recorded more =
     let m = rw (stepped, is) at more in
     rw (add-one, stepped, is) (refl, recorded_more windows pages schedule n first j old new recorded m)
+
+-- ---- a step of a machine that runs, with no address translated
+
+alone : (b : Bool) → (b || false) ≡ b
+alone true = refl
+alone false = refl
+
+pub ends_untranslated : (s : Signs) (j : ℕ) (before after : State) → before.processor.running ≡ true → translates before.mmu ≡ false → with_end s j true after.processor ≡ with_step s j before after
+ends_untranslated s j before after ran off =
+    sym (ap (λ b. with_end (record s { translation = s.translation || b }) j before.processor.running after.processor) off
+    ∙ ap (λ b. with_end (record s { translation = b }) j before.processor.running after.processor) (alone s.translation)
+    ∙ ap (λ b. with_end s j b after.processor) ran)

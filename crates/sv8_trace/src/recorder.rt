@@ -221,18 +221,21 @@ fn record_quiet_step<const NW: usize, const PAGES: usize>(
     ensures recorded { OnOk result (HasOneMore NW PAGES timeline.now n offset machine.old machine.new (so_far interval.old) (so_far interval.new)) }
     ensures nothing_kept { interval.new.kept ≡ [] }
 {
-    let ran = machine.is_running();
-    interval.signs.note_before(machine);
     interval.recorder.begin(offset);
+    if !machine.is_running() || machine.mmu().translates() {
+        record_listed_step(machine, timeline, n, offset, interval)?;
+        return Ok(());
+    }
     machine.watch_quiet(n, timeline, &mut interval.recorder)?;
     interval.recorder.end()?;
-    interval.signs.note_after(offset, ran, machine)?;
+    interval.signs.note_after(offset, true, machine)?;
     Ok(())
 }
 
-/// The same where addresses are translated. A step then touches the entries of its walks too, and most go through the list.
+/// The same where addresses are translated, or the machine is in error mode. Where they are translated a step touches the
+/// entries of its walks too, and most go through the list.
 #[inline(never)]
-fn record_translated_step<const NW: usize, const PAGES: usize>(
+fn record_listed_step<const NW: usize, const PAGES: usize>(
     machine: &mut Machine<NW, PAGES>,
     timeline: &Timeline,
     n: u32,
@@ -285,8 +288,6 @@ fn record_step<const NW: usize, const PAGES: usize>(
 {
     if !quiet {
         record_eventful_step(machine, timeline, n, offset, interval)?;
-    } else if machine.mmu().translates() {
-        record_translated_step(machine, timeline, n, offset, interval)?;
     } else {
         record_quiet_step(machine, timeline, n, offset, interval)?;
     }
@@ -340,6 +341,8 @@ pub fn record_watched<const NW: usize, const PAGES: usize>(
 ///
 /// `AllocError` where memory for a step or its notes cannot be had. The machine is given up with it; `work` counts the steps that
 /// were made.
+// A function of its own, so that its loop has all registers.
+#[inline(never)]
 pub(crate) fn record<const NW: usize, const PAGES: usize>(
     machine: Machine<NW, PAGES>,
     timeline: &Timeline,

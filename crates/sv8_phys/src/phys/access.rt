@@ -90,7 +90,7 @@ impl<const PAGES: usize> Phys<PAGES> {
     ///
     /// `AllocError` where memory for a page that is shared, for the output or for a note cannot be had; memory and devices
     /// are then as they were. `BusError`, as an answer, as for `read`.
-    #[inline]
+    #[inline(always)]
     pub fn write_noted<T: Touches>(
         &mut self,
         pa: u64,

@@ -5,7 +5,7 @@ use Rattle.sv8_notes.specs.Touched.{is_touched}
 use Rattle.sv8_cpu.specs.Run.{footprint}
 use Rattle.sv8_cpu.specs.Recorded.{event_at}
 use Rattle.sv8_trace.proofs.Below.{nothing_below}
-use Rattle.sv8_trace.proofs.recorder.record_translated_step.Goals as goal
+use Rattle.sv8_trace.proofs.recorder.record_listed_step.Goals as goal
 
 pub returns-clause-recorded : goal.returns-clause-recorded
 returns-clause-recorded g c =
