@@ -1,4 +1,4 @@
-use Rattle.std.proofs.Common.{rules, ap, sym, ◌∙◌, ◌≡◌, true, false}
+use Rattle.std.proofs.Common.{rules, ap, ◌∙◌, ◌≡◌, true, false}
 use Rattle.sv8_touches.specs.Told.{told}
 use Rattle.sv8_notes.specs.Recording.{with_touches}
 use Rattle.sv8_notes.specs.Touched.{is_touched}
@@ -14,7 +14,7 @@ pub returns-clause-recorded : goal.returns-clause-recorded
 returns-clause-recorded g c =
     let touched = footprint g.row.NW g.row.PAGES c.args.timeline.now c.args.n c.args.machine.now in
     let quiet = c.requires.quiet in
-    let ran : c.args.machine.now.processor.running ≡ true = sym c.is_running.ensures ∙ c.if-not-is_running.false in
+    let ran : c.args.machine.now.processor.running ≡ true = search rules in
     let off : translates c.args.machine.now.mmu ≡ false = search rules in
     record {
       gained =
