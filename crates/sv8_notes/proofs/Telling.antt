@@ -1,9 +1,10 @@
 -- What is told of a step, noted touch by touch.
-use Rattle.std.proofs.Common.{◌≡◌, ◌≢◌, refl, sym, ap, ◌∙◌, subst, ℕ, ◌+◌, ◌<◌, ◌≤◌, Bool, true, false, cond, List, [], ◌∷◌, ◌++◌, length, drop, take, get_or, bit_or, ne_eqb}
+use Rattle.std.proofs.Common.{◌≡◌, ◌≢◌, sym, ap, ◌∙◌, subst, ℕ, ◌+◌, ◌<◌, ◌≤◌, Bool, true, false, cond, List, [], ◌∷◌, ◌++◌, length, drop, take, get_or, bit_or, ne_eqb}
 use Rattle.std.specs.List.{filter}
 use Rattle.std.specs.Int.Bits.{or_zero_r}
 use Rattle.std.proofs.Math.ListN.{drop_of_length-le}
 use Rattle.std.proofs.lemmas.List.{append-nil, drop_more, take_more}
+use Rattle.std.proofs.lemmas.List.Elements.{filter-append}
 use Rattle.sv8_model.specs.declared.touch.Touch.{Touch}
 use Rattle.sv8_model.specs.declared.touch.Touch.TheVariants.{Levels}
 use Rattle.sv8_touches.specs.Told.{is_told, levels_of, levels_in, levels_note, told}
@@ -22,13 +23,6 @@ levels_more gathered ts i d w all h e so_far =
 -- all levels are gathered once no touch is left
 pub levels_all : (gathered : ℕ) (ts : List Touch) (i all : ℕ) → length ts ≤ i → bit_or gathered (levels_in (drop i ts)) ≡ all → gathered ≡ all
 levels_all gathered ts i all h so_far = sym (ap (λ l. bit_or gathered (levels_in l)) (drop_of_length-le ts {i = i} h) ∙ or_zero_r gathered) ∙ so_far
-
-filter-append : (p : Touch → Bool) (xs ys : List Touch) → filter p (xs ++ ys) ≡ filter p xs ++ filter p ys
-filter-append p [] ys = refl
-filter-append p (x ∷ xs) ys = elim (p x) as (λ b. cond b (x ∷ filter p (xs ++ ys)) (filter p (xs ++ ys)) ≡ cond b (x ∷ filter p xs) (filter p xs) ++ filter p ys) [
-  | true ↦ ap (λ l. x ∷ l) (filter-append p xs ys)
-  | false ↦ filter-append p xs ys
-]
 
 filter_more : (p : Touch → Bool) (ts : List Touch) (i : ℕ) (d : Touch) → i < length ts → filter p (take (i + 1) ts) ≡ filter p (take i ts) ++ filter p (get_or ts i d ∷ [])
 filter_more p ts i d h = ap (filter p) (take_more ts i d h) ∙ filter-append p (take i ts) (get_or ts i d ∷ [])
